@@ -1,0 +1,9 @@
+pub mod CellTable
+pub mod Joined
+pub mod Kept
+pub mod LeafLaws
+pub mod RangeLaws
+pub mod Rings
+pub mod Steps
+pub mod StepWords
+pub mod Whole

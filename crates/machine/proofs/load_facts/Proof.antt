@@ -1,0 +1,29 @@
+use mathlib.Core.Path.{refl}
+use mir.Syntax.{w32}
+use mir.ValLaws.{toZ-ofZ}
+use borrow.Author.Needs.{needs}
+use Rattle.machine.specs.Parts.{loadFacts}
+use Rattle.machine.proofs.load_facts.Statement.{statement}
+use Rattle.machine.proofs.load_facts.Tie as tie
+use Rattle.machine.proofs.load_facts.Reads as reads
+use Rattle.machine.proofs.load_facts.Lts as lts
+use Rattle.machine.proofs.none_broken.Reads as none-broken-reads
+use Rattle.machine.proofs.same_slot.Reads as same-slot-reads
+
+same-slot-requires : tie.Need-same-slot-requires
+same-slot-requires c κs = search needs
+
+none-broken-requires : tie.Need-none-broken-requires
+none-broken-requires c κs = search needs
+
+returns : tie.Need-returns
+unfolding loadFacts
+returns c =
+    rw (
+      c .before .before .before .before .none-broken .ensures,
+      c .before .before .before .before .before .same-slot .ensures,
+      toZ-ofZ w32 _ (c .before .before .before .before .before .before .before .before .fits .x),
+    ) refl
+
+pub load-facts-spec : {M : Type 1} → statement M
+load-facts-spec = tie.close (tie.spec same-slot-requires none-broken-requires returns)

@@ -1,0 +1,213 @@
+-- Laws of the verdict: what an accepted event does not break.
+use Prim.Native.Nat.{ℕ, zero, suc, _≤_, _<_}
+use native.Mathlib.Omega.{arith}
+use native.Mathlib.Nat.{suc-ne-zero, not-suc-le-zero}
+use borrow.Author.Tests.{eqb-true, eqb-false}
+use mathlib.Core.Path.{_≡_, refl, sym, ap, _∙_, subst}
+use mathlib.Core.Bool.{Bool, true, false, not, cond, _&&_, _||_, or-false}
+use mathlib.Core.List.{List, [], _∷_, _++_}
+use lib.Dec.{T, eqb, ltb, leb, eqb→eq}
+use lib.ListN.{length, drop}
+use Rattle.rules.specs.declared.Event.{Event}
+use Rattle.rules.specs.Events.{A, B, K, L, N, P, R, S, U, W, letter, place, value, among, is, of, on}
+use Rattle.rules.specs.declared.Slot.{Slot}
+use Rattle.rules.specs.declared.Counts.{Counts}
+use Rattle.rules.specs.Limits.{Limits, most, declared}
+use Rattle.rules.specs.Words.{by}
+use Rattle.rules.specs.Rules.{Words, wordsOf, none?, loc, held, some, noPartner, lockTaken, notHeld, eightAlready, breaks, rows, rowIn, firstBroken, judge, answer, verdict, Accepted}
+
+-- ---- Booleans
+
+pub is-true : {b : Bool} → T b → b ≡ true
+is-true {b = true} h = refl
+is-true {b = false} h = absurd h
+
+pub and-left : (a b : Bool) → T (a && b) → T a
+and-left true b h = tt
+and-left false b h = h
+
+pub and-right : (a b : Bool) → T (a && b) → T b
+and-right true b h = h
+and-right false b h = absurd h
+
+pub or-false-left : (a b : Bool) → (a || b) ≡ false → a ≡ false
+or-false-left true b h = h
+or-false-left false b h = refl
+
+pub or-false-right : (a b : Bool) → (a || b) ≡ false → b ≡ false
+or-false-right true b h = absurd (subst T h tt)
+or-false-right false b h = h
+
+-- ---- the rows
+
+-- none of these rules is broken
+abbrev pub Unbroken : List ℕ → Counts → Words → Event → Type 0
+Unbroken [] c w e = Unit {0}
+Unbroken (n ∷ ns) c w e = (breaks n c w e ≡ false) × Unbroken ns c w e
+
+peel : (b : Bool) (n m : ℕ) → cond b (suc n) m ≡ 0 → (b ≡ false) × (m ≡ 0)
+peel true n m p = absurd (suc-ne-zero n p)
+peel false n m p = (refl, p)
+
+unbroken : (ns : List ℕ) (c : Counts) (w : Words) (e : Event) → firstBroken ns c w e ≡ 0 → Unbroken ns c w e
+unfolding firstBroken breaks
+unbroken [] c w e p = tt
+unbroken (zero ∷ ns) c w e p = (refl, unbroken ns c w e p)
+unbroken (suc n ∷ ns) c w e p = let q = peel (breaks (suc n) c w e) n (firstBroken ns c w e) p in (q .0, unbroken ns c w e (q .1))
+
+-- an accepted event breaks no rule of its row
+pub judged : (c : Counts) (w : Words) (e : Event) (ns : List ℕ) → rowIn rows (letter (e .kind)) ≡ ns → judge c w e ≡ 0 → Unbroken ns c w e
+unfolding judge
+judged c w e ns r p = subst (λ l. Unbroken l c w e) r (unbroken (rowIn rows (letter (e .kind))) c w e p)
+
+-- and one that breaks none is accepted
+pub accepts : (ns : List ℕ) (c : Counts) (w : Words) (e : Event) → Unbroken ns c w e → firstBroken ns c w e ≡ 0
+unfolding firstBroken
+accepts [] c w e u = refl
+accepts (n ∷ ns) c w e u = rw (u .0) (accepts ns c w e (u .1))
+
+-- ---- the letter of an event is known
+
+-- is it this one letter
+pub letter-is : (k : ℕ) (e : Event) → T (is (k ∷ []) e) → k ≡ letter (e .kind)
+unfolding is
+letter-is k e h = eqb→eq k (letter (e .kind)) (or-none (eqb k (letter (e .kind))) h)
+  where
+    or-none : (b : Bool) → T (b || false) → T b
+    or-none true h = tt
+    or-none false h = h
+
+pub load-row : (e : Event) → L ≡ letter (e .kind) → rowIn rows (letter (e .kind)) ≡ 10 ∷ 13 ∷ 15 ∷ 16 ∷ 18 ∷ []
+unfolding rowIn rows
+load-row e q = rw (← q)
+
+pub write-row : (e : Event) → W ≡ letter (e .kind) → rowIn rows (letter (e .kind)) ≡ 10 ∷ 18 ∷ []
+unfolding rowIn rows
+write-row e q = rw (← q)
+
+pub unlock-row : (e : Event) → N ≡ letter (e .kind) → rowIn rows (letter (e .kind)) ≡ 12 ∷ 15 ∷ 16 ∷ []
+unfolding rowIn rows
+unlock-row e q = rw (← q)
+
+pub use-row : (e : Event) → U ≡ letter (e .kind) → rowIn rows (letter (e .kind)) ≡ 17 ∷ 18 ∷ []
+unfolding rowIn rows
+use-row e q = rw (← q)
+
+pub assign-row : (e : Event) → A ≡ letter (e .kind) → rowIn rows (letter (e .kind)) ≡ []
+unfolding rowIn rows
+assign-row e q = rw (← q)
+
+pub store-row : (e : Event) → S ≡ letter (e .kind) → rowIn rows (letter (e .kind)) ≡ 13 ∷ 14 ∷ 17 ∷ 18 ∷ 19 ∷ []
+unfolding rowIn rows
+store-row e q = rw (← q)
+
+pub read-row : (e : Event) → R ≡ letter (e .kind) → rowIn rows (letter (e .kind)) ≡ 18 ∷ 19 ∷ []
+unfolding rowIn rows
+read-row e q = rw (← q)
+
+pub lock-row : (e : Event) → K ≡ letter (e .kind) → rowIn rows (letter (e .kind)) ≡ 11 ∷ 13 ∷ []
+unfolding rowIn rows
+lock-row e q = rw (← q)
+
+pub prescient-store-row : (e : Event) → P ≡ letter (e .kind) → rowIn rows (letter (e .kind)) ≡ 13 ∷ 19 ∷ []
+unfolding rowIn rows
+prescient-store-row e q = rw (← q)
+
+pub prescient-assign-row : (e : Event) → B ≡ letter (e .kind) → rowIn rows (letter (e .kind)) ≡ 10 ∷ 18 ∷ []
+unfolding rowIn rows
+prescient-assign-row e q = rw (← q)
+
+-- an accepted load has an outstanding read
+pub load-partner : (c : Counts) (w : Words) (e : Event) → judge c w e ≡ 0 → T (is (L ∷ []) e) → none? (w .reads (e .thread) (loc e)) ≡ false
+unfolding breaks noPartner is
+load-partner c w e p h = simp (← (letter-is L e h), or-false) at (judged c w e _ (load-row e (letter-is L e h)) p .0)
+
+-- an accepted write has an outstanding store
+pub write-partner : (c : Counts) (w : Words) (e : Event) → judge c w e ≡ 0 → T (is (W ∷ []) e) → none? (w .stores (e .thread) (loc e)) ≡ false
+unfolding breaks noPartner is
+write-partner c w e p h = simp (← (letter-is W e h), or-false) at (judged c w e _ (write-row e (letter-is W e h)) p .0)
+
+-- an accepted unlock is of a lock that is held
+pub unlock-held : (c : Counts) (w : Words) (e : Event) → judge c w e ≡ 0 → T (is (N ∷ []) e) → not (held w (e .thread) (loc e)) ≡ false
+unfolding breaks notHeld is
+unlock-held c w e p h = simp (← (letter-is N e h), or-false) at (judged c w e _ (unlock-row e (letter-is N e h)) p .0)
+
+-- a lock that an accepted lock event takes is held by no other thread
+pub lock-free : (c : Counts) (w : Words) (e : Event) → judge c w e ≡ 0 → T (is (K ∷ []) e) → some (c .threads) (λ t. not (eqb t (e .thread)) && held w t (loc e)) ≡ false
+unfolding breaks lockTaken is
+lock-free c w e p h = simp (← (letter-is K e h), or-false) at (judged c w e _ (lock-row e (letter-is K e h)) p .0)
+
+-- an accepted read or store has room
+pub read-room : (c : Counts) (w : Words) (e : Event) → judge c w e ≡ 0 → T (is (R ∷ []) e) → leb most (length (w .reads (e .thread) (loc e))) ≡ false
+unfolding breaks eightAlready is
+read-room c w e p h = simp (← (letter-is R e h), or-false) at (judged c w e _ (read-row e (letter-is R e h)) p .1 .0)
+
+pub store-room : (c : Counts) (w : Words) (e : Event) → judge c w e ≡ 0 → T (is (S ∷ []) e) → leb most (length (w .stores (e .thread) (loc e))) ≡ false
+unfolding breaks eightAlready is
+store-room c w e p h = simp (← (letter-is S e h), or-false) at (judged c w e _ (store-row e (letter-is S e h)) p .1 .1 .1 .1 .0)
+
+pub prescient-room : (c : Counts) (w : Words) (e : Event) → judge c w e ≡ 0 → T (is (P ∷ []) e) → leb most (length (w .stores (e .thread) (loc e))) ≡ false
+unfolding breaks eightAlready is
+prescient-room c w e p h = simp (← (letter-is P e h), or-false) at (judged c w e _ (prescient-store-row e (letter-is P e h)) p .1 .0)
+
+-- ---- an accepted list
+
+pub accepted-cons : (m : Limits) (c : Counts) (e : Event) (es : List Event) → verdict m c es e ≡ 0 → T (Accepted m c es) → T (Accepted m c (e ∷ es))
+unfolding Accepted
+accepted-cons m c e es v a = rw v a
+
+pub accepted-last : (m : Limits) (c : Counts) (e : Event) (es : List Event) → T (Accepted m c (e ∷ es)) → verdict m c es e ≡ 0
+unfolding Accepted
+accepted-last m c e es a = eqb→eq (verdict m c es e) 0 (and-left (eqb (verdict m c es e) 0) (Accepted m c es) a)
+
+pub accepted-before : (m : Limits) (c : Counts) (e : Event) (es : List Event) → T (Accepted m c (e ∷ es)) → T (Accepted m c es)
+unfolding Accepted
+accepted-before m c e es a = and-right (eqb (verdict m c es e) 0) (Accepted m c es) a
+
+-- what an answer of 0 says: there is room, the event is declared, and its row is clear
+pub record Passed (m : Limits) (c : Counts) (w : Words) (e : Event) : Type 0 where
+  pub room : leb (m .events) (w .events) ≡ false
+  pub known : declared c e ≡ true
+  pub row : judge c w e ≡ 0
+
+pub passed : (m : Limits) (c : Counts) (w : Words) (e : Event) → 0 < m .excess → answer m c w e ≡ 0 → Passed m c w e
+unfolding answer
+passed m c w e x p = go (leb (m .events) (w .events)) (declared c e) refl refl p
+  where
+    go : (a b : Bool) → leb (m .events) (w .events) ≡ a → declared c e ≡ b → cond a (m .excess) (cond b (judge c w e) 5) ≡ 0 → Passed m c w e
+    go true b q r p = absurd (none (m .excess) x p)
+      where
+        none : (n : ℕ) → 0 < n → n ≡ 0 → ⊥
+        none n h e = omega arith
+    go false true q r p = record { room = q; known = r; row = p }
+    go false false q r p = absurd (suc-ne-zero 4 p)
+
+pub accepted-row : (m : Limits) (c : Counts) (e : Event) (es : List Event) → 0 < m .excess → T (Accepted m c (e ∷ es)) → judge c (wordsOf es) e ≡ 0
+unfolding verdict
+accepted-row m c e es x a = passed m c (wordsOf es) e x (accepted-last m c e es a) .row
+
+-- ---- a search over the numbers below n
+
+pub some-zero : (f : ℕ → Bool) → some 0 f ≡ false
+unfolding some
+some-zero f = refl
+
+pub some-not : (n : ℕ) (f : ℕ → Bool) → some n f ≡ false → f n ≡ false → some (suc n) f ≡ false
+unfolding some
+some-not n f p q = rw (q, p)
+
+pub some-has : (n : ℕ) (f : ℕ → Bool) (u : ℕ) → u < n → f u ≡ true → some n f ≡ true
+unfolding some
+some-has zero f u h q = absurd (not-suc-le-zero h)
+some-has (suc n) f u h q = go (eqb u n) refl (λ k. some-has n f u k q)
+  where
+    or-right : (a b : Bool) → b ≡ true → (a || b) ≡ true
+    or-right true b q = refl
+    or-right false b q = q
+
+    below : (u ≡ n → ⊥) → u < n
+    below d = omega arith
+
+    go : (x : Bool) → eqb u n ≡ x → (u < n → some n f ≡ true) → (f n || some n f) ≡ true
+    go true e r = rw (← (eqb-true u n e), q)
+    go false e r = or-right (f n) (some n f) (r (below (eqb-false u n e)))

@@ -1,0 +1,42 @@
+-- The words after one more event, from the words before it alone: what a marker that keeps no list has to compute.
+-- `Simulation` proves that these are the words over the longer list.
+use Prim.Native.Nat.{ℕ, zero, suc, pred}
+use mathlib.Core.Bool.{Bool, true, false, not, cond, _&&_, _||_}
+use mathlib.Core.List.{List, [], _∷_, _++_}
+use lib.Dec.{ltb}
+use lib.IntN.{ℤ, pos}
+use Rattle.rules.specs.declared.Event.{Event}
+use Rattle.rules.specs.Events.{A, B, L, P, R, S, W, value, is, on}
+use Rattle.rules.specs.declared.Slot.{Slot}
+use Rattle.rules.specs.Words.{first, by, locksBy, acquires, releases}
+use Rattle.rules.specs.Rules.{Words}
+
+abbrev pub others : List Slot → List Slot
+others [] = []
+others (s ∷ ss) = ss
+
+-- the value and position of e as the next event
+abbrev pub slotAfter : Words → Event → Slot
+slotAfter w e = record { value = value (e .kind); position = suc (w .events) }
+
+unfoldable pub next : Words → Event → Words
+next w e = record {
+  events = suc (w .events);
+  copy = λ t v. cond (by (A ∷ B ∷ L ∷ []) t v e) (value (e .kind)) (w .copy t v);
+  fresh = λ t v. cond (by (A ∷ B ∷ S ∷ []) t v e) (is (A ∷ []) e) (w .fresh t v);
+  pending = λ t v. cond (by (P ∷ B ∷ []) t v e) (is (P ∷ []) e) (w .pending t v);
+  announced = λ t v. cond (by (P ∷ []) t v e) (value (e .kind)) (w .announced t v);
+  usable = λ t v.
+      not (locksBy t e)
+      && (by (A ∷ B ∷ []) t v e || by (L ∷ []) t v e && ltb (w .lastLock t) (first (w .reads t v) .position) || w .usable t v);
+  reads = λ t v.
+      cond (by (R ∷ []) t v e) (w .reads t v ++ (slotAfter w e ∷ []))
+      (cond (by (L ∷ []) t v e) (others (w .reads t v)) (w .reads t v));
+  stores = λ t v.
+      cond (by (S ∷ P ∷ []) t v e) (w .stores t v ++ (slotAfter w e ∷ []))
+      (cond (by (W ∷ []) t v e) (others (w .stores t v)) (w .stores t v));
+  lastWrite = λ t v. cond (by (W ∷ []) t v e) (suc (w .events)) (w .lastWrite t v);
+  lastLock = λ t. cond (locksBy t e) (suc (w .events)) (w .lastLock t);
+  depth = λ t l. cond (acquires t l e) (suc (w .depth t l)) (cond (releases t l e) (pred (w .depth t l)) (w .depth t l));
+  main = λ v. cond (is (W ∷ []) e && on v e) (value (e .kind)) (w .main v);
+}

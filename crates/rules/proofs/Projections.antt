@@ -1,0 +1,397 @@
+-- Each word depends on one projection of the earlier events alone; so do the refusals of a row, and the memories.
+use Prim.Native.Nat.{ℕ, zero, suc, _-_, _≤_, _<_}
+use native.Mathlib.Omega.{arith}
+use mathlib.Core.Path.{_≡_, refl, sym, ap, _∙_, subst}
+use mathlib.Core.Bool.{Bool, true, false, not, cond, _&&_, _||_, and-false}
+use mathlib.Core.List.{List, [], _∷_, _++_, map, append-nil, nil≢cons, cons≢nil, head-eq-of-cons-eq, tail-eq-of-cons-eq}
+use mathlib.Core.Logic.{_⊎_, inl, inr}
+use mathlib.Core.Option.{none, some}
+use lib.Dec.{T, eqb, ltb}
+use lib.ListN.{length, drop}
+use borrow.Author.Tests.{eqb-true, lt-ltb, le-ltb}
+use Rattle.rules.specs.declared.Event.{Event}
+use Rattle.rules.specs.declared.Slot.{Slot}
+use Rattle.rules.specs.declared.Counts.{Counts}
+use Rattle.rules.specs.Events.{A, B, K, L, N, P, R, S, W, letter, value, among, is, of, on, onLock, locks, unlocks, eqZ}
+use Rattle.rules.specs.Words.{latest, valueIn, letterIn, lastAt, count, slot, inOrder, first, by, locksBy, acquires, releases, reads, stores, copy, fresh, pending, announced, lastLock, lastWrite, usable, depth, main}
+use Rattle.rules.specs.Rules
+use Rattle.rules.specs.Rules.{wordsOf, none?, loc, noPartner, lockTaken, notHeld, pendingBars, notFresh, notStored, readBeforeWrite, unwritten, notWritten, notUsable, differs, eightAlready, breaks, rows, rowIn, firstBroken, judge}
+use Rattle.rules.specs.Memories.{below, each, memory, copies}
+use Rattle.rules.specs.Projections.{keep, own, ownOn, memoryOn, lockOn}
+use Rattle.rules.proofs.Laws.{and-left, and-right, or-false-left, or-false-right, letter-is}
+
+-- ---- tests
+
+-- what passes p passes q
+abbrev Within : (Event → Bool) → (Event → Bool) → Type 0
+Within p q = (e : Event) → T (p e) → T (q e)
+
+fails : (a b : Bool) → (T a → T b) → b ≡ false → a ≡ false
+fails true b f h = absurd (subst T h (f tt))
+fails false b f h = refl
+
+both : (a b : Bool) → T a → T b → T (a && b)
+both true b x y = y
+both false b x y = x
+
+passes : {b : Bool} → b ≡ true → T b
+passes h = subst T (sym h) tt
+
+-- ---- a list and what is kept of it
+
+module _ (q : Event → Bool) where
+  -- induction: an event that fails the test is left out, one that passes it is kept
+  kept : (Q : List Event → List Event → Type 0) → Q [] []
+      → ((e : Event) (es : List Event) → q e ≡ false → Q es (keep q es) → Q (e ∷ es) (keep q es))
+      → ((e : Event) (es : List Event) → q e ≡ true → Q es (keep q es) → Q (e ∷ es) (e ∷ keep q es))
+      → (es : List Event) → Q es (keep q es)
+  unfolding keep
+  kept Q start skips keeps [] = start
+  kept Q start skips keeps (e ∷ es) = go (q e) refl (kept Q start skips keeps es)
+    where
+      go : (b : Bool) → q e ≡ b → Q es (keep q es) → Q (e ∷ es) (cond b (e ∷ keep q es) (keep q es))
+      go true h k = keeps e es h k
+      go false h k = skips e es h k
+
+  -- the same of a list and of what is kept of it
+  kept-same : {A : Type 0} (f : List Event → A)
+      → ((e : Event) (es : List Event) → q e ≡ false → f (e ∷ es) ≡ f es)
+      → ((e : Event) (es : List Event) → f es ≡ f (keep q es) → f (e ∷ es) ≡ f (e ∷ keep q es))
+      → (es : List Event) → f es ≡ f (keep q es)
+  kept-same f skips keeps = kept (λ es fs. f es ≡ f fs) refl (λ e es h k. skips e es h ∙ k) (λ e es h k. keeps e es k)
+
+  module _ (p : Event → Bool) (w : Within p q) where
+    -- a word that only what passes p can change
+    tested : {A : Type 0} (f : List Event → A) (g : Event → A → A) → ((e : Event) (es : List Event) → f (e ∷ es) ≡ cond (p e) (g e (f es)) (f es)) → (es : List Event) → f es ≡ f (keep q es)
+    tested f g s = kept-same f (λ e es h. rw (s e es, fails (p e) (q e) (w e) h)) (λ e es k. rw (s e es, s e (keep q es), k))
+
+    latest-kept : (es : List Event) → latest p es ≡ latest p (keep q es)
+    unfolding latest
+    latest-kept = tested (latest p) (λ e o. some e) (λ e es. refl)
+
+    count-kept : (es : List Event) → count p es ≡ count p (keep q es)
+    unfolding count
+    count-kept = tested (count p) (λ e n. suc n) (λ e es. refl)
+
+    keep-kept : (es : List Event) → keep p es ≡ keep p (keep q es)
+    unfolding keep
+    keep-kept = tested (keep p) (λ e es. e ∷ es) (λ e es. refl)
+
+-- ---- positions
+
+-- position a in es is position b in what is kept of es: 0 in both, or that of an event that is kept
+abbrev Match : (Event → Bool) → List Event → ℕ → ℕ → Type 0
+Match q [] a b = (a ≡ 0) × (b ≡ 0)
+Match q (e ∷ es) a b = (T (q e) × (a ≡ suc (length es)) × (b ≡ suc (length (keep q es)))) ⊎ Match q es a b
+
+no-later : (a b c d : ℕ) → b ≤ a → d ≤ c → ltb a b ≡ ltb c d
+no-later a b c d h k = le-ltb a b h ∙ sym (le-ltb c d k)
+
+later : (a b c d : ℕ) → a < b → c < d → ltb a b ≡ ltb c d
+later a b c d h k = lt-ltb a b h ∙ sym (lt-ltb c d k)
+
+module _ (q : Event → Bool) where
+  -- no position is above the length
+  within : (es : List Event) (a b : ℕ) → Match q es a b → (a ≤ length es) × (b ≤ length (keep q es))
+  unfolding keep
+  within [] a b m = (omega arith, omega arith)
+  within (e ∷ es) a b (inl m) = (omega arith, go (q e) (m .0))
+    where
+      go : (x : Bool) → T x → b ≤ length (cond x (e ∷ keep q es) (keep q es))
+      go true t = omega arith
+      go false t = absurd t
+  within (e ∷ es) a b (inr m) = go (q e) (within es a b m)
+    where
+      go : (x : Bool) → (a ≤ length es) × (b ≤ length (keep q es)) → (a ≤ suc (length es)) × (b ≤ length (cond x (e ∷ keep q es) (keep q es)))
+      go true h = (omega arith, omega arith)
+      go false h = (omega arith, h .1)
+
+  -- two positions keep their order
+  same-order : (es : List Event) (a b c d : ℕ) → Match q es a c → Match q es b d → ltb a b ≡ ltb c d
+  same-order [] a b c d m n = no-later a b c d (omega arith) (omega arith)
+  same-order (e ∷ es) a b c d (inl m) (inl n) = no-later a b c d (omega arith) (omega arith)
+  same-order (e ∷ es) a b c d (inl m) (inr n) = let h = within es b d n in no-later a b c d (omega arith) (omega arith)
+  same-order (e ∷ es) a b c d (inr m) (inl n) = let h = within es a c m in later a b c d (omega arith) (omega arith)
+  same-order (e ∷ es) a b c d (inr m) (inr n) = same-order es a b c d m n
+
+  none-match : (es : List Event) → Match q es 0 0
+  none-match [] = (refl, refl)
+  none-match (e ∷ es) = inr (none-match es)
+
+  last-match : (p : Event → Bool) → Within p q → (es : List Event) → Match q es (lastAt p es) (lastAt p (keep q es))
+  unfolding lastAt
+  last-match p w = kept q (λ es fs. Match q es (lastAt p es) (lastAt p fs)) (refl, refl)
+      (λ e es h m. inr (rw (fails (p e) (q e) (w e) h) m))
+      (λ e es h m. go (p e) e es h m)
+    where
+      go : (x : Bool) (e : Event) (es : List Event) → q e ≡ true → Match q es (lastAt p es) (lastAt p (keep q es)) → Match q (e ∷ es) (cond x (suc (length es)) (lastAt p es)) (cond x (suc (length (keep q es))) (lastAt p (keep q es)))
+      go true e es h m = inl (passes h, refl, refl)
+      go false e es h m = inr m
+
+-- the same values, and positions that match
+data Alike (q : Event → Bool) (es : List Event) : List Slot → List Slot → Type 0 where
+  nil : Alike q es [] []
+  cons : {s r : Slot} {ss rs : List Slot} → s .value ≡ r .value → Match q es (s .position) (r .position) → Alike q es ss rs → Alike q es (s ∷ ss) (r ∷ rs)
+
+module _ (q : Event → Bool) where
+  alike-on : {es : List Event} {ss rs : List Slot} (e : Event) → Alike q es ss rs → Alike q (e ∷ es) ss rs
+  alike-on e nil = nil
+  alike-on e (cons x m a) = cons x (inr m) (alike-on e a)
+
+  alike-append : {es : List Event} {ss rs ss′ rs′ : List Slot} → Alike q es ss rs → Alike q es ss′ rs′ → Alike q es (ss ++ ss′) (rs ++ rs′)
+  alike-append nil b = b
+  alike-append (cons x m a) b = cons x m (alike-append a b)
+
+  alike-drop : {es : List Event} {ss rs : List Slot} (n : ℕ) → Alike q es ss rs → Alike q es (drop n ss) (drop n rs)
+  alike-drop zero a = a
+  alike-drop (suc n) nil = nil
+  alike-drop (suc n) (cons x m a) = alike-drop n a
+
+  alike-first : {es : List Event} {ss rs : List Slot} → Alike q es ss rs → Match q es (first ss .position) (first rs .position)
+  alike-first {es = es} nil = none-match q es
+  alike-first (cons x m a) = m
+
+  alike-values : {es : List Event} {ss rs : List Slot} → Alike q es ss rs → map (λ s. s .value) ss ≡ map (λ s. s .value) rs
+  alike-values nil = refl
+  alike-values (cons x m a) = λ i. x i ∷ alike-values a i
+
+  in-order-alike : (p : Event → Bool) → Within p q → (es : List Event) → Alike q es (inOrder p es) (inOrder p (keep q es))
+  unfolding inOrder
+  in-order-alike p w = kept q (λ es fs. Alike q es (inOrder p es) (inOrder p fs)) nil
+      (λ e es h a. rw (fails (p e) (q e) (w e) h, append-nil) (alike-on e a))
+      (λ e es h a. alike-append (alike-on e a) (go (p e) e es h))
+    where
+      go : (x : Bool) (e : Event) (es : List Event) → q e ≡ true → Alike q (e ∷ es) (cond x (slot es e ∷ []) []) (cond x (slot (keep q es) e ∷ []) [])
+      go true e es h = cons refl (inl (passes h, refl, refl)) nil
+      go false e es h = nil
+
+  -- the queue of what passes p, with as many taken off as pass o
+  queue-alike : (p o : Event → Bool) → Within p q → Within o q → (es : List Event) → Alike q es (drop (count o es) (inOrder p es)) (drop (count o (keep q es)) (inOrder p (keep q es)))
+  queue-alike p o w u es = rw (← (count-kept q o u es)) (alike-drop (count o es) (in-order-alike p w es))
+
+-- ---- the words
+
+-- letters without K and N: no lock event
+no-lock : (ks : List ℕ) (n : ℕ) → (among ks K || among ks N) ≡ false → T (among ks n) → T (not (among (K ∷ N ∷ []) n))
+no-lock ks n h t = go (eqb K n) (eqb N n) refl refl
+  where
+    go : (x y : Bool) → eqb K n ≡ x → eqb N n ≡ y → T (not (x || (y || false)))
+    go true y p r = subst T (or-false-left (among ks K) (among ks N) h) (rw (eqb-true K n p) t)
+    go false true p r = subst T (or-false-right (among ks K) (among ks N) h) (rw (eqb-true N n r) t)
+    go false false p r = tt
+
+is-among : (k : ℕ) (ks : List ℕ) (e : Event) → T (among ks k) → T (is (k ∷ []) e) → T (is ks e)
+unfolding is
+is-among k ks e m h = subst (λ n. T (among ks n)) (letter-is k e h) m
+
+-- T's event on variable V
+abbrev onVariable : ℕ → ℕ → Event → Bool
+onVariable t v e = of t e && (not (onLock e) && on v e)
+
+by-own : (ks : List ℕ) (t v : ℕ) → Within (by ks t v) (of t)
+unfolding by
+by-own ks t v e b = and-left (of t e) (on v e) (and-right (is ks e) (of t e && on v e) b)
+
+by-variable : (ks : List ℕ) (t v : ℕ) → (among ks K || among ks N) ≡ false → Within (by ks t v) (onVariable t v)
+unfolding by onLock is
+by-variable ks t v h e b =
+    let x = and-right (is ks e) (of t e && on v e) b in
+    both (of t e) _ (and-left (of t e) (on v e) x) (both (not (onLock e)) _ (no-lock ks (letter (e .kind)) h (and-left (is ks e) _ b)) (and-right (of t e) (on v e) x))
+
+module _ (t v : ℕ) where
+  latest-on : (ks : List ℕ) → (among ks K || among ks N) ≡ false → (es : List Event) → latest (by ks t v) es ≡ latest (by ks t v) (ownOn t v es)
+  unfolding ownOn
+  latest-on ks h = latest-kept (onVariable t v) (by ks t v) (by-variable ks t v h)
+
+  pub copy-on : (es : List Event) → copy t v es ≡ copy t v (ownOn t v es)
+  unfolding copy
+  copy-on es = ap valueIn (latest-on _ refl es)
+
+  pub fresh-on : (es : List Event) → fresh t v es ≡ fresh t v (ownOn t v es)
+  unfolding fresh
+  fresh-on es = ap (letterIn (A ∷ [])) (latest-on _ refl es)
+
+  pub pending-on : (es : List Event) → pending t v es ≡ pending t v (ownOn t v es)
+  unfolding pending
+  pending-on es = ap (letterIn (P ∷ [])) (latest-on _ refl es)
+
+  pub announced-on : (es : List Event) → announced t v es ≡ announced t v (ownOn t v es)
+  unfolding announced
+  announced-on es = ap valueIn (latest-on _ refl es)
+
+  reads-alike : (q : Event → Bool) → Within (by (R ∷ []) t v) q → Within (by (L ∷ []) t v) q → (es : List Event) → Alike q es (reads t v es) (reads t v (keep q es))
+  unfolding reads
+  reads-alike q = queue-alike q (by (R ∷ []) t v) (by (L ∷ []) t v)
+
+  reads-on : (es : List Event) → Alike (onVariable t v) es (reads t v es) (reads t v (ownOn t v es))
+  unfolding ownOn
+  reads-on = reads-alike (onVariable t v) (by-variable _ t v refl) (by-variable _ t v refl)
+
+  pub read-values-on : (es : List Event) → map (λ s. s .value) (reads t v es) ≡ map (λ s. s .value) (reads t v (ownOn t v es))
+  read-values-on es = alike-values (onVariable t v) (reads-on es)
+
+  pub store-values-on : (es : List Event) → map (λ s. s .value) (stores t v es) ≡ map (λ s. s .value) (stores t v (ownOn t v es))
+  unfolding stores ownOn
+  store-values-on es = alike-values (onVariable t v) (queue-alike (onVariable t v) (by (S ∷ P ∷ []) t v) (by (W ∷ []) t v) (by-variable _ t v refl) (by-variable _ t v refl) es)
+
+  -- its read came before its write
+  pub order-on : (es : List Event) → readBeforeWrite (wordsOf es) t v ≡ readBeforeWrite (wordsOf (ownOn t v es)) t v
+  unfolding readBeforeWrite wordsOf lastWrite ownOn
+  order-on es = same-order (onVariable t v) es _ _ _ _ (alike-first (onVariable t v) (reads-on es)) (last-match (onVariable t v) (by (W ∷ []) t v) (by-variable _ t v refl) es)
+
+  pub usable-own : (es : List Event) → usable t v es ≡ usable t v (own t es)
+  unfolding usable own by locksBy lastLock
+  usable-own = kept-same (of t) (usable t v) (λ e es h. simp (h, and-false)) (λ e es k. rw (order es, k))
+    where
+      order : (es : List Event) → ltb (lastLock t es) (first (reads t v es) .position) ≡ ltb (lastLock t (keep (of t) es)) (first (reads t v (keep (of t) es)) .position)
+      order es = same-order (of t) es _ _ _ _ (last-match (of t) (locksBy t) (λ e. and-right (locks e) (of t e)) es) (alike-first (of t) (reads-alike (of t) (by-own (R ∷ []) t v) (by-own (L ∷ []) t v) es))
+
+module _ (t l : ℕ) where
+  depth-kept : (q : Event → Bool) → Within (acquires t l) q → Within (releases t l) q → (es : List Event) → depth t l es ≡ depth t l (keep q es)
+  unfolding depth
+  depth-kept q a r es = λ i. count-kept q (acquires t l) a es i - count-kept q (releases t l) r es i
+
+  pub depth-lock : (es : List Event) → depth t l es ≡ depth t l (lockOn l es)
+  unfolding lockOn acquires releases onLock locks unlocks
+  depth-lock = depth-kept (λ e. onLock e && on l e) (on-lock K tt) (on-lock N tt)
+    where
+      on-lock : (k : ℕ) → T (among (K ∷ N ∷ []) k) → Within (λ e. is (k ∷ []) e && (of t e && on l e)) (λ e. onLock e && on l e)
+      on-lock k m e b = both (onLock e) (on l e) (is-among k (K ∷ N ∷ []) e m (and-left (is (k ∷ []) e) _ b)) (and-right (of t e) (on l e) (and-right (is (k ∷ []) e) _ b))
+
+  pub depth-own : (es : List Event) → depth t l es ≡ depth t l (own t es)
+  unfolding own acquires releases locks unlocks
+  depth-own = depth-kept (of t) (λ e b. by-own (K ∷ []) t l e (unfold by in b)) (λ e b. by-own (N ∷ []) t l e (unfold by in b))
+
+pub main-memory : (v : ℕ) (es : List Event) → main v es ≡ main v (memoryOn v es)
+unfolding main memoryOn
+main-memory v es = ap valueIn (latest-kept (λ e. is (R ∷ W ∷ []) e && on v e) (λ e. is (W ∷ []) e && on v e)
+    (λ e b. both (is (R ∷ W ∷ []) e) (on v e) (is-among W (R ∷ W ∷ []) e tt (and-left (is (W ∷ []) e) (on v e) b)) (and-right (is (W ∷ []) e) (on v e) b)) es)
+
+-- T's events on V are among T's own
+pub own-on : (t v : ℕ) (es : List Event) → ownOn t v es ≡ ownOn t v (own t es)
+unfolding ownOn own
+own-on t v = keep-kept (of t) (onVariable t v) (λ e. and-left (of t e) (not (onLock e) && on v e))
+
+-- ---- two lists with the same projections
+
+-- what the rules ask of a queue, apart from its order: from its values
+pub same-values : (ss rs : List Slot) → map (λ s. s .value) ss ≡ map (λ s. s .value) rs → (none? ss ≡ none? rs) × (first ss .value ≡ first rs .value) × (length ss ≡ length rs)
+same-values [] [] h = (refl, refl, refl)
+same-values [] (r ∷ rs) h = absurd (nil≢cons h)
+same-values (s ∷ ss) [] h = absurd (cons≢nil h)
+same-values (s ∷ ss) (r ∷ rs) h = (refl, head-eq-of-cons-eq h, ap suc (same-values ss rs (tail-eq-of-cons-eq h) .2))
+
+-- what depends on a projection alone is the same where the projection is
+through : {A : Type 0} (f : List Event → A) (k : List Event → List Event) → ((es : List Event) → f es ≡ f (k es)) → (es fs : List Event) → k es ≡ k fs → f es ≡ f fs
+through f k law es fs h = law es ∙ ap f h ∙ sym (law fs)
+
+some-same : (n : ℕ) (f g : ℕ → Bool) → ((v : ℕ) → f v ≡ g v) → Rules.some n f ≡ Rules.some n g
+some-same n f g h = λ i. Rules.some n (λ v. h v i)
+
+and-same : (b x y : Bool) → (T b → x ≡ y) → (b && x) ≡ (b && y)
+and-same true x y h = h tt
+and-same false x y h = refl
+
+-- the words of T, after lists with the same events of T
+module _ (t : ℕ) (es fs : List Event) (h : own t es ≡ own t fs) where
+  by-variable-same : {A : Type 0} (v : ℕ) (f : List Event → A) → ((gs : List Event) → f gs ≡ f (ownOn t v gs)) → f es ≡ f fs
+  by-variable-same v f law = through f (ownOn t v) law es fs (through (ownOn t v) (own t) (own-on t v) es fs h)
+
+  copy-same : (v : ℕ) → copy t v es ≡ copy t v fs
+  copy-same v = by-variable-same v (copy t v) (copy-on t v)
+
+  fresh-same : (v : ℕ) → fresh t v es ≡ fresh t v fs
+  fresh-same v = by-variable-same v (fresh t v) (fresh-on t v)
+
+  pending-same : (v : ℕ) → pending t v es ≡ pending t v fs
+  pending-same v = by-variable-same v (pending t v) (pending-on t v)
+
+  announced-same : (v : ℕ) → announced t v es ≡ announced t v fs
+  announced-same v = by-variable-same v (announced t v) (announced-on t v)
+
+  reads-same : (v : ℕ) → (none? (reads t v es) ≡ none? (reads t v fs)) × (first (reads t v es) .value ≡ first (reads t v fs) .value) × (length (reads t v es) ≡ length (reads t v fs))
+  reads-same v = same-values (reads t v es) (reads t v fs) (by-variable-same v (λ gs. map (λ s. s .value) (reads t v gs)) (read-values-on t v))
+
+  stores-same : (v : ℕ) → (none? (stores t v es) ≡ none? (stores t v fs)) × (first (stores t v es) .value ≡ first (stores t v fs) .value) × (length (stores t v es) ≡ length (stores t v fs))
+  stores-same v = same-values (stores t v es) (stores t v fs) (by-variable-same v (λ gs. map (λ s. s .value) (stores t v gs)) (store-values-on t v))
+
+  order-same : (v : ℕ) → readBeforeWrite (wordsOf es) t v ≡ readBeforeWrite (wordsOf fs) t v
+  order-same v = by-variable-same v (λ gs. readBeforeWrite (wordsOf gs) t v) (order-on t v)
+
+  usable-same : (v : ℕ) → usable t v es ≡ usable t v fs
+  usable-same v = through (usable t v) (own t) (usable-own t v) es fs h
+
+  depth-same : (l : ℕ) → depth t l es ≡ depth t l fs
+  depth-same l = through (depth t l) (own t) (depth-own t l) es fs h
+
+-- the refusals of e hang on its thread's events; at R also on the variable's R and W, at K also on the lock's events
+module _ (c : Counts) (e : Event) (es fs : List Event) (o : own (e .thread) es ≡ own (e .thread) fs)
+    (m : T (is (R ∷ []) e) → memoryOn (loc e) es ≡ memoryOn (loc e) fs)
+    (k : T (is (K ∷ []) e) → lockOn (loc e) es ≡ lockOn (loc e) fs) where
+  same-10 : noPartner (wordsOf es) e ≡ noPartner (wordsOf fs) e
+  unfolding noPartner wordsOf
+  same-10 = rw (reads-same (e .thread) es fs o (loc e) .0, stores-same (e .thread) es fs o (loc e) .0, pending-same (e .thread) es fs o (loc e))
+
+  same-11 : lockTaken c (wordsOf es) e ≡ lockTaken c (wordsOf fs) e
+  unfolding lockTaken wordsOf
+  same-11 = and-same (is (K ∷ []) e) _ _ (λ x. some-same (c .threads) _ _ (λ t. ap (λ d. not (eqb t (e .thread)) && ltb 0 d) (through (depth t (loc e)) (lockOn (loc e)) (depth-lock t (loc e)) es fs (k x))))
+
+  same-12 : notHeld (wordsOf es) e ≡ notHeld (wordsOf fs) e
+  unfolding notHeld wordsOf
+  same-12 = rw (depth-same (e .thread) es fs o (loc e))
+
+  same-13 : pendingBars c (wordsOf es) e ≡ pendingBars c (wordsOf fs) e
+  unfolding pendingBars wordsOf
+  same-13 = rw (some-same (c .variables) _ _ (pending-same (e .thread) es fs o), pending-same (e .thread) es fs o (loc e))
+
+  same-14 : notFresh (wordsOf es) e ≡ notFresh (wordsOf fs) e
+  unfolding notFresh wordsOf
+  same-14 = rw (fresh-same (e .thread) es fs o (loc e))
+
+  same-15 : notStored c (wordsOf es) e ≡ notStored c (wordsOf fs) e
+  unfolding notStored wordsOf
+  same-15 = rw (some-same (c .variables) _ _ (fresh-same (e .thread) es fs o), fresh-same (e .thread) es fs o (loc e))
+
+  same-16 : notWritten c (wordsOf es) e ≡ notWritten c (wordsOf fs) e
+  unfolding notWritten unwritten wordsOf
+  same-16 = rw (some-same (c .variables) _ _ (λ v. ap not (stores-same (e .thread) es fs o v .0)), stores-same (e .thread) es fs o (loc e) .0, order-same (e .thread) es fs o (loc e))
+
+  same-17 : notUsable (wordsOf es) e ≡ notUsable (wordsOf fs) e
+  unfolding notUsable wordsOf
+  same-17 = rw (usable-same (e .thread) es fs o (loc e))
+
+  same-18 : differs (wordsOf es) e ≡ differs (wordsOf fs) e
+  unfolding differs wordsOf
+  same-18 = rw (
+    copy-same (e .thread) es fs o (loc e),
+    reads-same (e .thread) es fs o (loc e) .1,
+    stores-same (e .thread) es fs o (loc e) .1,
+    announced-same (e .thread) es fs o (loc e),
+    and-same (is (R ∷ []) e) _ _ (λ x. ap (λ y. not (eqZ (value (e .kind)) y)) (through (main (loc e)) (memoryOn (loc e)) (main-memory (loc e)) es fs (m x))),
+  )
+
+  same-19 : eightAlready (wordsOf es) e ≡ eightAlready (wordsOf fs) e
+  unfolding eightAlready wordsOf
+  same-19 = rw (reads-same (e .thread) es fs o (loc e) .2, stores-same (e .thread) es fs o (loc e) .2)
+
+  same-broken : (ns : List ℕ) → firstBroken ns c (wordsOf es) e ≡ firstBroken ns c (wordsOf fs) e
+  unfolding firstBroken breaks
+  same-broken [] = refl
+  same-broken (n ∷ ns) = rw (same-10, same-11, same-12, same-13, same-14, same-15, same-16, same-17, same-18, same-19, same-broken ns)
+
+  pub judge-by-needed-lists : judge c (wordsOf es) e ≡ judge c (wordsOf fs) e
+  unfolding judge
+  judge-by-needed-lists = same-broken (rowIn rows (letter (e .kind)))
+
+pub judge-by-lists : (c : Counts) (e : Event) (es fs : List Event) → own (e .thread) es ≡ own (e .thread) fs → memoryOn (loc e) es ≡ memoryOn (loc e) fs → lockOn (loc e) es ≡ lockOn (loc e) fs → judge c (wordsOf es) e ≡ judge c (wordsOf fs) e
+judge-by-lists c e es fs o m k = judge-by-needed-lists c e es fs o (λ x. m) (λ x. k)
+
+-- ---- the memories
+
+pub memory-by-lists : (c : Counts) (es fs : List Event) → ((v : ℕ) → memoryOn v es ≡ memoryOn v fs) → memory c (wordsOf es) ≡ memory c (wordsOf fs)
+unfolding memory wordsOf
+memory-by-lists c es fs h = λ i. each (λ v. through (main v) (memoryOn v) (main-memory v) es fs (h v) i ∷ []) (below (c .variables))
+
+pub copies-by-lists : (c : Counts) (es fs : List Event) → ((t : ℕ) → own t es ≡ own t fs) → copies c (wordsOf es) ≡ copies c (wordsOf fs)
+unfolding copies wordsOf
+copies-by-lists c es fs h = λ i. each (λ t. each (λ v. cond (usable-same t es fs (h t) v i) (record { thread = t; variable = v; value = copy-same t es fs (h t) v i } ∷ []) []) (below (c .variables))) (below (c .threads))

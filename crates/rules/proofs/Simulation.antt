@@ -1,0 +1,206 @@
+-- The words over a list one event longer are the words of `next`.
+use Prim.Native.Nat.{ℕ, zero, suc, pred, _+_, _-_, _≤_, _<_, zero-le, suc-le-suc}
+use native.Mathlib.Omega.{arith}
+use mathlib.Core.Path.{_≡_, refl, sym, ap, _∙_, subst}
+use mathlib.Core.Bool.{Bool, true, false, not, cond, _&&_, _||_}
+use mathlib.Core.List.{List, [], _∷_, _++_, append-nil}
+use mathlib.Core.Option.{Option, none, some}
+use lib.Dec.{T, eqb, ltb, eqb→eq}
+use lib.IntN.{ℤ, pos}
+use borrow.Author.Tests.{ltb-true, not-false}
+use lib.ListN.{length, drop, length-append}
+use lib.Seq.{drop-append-le, drop-cons}
+use Rattle.rules.specs.declared.Event.{Event}
+use Rattle.rules.specs.declared.Kind.{Kind}
+use Rattle.rules.specs.declared.Kind.the-variants.{Use, Assign, Load, Store, Read, Write, Lock, Unlock, PrescientStore, PrescientAssign}
+use Rattle.rules.specs.Events.{A, B, K, L, N, P, R, S, U, W, letter, place, value, among, is, of, on, locks, unlocks}
+use Rattle.rules.specs.declared.Slot.{Slot}
+use Rattle.rules.specs.declared.Counts.{Counts}
+use Rattle.rules.specs.Limits.{Limits}
+use Rattle.rules.specs.Words.{latest, valueIn, letterIn, lastAt, count, slot, inOrder, first, by, acquires, releases, reads, stores, copy, fresh, pending, announced, lastLock, lastWrite, usable, depth, main}
+use Rattle.rules.specs.Rules.{Words, wordsOf, none?, loc, held, judge, Accepted}
+use Rattle.rules.proofs.Laws.{and-left, and-right, accepted-row, accepted-before, load-partner, write-partner, unlock-held}
+use Rattle.rules.proofs.Next.{others, next}
+
+-- ---- laws of what the words are made of, at a longer list
+
+push : {A B : Type 0} (f : A → B) (b : Bool) (x y : A) → f (cond b x y) ≡ cond b (f x) (f y)
+push f true x y = refl
+push f false x y = refl
+
+value-latest : (p : Event → Bool) (e : Event) (es : List Event) → valueIn (latest p (e ∷ es)) ≡ cond (p e) (value (e .kind)) (valueIn (latest p es))
+unfolding latest valueIn
+value-latest p e es = push valueIn (p e) (some e) (latest p es)
+
+letter-latest : (ks : List ℕ) (p : Event → Bool) (e : Event) (es : List Event) → letterIn ks (latest p (e ∷ es)) ≡ cond (p e) (is ks e) (letterIn ks (latest p es))
+unfolding latest letterIn
+letter-latest ks p e es = push (letterIn ks) (p e) (some e) (latest p es)
+
+-- ---- the queues
+
+drop-others : (n : ℕ) (ss : List Slot) → drop (suc n) ss ≡ others (drop n ss)
+drop-others zero [] = refl
+drop-others zero (s ∷ ss) = refl
+drop-others (suc n) [] = refl
+drop-others (suc n) (s ∷ ss) = drop-others n ss
+
+-- the queue of what passes p, with as many taken off as pass q: no event passes both
+queue : (p q : Event → Bool) (e : Event) (es : List Event) → (T (p e) → T (q e) → ⊥) → count q es ≤ length (inOrder p es)
+    → drop (count q (e ∷ es)) (inOrder p (e ∷ es))
+    ≡ cond (p e) (drop (count q es) (inOrder p es) ++ (slot es e ∷ [])) (cond (q e) (others (drop (count q es) (inOrder p es))) (drop (count q es) (inOrder p es)))
+unfolding count inOrder
+queue p q e es ne h = go (p e) (q e) ne
+  where
+    go : (b c : Bool) → (T b → T c → ⊥)
+        → drop (cond c (suc (count q es)) (count q es)) (inOrder p es ++ cond b (slot es e ∷ []) [])
+        ≡ cond b (drop (count q es) (inOrder p es) ++ (slot es e ∷ [])) (cond c (others (drop (count q es) (inOrder p es))) (drop (count q es) (inOrder p es)))
+    go true true n = absurd (n tt tt)
+    go true false n = drop-append-le (count q es) (inOrder p es) (slot es e ∷ []) h
+    go false true n = rw append-nil (drop-others (count q es) (inOrder p es))
+    go false false n = rw append-nil
+
+one-less : (a b : ℕ) → a - suc b ≡ pred (a - b)
+one-less a b = omega arith
+
+-- more of p than of q, with one more event
+less : (p q : Event → Bool) (e : Event) (es : List Event) → (T (p e) → T (q e) → ⊥) → count q es ≤ count p es
+    → count p (e ∷ es) - count q (e ∷ es) ≡ cond (p e) (suc (count p es - count q es)) (cond (q e) (pred (count p es - count q es)) (count p es - count q es))
+unfolding count
+less p q e es ne h = go (p e) (q e) ne
+  where
+    go : (b c : Bool) → (T b → T c → ⊥)
+        → cond b (suc (count p es)) (count p es) - cond c (suc (count q es)) (count q es)
+        ≡ cond b (suc (count p es - count q es)) (cond c (pred (count p es - count q es)) (count p es - count q es))
+    go true true n = absurd (n tt tt)
+    go true false n = omega arith
+    go false true n = one-less (count p es) (count q es)
+    go false false n = refl
+
+-- ---- no event has two letters
+
+-- what holds of each of the ten letters holds of a kind's letter
+at-letter : (f : ℕ → Bool) → T (f U) × T (f A) × T (f L) × T (f S) × T (f R) × T (f W) × T (f K) × T (f N) × T (f P) × T (f B) → (k : Kind) → T (f (letter k))
+at-letter f h (Use v x) = h .0
+at-letter f h (Assign v x) = h .1
+at-letter f h (Load v x) = h .2
+at-letter f h (Store v x) = h .3
+at-letter f h (Read v x) = h .4
+at-letter f h (Write v x) = h .5
+at-letter f h (Lock l) = h .6
+at-letter f h (Unlock l) = h .7
+at-letter f h (PrescientStore v x) = h .8
+at-letter f h (PrescientAssign v x) = h .9
+
+contrary : (b c d : Bool) → T (not (b && c)) → T (b && d) → T (c && d) → ⊥
+contrary true true d h x y = h
+contrary true false d h x y = y
+contrary false c d h x y = x
+
+read-load : (t v : ℕ) (e : Event) → T (by (R ∷ []) t v e) → T (by (L ∷ []) t v e) → ⊥
+unfolding by is
+read-load t v e = contrary (is (R ∷ []) e) (is (L ∷ []) e) (of t e && on v e) (at-letter (λ n. not (among (R ∷ []) n && among (L ∷ []) n)) (tt, tt, tt, tt, tt, tt, tt, tt, tt, tt) (e .kind))
+
+store-write : (t v : ℕ) (e : Event) → T (by (S ∷ P ∷ []) t v e) → T (by (W ∷ []) t v e) → ⊥
+unfolding by is
+store-write t v e = contrary (is (S ∷ P ∷ []) e) (is (W ∷ []) e) (of t e && on v e) (at-letter (λ n. not (among (S ∷ P ∷ []) n && among (W ∷ []) n)) (tt, tt, tt, tt, tt, tt, tt, tt, tt, tt) (e .kind))
+
+lock-unlock : (t l : ℕ) (e : Event) → T (acquires t l e) → T (releases t l e) → ⊥
+unfolding acquires releases locks unlocks is
+lock-unlock t l e = contrary (is (K ∷ []) e) (is (N ∷ []) e) (of t e && on l e) (at-letter (λ n. not (among (K ∷ []) n && among (N ∷ []) n)) (tt, tt, tt, tt, tt, tt, tt, tt, tt, tt) (e .kind))
+
+-- ---- the words at a longer list
+
+-- what the rules 10 and 12 keep: no more loads than reads, writes than stores, unlocks than locks
+pub record Paired (es : List Event) : Type 0 where
+  pub loads : (t v : ℕ) → count (by (L ∷ []) t v) es ≤ length (inOrder (by (R ∷ []) t v) es)
+  pub writes : (t v : ℕ) → count (by (W ∷ []) t v) es ≤ length (inOrder (by (S ∷ P ∷ []) t v) es)
+  pub unlocks : (t l : ℕ) → count (releases t l) es ≤ count (acquires t l) es
+
+pub words-next : (e : Event) (es : List Event) → Paired es → wordsOf (e ∷ es) ≡ next (wordsOf es) e
+unfolding wordsOf next reads stores copy fresh pending announced lastLock lastWrite usable depth main lastAt
+words-next e es h = λ i. record {
+  events = suc (length es);
+  copy = λ t v. value-latest (by (A ∷ B ∷ L ∷ []) t v) e es i;
+  fresh = λ t v. letter-latest (A ∷ []) (by (A ∷ B ∷ S ∷ []) t v) e es i;
+  pending = λ t v. letter-latest (P ∷ []) (by (P ∷ B ∷ []) t v) e es i;
+  announced = λ t v. value-latest (by (P ∷ []) t v) e es i;
+  usable = λ t v. next (wordsOf es) e .usable t v;
+  reads = λ t v. queue (by (R ∷ []) t v) (by (L ∷ []) t v) e es (read-load t v e) (h .loads t v) i;
+  stores = λ t v. queue (by (S ∷ P ∷ []) t v) (by (W ∷ []) t v) e es (store-write t v e) (h .writes t v) i;
+  lastWrite = λ t v. next (wordsOf es) e .lastWrite t v;
+  lastLock = λ t. next (wordsOf es) e .lastLock t;
+  depth = λ t l. less (acquires t l) (releases t l) e es (lock-unlock t l e) (h .unlocks t l) i;
+  main = λ v. value-latest (λ x. is (W ∷ []) x && on v x) e es i;
+}
+
+-- ---- an accepted list is paired
+
+left : (n : ℕ) (ss : List Slot) → none? (drop n ss) ≡ false → n < length ss
+left zero [] h = absurd (subst T h tt)
+left zero (s ∷ ss) h = suc-le-suc zero-le
+left (suc n) [] h = absurd (subst T h tt)
+left (suc n) (s ∷ ss) h = suc-le-suc (left n ss h)
+
+-- one more event: what passes q has a partner
+grow : (p q : Event → Bool) (e : Event) (es : List Event) → (T (q e) → count q es < length (inOrder p es)) → count q es ≤ length (inOrder p es) → count q (e ∷ es) ≤ length (inOrder p (e ∷ es))
+unfolding count inOrder
+grow p q e es f h = rw length-append (go (q e) (length (cond (p e) (slot es e ∷ []) [])) f)
+  where
+    go : (c : Bool) (k : ℕ) → (T c → count q es < length (inOrder p es)) → cond c (suc (count q es)) (count q es) ≤ length (inOrder p es) + k
+    go true k g = let x = g tt in omega arith
+    go false k g = omega arith
+
+grow-count : (p q : Event → Bool) (e : Event) (es : List Event) → (T (q e) → count q es < count p es) → count q es ≤ count p es → count q (e ∷ es) ≤ count p (e ∷ es)
+unfolding count
+grow-count p q e es f h = go (p e) (q e) f
+  where
+    go : (b c : Bool) → (T c → count q es < count p es) → cond c (suc (count q es)) (count q es) ≤ cond b (suc (count p es)) (count p es)
+    go true true g = let x = g tt in omega arith
+    go true false g = omega arith
+    go false true g = g tt
+    go false false g = h
+
+-- the thread and the place of an event that passes `by`
+by-is : (ks : List ℕ) (t v : ℕ) (e : Event) → T (by ks t v e) → T (is ks e)
+unfolding by
+by-is ks t v e h = and-left (is ks e) (of t e && on v e) h
+
+by-thread : (ks : List ℕ) (t v : ℕ) (e : Event) → T (by ks t v e) → e .thread ≡ t
+unfolding by of
+by-thread ks t v e h = eqb→eq (e .thread) t (and-left (of t e) (on v e) (and-right (is ks e) (of t e && on v e) h))
+
+by-loc : (ks : List ℕ) (t v : ℕ) (e : Event) → T (by ks t v e) → loc e ≡ v
+unfolding by on
+by-loc ks t v e h = eqb→eq (loc e) v (and-right (of t e) (on v e) (and-right (is ks e) (of t e && on v e) h))
+
+-- an unlock of l by T
+released : (t l : ℕ) (e : Event) → T (releases t l e) → T (is (N ∷ []) e)
+unfolding releases unlocks
+released t l e b = by-is (N ∷ []) t l e (unfold by in b)
+
+released-by : (t l : ℕ) (e : Event) → T (releases t l e) → e .thread ≡ t
+unfolding releases unlocks
+released-by t l e b = by-thread (N ∷ []) t l e (unfold by in b)
+
+released-lock : (t l : ℕ) (e : Event) → T (releases t l e) → loc e ≡ l
+unfolding releases unlocks
+released-lock t l e b = by-loc (N ∷ []) t l e (unfold by in b)
+
+paired-next : (c : Counts) (e : Event) (es : List Event) → judge c (wordsOf es) e ≡ 0 → Paired es → Paired (e ∷ es)
+unfolding wordsOf reads stores depth
+paired-next c e es p h = record {
+  loads = λ t v. grow (by (R ∷ []) t v) (by (L ∷ []) t v) e es
+      (λ b. left _ _ (rw (by-thread (L ∷ []) t v e b, by-loc (L ∷ []) t v e b) at (load-partner c (wordsOf es) e p (by-is (L ∷ []) t v e b)))) (h .loads t v);
+  writes = λ t v. grow (by (S ∷ P ∷ []) t v) (by (W ∷ []) t v) e es
+      (λ b. left _ _ (rw (by-thread (W ∷ []) t v e b, by-loc (W ∷ []) t v e b) at (write-partner c (wordsOf es) e p (by-is (W ∷ []) t v e b)))) (h .writes t v);
+  unlocks = λ t l. grow-count (acquires t l) (releases t l) e es
+      (λ b. more t l (rw (released-by t l e b, released-lock t l e b) at (unlock-held c (wordsOf es) e p (released t l e b)))) (h .unlocks t l);
+}
+  where
+    more : (t l : ℕ) → not (ltb 0 (count (acquires t l) es - count (releases t l) es)) ≡ false → count (releases t l) es < count (acquires t l) es
+    more t l q = let x = ltb-true 0 (count (acquires t l) es - count (releases t l) es) (not-false _ q) in omega arith
+
+pub paired : (m : Limits) (c : Counts) (es : List Event) → 0 < m .excess → T (Accepted m c es) → Paired es
+unfolding count inOrder
+paired m c [] x a = record { loads = λ t v. zero-le; writes = λ t v. zero-le; unlocks = λ t l. zero-le }
+paired m c (e ∷ es) x a = paired-next c e es (accepted-row m c e es x a) (paired m c es x (accepted-before m c e es a))

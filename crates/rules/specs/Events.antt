@@ -1,0 +1,114 @@
+-- The events as the rules read them: a letter, a place (variable or lock) and a value.
+use Prim.Native.Nat.{ℕ}
+use mathlib.Core.Bool.{Bool, true, false, _&&_, _||_}
+use mathlib.Core.List.{List, [], _∷_}
+use lib.Dec.{eqb}
+use lib.IntN.{ℤ, pos, negsuc}
+use Rattle.rules.specs.declared.Kind.{Kind}
+use Rattle.rules.specs.declared.Kind.the-variants.{Use, Assign, Load, Store, Read, Write, Lock, Unlock, PrescientStore, PrescientAssign}
+use Rattle.rules.specs.declared.Event.{Event}
+
+-- the letter bytes of the ten kinds
+abbrev pub A : ℕ
+A = 65
+
+abbrev pub B : ℕ
+B = 66
+
+abbrev pub K : ℕ
+K = 75
+
+abbrev pub L : ℕ
+L = 76
+
+abbrev pub N : ℕ
+N = 78
+
+abbrev pub P : ℕ
+P = 80
+
+abbrev pub R : ℕ
+R = 82
+
+abbrev pub S : ℕ
+S = 83
+
+abbrev pub U : ℕ
+U = 85
+
+abbrev pub W : ℕ
+W = 87
+
+abbrev pub letter : Kind → ℕ
+letter (Use v x) = U
+letter (Assign v x) = A
+letter (Load v x) = L
+letter (Store v x) = S
+letter (Read v x) = R
+letter (Write v x) = W
+letter (Lock l) = K
+letter (Unlock l) = N
+letter (PrescientStore v x) = P
+letter (PrescientAssign v x) = B
+
+-- the variable of an event; of a lock event, the lock
+abbrev pub place : Kind → ℕ
+place (Use v x) = v
+place (Assign v x) = v
+place (Load v x) = v
+place (Store v x) = v
+place (Read v x) = v
+place (Write v x) = v
+place (Lock l) = l
+place (Unlock l) = l
+place (PrescientStore v x) = v
+place (PrescientAssign v x) = v
+
+-- the value of an event; a lock event has none, and 0 stands here
+abbrev pub value : Kind → ℤ
+value (Use v x) = x
+value (Assign v x) = x
+value (Load v x) = x
+value (Store v x) = x
+value (Read v x) = x
+value (Write v x) = x
+value (Lock l) = pos 0
+value (Unlock l) = pos 0
+value (PrescientStore v x) = x
+value (PrescientAssign v x) = x
+
+-- n is one of these numbers
+abbrev pub among : List ℕ → ℕ → Bool
+among [] n = false
+among (k ∷ ks) n = eqb k n || among ks n
+
+-- e is an event with one of these letters
+unfoldable pub is : List ℕ → Event → Bool
+is ks e = among ks (letter (e .kind))
+
+-- e is T's
+unfoldable pub of : ℕ → Event → Bool
+of t e = eqb (e .thread) t
+
+-- e is on V, or on lock V
+unfoldable pub on : ℕ → Event → Bool
+on v e = eqb (place (e .kind)) v
+
+-- a lock event: its place is a lock, and it has no value
+unfoldable pub onLock : Event → Bool
+onLock e = is (K ∷ N ∷ []) e
+
+-- e locks: what T locks and unlocks is read here alone
+unfoldable pub locks : Event → Bool
+locks e = is (K ∷ []) e
+
+-- e unlocks
+unfoldable pub unlocks : Event → Bool
+unlocks e = is (N ∷ []) e
+
+-- the same whole number
+unfoldable pub eqZ : ℤ → ℤ → Bool
+eqZ (pos m) (pos n) = eqb m n
+eqZ (pos m) (negsuc n) = false
+eqZ (negsuc m) (pos n) = false
+eqZ (negsuc m) (negsuc n) = eqb m n

@@ -1,0 +1,52 @@
+-- The limits of document 01, each named once.
+use Prim.Native.Nat.{ℕ, _+_, _≤_, _<_}
+use mathlib.Core.Bool.{Bool, true, false, cond, _&&_}
+use lib.Dec.{ltb, leb}
+use mir.Syntax.{Width, w32}
+use Rattle.rules.specs.declared.Event.{Event}
+use Rattle.rules.specs.declared.Counts.{Counts}
+use Rattle.rules.specs.Events.{place, onLock}
+
+-- the most threads, variables, locks and events of a course, and the number of the refusal of one event more
+pub record Limits : Type 0 where
+  pub threads : ℕ
+  pub variables : ℕ
+  pub locks : ℕ
+  pub events : ℕ
+  pub excess : ℕ
+
+-- 9. 2,000 events are already in.
+abbrev pub full : Limits
+full = record { threads = 8; variables = 16; locks = 8; events = 2000; excess = 9 }
+
+-- limits that are nowhere above the full ones
+pub record UpToFull (m : Limits) : Type 0 where
+  pub threads : m .threads ≤ full .threads
+  pub variables : m .variables ≤ full .variables
+  pub locks : m .locks ≤ full .locks
+  pub events : m .events ≤ full .events
+  pub excess : 0 < m .excess
+
+-- At most 8 outstanding reads and 8 outstanding stores for each thread and variable.
+abbrev pub most : ℕ
+most = 8
+
+-- Line 1 is the head, line 2 the guards; then the event lines.
+abbrev pub firstLine : ℕ
+firstLine = 3
+
+-- the line of the event that comes after n events
+abbrev pub lineAfter : ℕ → ℕ
+lineAfter n = n + firstLine
+
+-- A value is a signed number of 32 bits.
+abbrev pub valueWidth : Width
+valueWidth = w32
+
+-- `H t v l`: threads 1 to 8, variables 1 to 16, locks 0 to 8.
+unfoldable pub allowed : Limits → Counts → Bool
+allowed m h = leb 1 (h .threads) && leb (h .threads) (m .threads) && leb 1 (h .variables) && leb (h .variables) (m .variables) && leb (h .locks) (m .locks)
+
+-- 5. Thread, variable or lock not declared.
+unfoldable pub declared : Counts → Event → Bool
+declared h e = ltb (e .thread) (h .threads) && ltb (place (e .kind)) (cond (onLock e) (h .locks) (h .variables))

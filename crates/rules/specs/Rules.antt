@@ -1,0 +1,230 @@
+-- Document 01, the refusals 5 and 9 to 19, the table of rows, and the verdict over a list of events. The rules speak of the
+-- words; `wordsOf` takes the words from a list of earlier events. A caller's state is read by the same rules, with its own
+-- contents for the words.
+use Prim.Native.Nat.{ℕ, zero, suc, _<_}
+use mathlib.Core.Path.{_≡_}
+use mathlib.Core.Bool.{Bool, true, false, not, cond, _&&_, _||_}
+use mathlib.Core.List.{List, [], _∷_, _++_, reverse}
+use lib.Dec.{T, eqb, ltb, leb}
+use lib.IntN.{ℤ, pos}
+use lib.ListN.{length}
+use Rattle.rules.specs.declared.Event.{Event}
+use Rattle.rules.specs.declared.Slot.{Slot}
+use Rattle.rules.specs.declared.Counts.{Counts}
+use Rattle.rules.specs.Events.{A, B, K, L, N, P, R, S, U, W, letter, place, value, is, eqZ}
+use Rattle.rules.specs.Limits.{Limits, most, lineAfter, declared}
+use Rattle.rules.specs.Words.{first}
+use Rattle.rules.specs.Words as Earlier
+
+-- the words that the rules use, for each thread and variable (or lock)
+pub record Words : Type 0 where
+  pub events : ℕ
+  pub copy : ℕ → ℕ → ℤ
+  pub fresh : ℕ → ℕ → Bool
+  pub pending : ℕ → ℕ → Bool
+  pub announced : ℕ → ℕ → ℤ
+  pub usable : ℕ → ℕ → Bool
+  pub reads : ℕ → ℕ → List Slot
+  pub stores : ℕ → ℕ → List Slot
+  pub lastWrite : ℕ → ℕ → ℕ
+  pub lastLock : ℕ → ℕ
+  pub depth : ℕ → ℕ → ℕ
+  pub main : ℕ → ℤ
+
+unfoldable pub wordsOf : List Event → Words
+wordsOf es = record {
+  events = length es;
+  copy = λ t v. Earlier.copy t v es;
+  fresh = λ t v. Earlier.fresh t v es;
+  pending = λ t v. Earlier.pending t v es;
+  announced = λ t v. Earlier.announced t v es;
+  usable = λ t v. Earlier.usable t v es;
+  reads = λ t v. Earlier.reads t v es;
+  stores = λ t v. Earlier.stores t v es;
+  lastWrite = λ t v. Earlier.lastWrite t v es;
+  lastLock = λ t. Earlier.lastLock t es;
+  depth = λ t l. Earlier.depth t l es;
+  main = λ v. Earlier.main v es;
+}
+
+-- f holds of a number below n
+unfoldable pub some : ℕ → (ℕ → Bool) → Bool
+some zero f = false
+some (suc n) f = f n || some n f
+
+abbrev pub none? : List Slot → Bool
+none? [] = true
+none? (s ∷ ss) = false
+
+-- ---- the refusals 10 to 19, of event e after the words w. e's thread is T, `loc e` its variable V or its lock
+
+abbrev pub loc : Event → ℕ
+loc e = place (e .kind)
+
+-- T has it on some variable: a declared one
+abbrev pub onSome : Counts → (ℕ → ℕ → Bool) → Event → Bool
+onSome h f e = some (h .variables) (λ v. f (e .thread) v)
+
+-- Held by T: more K than N by T on that lock.
+abbrev pub held : Words → ℕ → ℕ → Bool
+held w t l = ltb 0 (w .depth t l)
+
+-- 10. No partner: L without an outstanding read, W without an outstanding store, B when nothing is owed.
+unfoldable pub noPartner : Words → Event → Bool
+noPartner w e =
+    is (L ∷ []) e && none? (w .reads (e .thread) (loc e))
+    || is (W ∷ []) e && none? (w .stores (e .thread) (loc e))
+    || is (B ∷ []) e && not (w .pending (e .thread) (loc e))
+
+-- 11. Lock held by another thread.
+unfoldable pub lockTaken : Counts → Words → Event → Bool
+lockTaken h w e = is (K ∷ []) e && some (h .threads) (λ t. not (eqb t (e .thread)) && held w t (loc e))
+
+-- 12. Unlock of a lock that T does not hold.
+unfoldable pub notHeld : Words → Event → Bool
+notHeld w e = is (N ∷ []) e && not (held w (e .thread) (loc e))
+
+-- 13. An owed assign bars it: K while T owes on some variable; L, S, P on V while T owes on V.
+unfoldable pub pendingBars : Counts → Words → Event → Bool
+pendingBars h w e =
+    is (K ∷ []) e && onSome h (w .pending) e
+    || is (L ∷ S ∷ P ∷ []) e && w .pending (e .thread) (loc e)
+
+-- 14. Store without a fresh assign.
+unfoldable pub notFresh : Words → Event → Bool
+notFresh w e = is (S ∷ []) e && not (w .fresh (e .thread) (loc e))
+
+-- 15. Fresh assign not stored: L on V; N while T has a fresh assign on some variable.
+unfoldable pub notStored : Counts → Words → Event → Bool
+notStored h w e =
+    is (L ∷ []) e && w .fresh (e .thread) (loc e)
+    || is (N ∷ []) e && onSome h (w .fresh) e
+
+-- L's read, the oldest outstanding one, came before a write of T on V
+unfoldable pub readBeforeWrite : Words → ℕ → ℕ → Bool
+readBeforeWrite w t v = ltb (first (w .reads t v) .position) (w .lastWrite t v)
+
+-- N's test: T has an outstanding store on V. The syllabus counts an early store here like the others.
+unfoldable pub unwritten : Words → ℕ → ℕ → Bool
+unwritten w t v = not (none? (w .stores t v))
+
+-- 16. Store not written: L with an outstanding store of T on V, or whose read came before a write of T on V; N while T has an outstanding store.
+unfoldable pub notWritten : Counts → Words → Event → Bool
+notWritten h w e =
+    is (L ∷ []) e && (not (none? (w .stores (e .thread) (loc e))) || readBeforeWrite w (e .thread) (loc e))
+    || is (N ∷ []) e && onSome h (unwritten w) e
+
+-- 17. Copy not usable.
+unfoldable pub notUsable : Words → Event → Bool
+notUsable w e = is (U ∷ S ∷ []) e && not (w .usable (e .thread) (loc e))
+
+-- 18. Value differs: U and S from the copy, L from its read, W from its store, R from main memory, B from the announced value.
+unfoldable pub differs : Words → Event → Bool
+differs w e =
+    is (U ∷ S ∷ []) e && not (eqZ (value (e .kind)) (w .copy (e .thread) (loc e)))
+    || is (L ∷ []) e && not (eqZ (value (e .kind)) (first (w .reads (e .thread) (loc e)) .value))
+    || is (W ∷ []) e && not (eqZ (value (e .kind)) (first (w .stores (e .thread) (loc e)) .value))
+    || is (R ∷ []) e && not (eqZ (value (e .kind)) (w .main (loc e)))
+    || is (B ∷ []) e && not (eqZ (value (e .kind)) (w .announced (e .thread) (loc e)))
+
+-- 19. Eight outstanding already: R, or S and P.
+unfoldable pub eightAlready : Words → Event → Bool
+eightAlready w e =
+    is (R ∷ []) e && leb most (length (w .reads (e .thread) (loc e)))
+    || is (S ∷ P ∷ []) e && leb most (length (w .stores (e .thread) (loc e)))
+
+-- e breaks the rule with this number
+unfoldable pub breaks : ℕ → Counts → Words → Event → Bool
+breaks n h w e =
+    cond (eqb n 10) (noPartner w e)
+    (cond (eqb n 11) (lockTaken h w e)
+    (cond (eqb n 12) (notHeld w e)
+    (cond (eqb n 13) (pendingBars h w e)
+    (cond (eqb n 14) (notFresh w e)
+    (cond (eqb n 15) (notStored h w e)
+    (cond (eqb n 16) (notWritten h w e)
+    (cond (eqb n 17) (notUsable w e)
+    (cond (eqb n 18) (differs w e)
+    (cond (eqb n 19) (eightAlready w e) false)))))))))
+
+-- ---- the ten rows
+
+pub record Row : Type 0 where
+  pub kind : ℕ
+  pub checks : List ℕ
+
+abbrev row : ℕ → List ℕ → Row
+row k ns = record { kind = k; checks = ns }
+
+-- What is checked hangs on the kind, and the ten rows of this table are fixed.
+unfoldable pub rows : List Row
+rows =
+    row U (17 ∷ 18 ∷ [])
+    ∷ row A []
+    ∷ row L (10 ∷ 13 ∷ 15 ∷ 16 ∷ 18 ∷ [])
+    ∷ row S (13 ∷ 14 ∷ 17 ∷ 18 ∷ 19 ∷ [])
+    ∷ row R (18 ∷ 19 ∷ [])
+    ∷ row W (10 ∷ 18 ∷ [])
+    ∷ row K (11 ∷ 13 ∷ [])
+    ∷ row N (12 ∷ 15 ∷ 16 ∷ [])
+    ∷ row P (13 ∷ 19 ∷ [])
+    ∷ row B (10 ∷ 18 ∷ [])
+    ∷ []
+
+-- the checks of the row of this letter
+unfoldable pub rowIn : List Row → ℕ → List ℕ
+rowIn [] k = []
+rowIn (r ∷ rs) k = cond (eqb (r .kind) k) (r .checks) (rowIn rs k)
+
+-- the first of these rules that e breaks; 0 where it breaks none
+unfoldable pub firstBroken : List ℕ → Counts → Words → Event → ℕ
+firstBroken [] h w e = 0
+firstBroken (n ∷ ns) h w e = cond (breaks n h w e) n (firstBroken ns h w e)
+
+-- the first rule of its row that e breaks; 0 where it breaks none
+unfoldable pub judge : Counts → Words → Event → ℕ
+judge h w e = firstBroken (rowIn rows (letter (e .kind))) h w e
+
+-- 9, 5, then the row; 0: accepted. (4 comes before these, where a line is no event.)
+unfoldable pub answer : Limits → Counts → Words → Event → ℕ
+answer m h w e = cond (leb (m .events) (w .events)) (m .excess) (cond (declared h e) (judge h w e) 5)
+
+-- ---- over a list of events
+
+-- the refusal of e after these earlier events, the latest first; 0: accepted
+unfoldable pub verdict : Limits → Counts → List Event → Event → ℕ
+verdict m h es e = answer m h (wordsOf es) e
+
+-- no event of the list, the latest first, is refused after those before it
+unfoldable pub Accepted : Limits → Counts → List Event → Bool
+Accepted m h [] = true
+Accepted m h (e ∷ es) = eqb (verdict m h es e) 0 && Accepted m h es
+
+-- a whole trace, its events in their own order: accepted, or the refusal of the first bad event: number and line
+pub data Marked : Type 0 where
+  accepted : Marked
+  refused : ℕ → ℕ → Marked
+
+-- refused with this number, unless it is 0
+abbrev pub unless : ℕ → ℕ → Marked → Marked
+unless zero line m = m
+unless (suc n) line m = refused (suc n) line
+
+-- the events es are earlier, the latest first
+unfoldable pub markFrom : Limits → Counts → List Event → List Event → Marked
+markFrom m h es [] = accepted
+markFrom m h es (e ∷ rest) = let later = markFrom m h (e ∷ es) rest in unless (verdict m h es e) (lineAfter (length es)) later
+
+unfoldable pub mark : Limits → Counts → List Event → Marked
+mark m h events = markFrom m h [] events
+
+-- the first bad event of a trace: it comes behind accepted events and is refused with this number and line
+pub record FirstBad (m : Limits) (c : Counts) (events : List Event) (number line : ℕ) : Type 0 where
+  pub before : List Event
+  pub event : Event
+  pub rest : List Event
+  pub place : events ≡ before ++ (event ∷ rest)
+  pub clean : T (Accepted m c (reverse before))
+  pub number-is : verdict m c (reverse before) event ≡ number
+  pub wrong : 0 < number
+  pub line-is : line ≡ lineAfter (length before)

@@ -1,0 +1,131 @@
+-- Document 01, "Short traces": the rows marked as proved, one table, and the 1-2-3 run. `proofs/ShortTraces.antt` proves the
+-- table by one theorem, and that the run is accepted.
+use Prim.Native.Nat.{ℕ, zero, suc}
+use mathlib.Core.Path.{_≡_, refl}
+use mathlib.Core.List.{List, [], _∷_, map, reverse}
+use mathlib.Core.Option.{Option, none, some}
+use lib.IntN.{ℤ, pos}
+use Rattle.rules.specs.declared.Kind.{Kind}
+use Rattle.rules.specs.declared.Kind.the-variants.{Use, Assign, Load, Store, Read, Write, Lock, Unlock, PrescientStore, PrescientAssign}
+use Rattle.rules.specs.declared.Event.{Event}
+use Rattle.rules.specs.declared.Counts.{Counts}
+use Rattle.rules.specs.Limits.{full, lineAfter}
+use Rattle.rules.specs.Words.{main}
+use Rattle.rules.specs.Rules.{Marked, accepted, refused, mark}
+
+-- the line of an event plays no part in the rules
+unfoldable pub ev : ℕ → Kind → Event
+ev t k = record { thread = t; line = 0; kind = k }
+
+unfoldable pub U : ℕ → ℕ → ℕ → Event
+U t v x = ev t (Use v (pos x))
+
+unfoldable pub A : ℕ → ℕ → ℕ → Event
+A t v x = ev t (Assign v (pos x))
+
+unfoldable pub L : ℕ → ℕ → ℕ → Event
+L t v x = ev t (Load v (pos x))
+
+unfoldable pub S : ℕ → ℕ → ℕ → Event
+S t v x = ev t (Store v (pos x))
+
+unfoldable pub R : ℕ → ℕ → ℕ → Event
+R t v x = ev t (Read v (pos x))
+
+unfoldable pub W : ℕ → ℕ → ℕ → Event
+W t v x = ev t (Write v (pos x))
+
+unfoldable pub P : ℕ → ℕ → ℕ → Event
+P t v x = ev t (PrescientStore v (pos x))
+
+unfoldable pub B : ℕ → ℕ → ℕ → Event
+B t v x = ev t (PrescientAssign v (pos x))
+
+unfoldable pub K : ℕ → ℕ → Event
+K t l = ev t (Lock l)
+
+unfoldable pub N : ℕ → ℕ → Event
+N t l = ev t (Unlock l)
+
+-- Two threads, variables and locks.
+abbrev pub two : Counts
+two = record { threads = 2; variables = 2; locks = 2 }
+
+-- the refusal of event n, from 1
+abbrev pub bad : ℕ → ℕ → Marked
+bad number zero = accepted
+bad number (suc n) = refused number (lineAfter n)
+
+-- a row of the table: the events, the verdict, and main memory of variable 0 where the row says it
+pub record Trace : Type 0 where
+  pub events : List Event
+  pub marked : Marked
+  pub main0 : Option ℤ
+
+unfoldable pub trace : List Event → Marked → Trace
+trace es m = record { events = es; marked = m; main0 = none }
+
+unfoldable pub with-main : List Event → Marked → ℤ → Trace
+with-main es m x = record { events = es; marked = m; main0 = some x }
+
+unfoldable pub traces : List Trace
+traces =
+    trace [] accepted
+    ∷ trace (U 0 0 0 ∷ []) (bad 17 1)
+    ∷ trace (R 0 0 0 ∷ L 0 0 0 ∷ U 0 0 0 ∷ []) accepted
+    ∷ trace (R 0 0 0 ∷ K 0 0 ∷ L 0 0 0 ∷ U 0 0 0 ∷ []) (bad 17 4)
+    ∷ trace (R 0 0 0 ∷ A 0 0 5 ∷ L 0 0 0 ∷ []) (bad 15 3)
+    ∷ trace (R 0 0 0 ∷ A 0 0 5 ∷ S 0 0 5 ∷ W 0 0 5 ∷ L 0 0 0 ∷ []) (bad 16 5)
+    ∷ trace (A 0 0 5 ∷ S 0 0 5 ∷ S 0 0 5 ∷ []) (bad 14 3)
+    ∷ trace (A 0 0 5 ∷ K 0 0 ∷ S 0 0 5 ∷ []) (bad 17 3)
+    ∷ trace (K 0 0 ∷ A 0 0 5 ∷ S 0 0 5 ∷ N 0 0 ∷ []) (bad 16 4)
+    ∷ with-main (P 0 0 5 ∷ W 0 0 5 ∷ B 0 0 5 ∷ []) accepted (pos 5)
+    ∷ trace (P 0 0 5 ∷ K 0 0 ∷ []) (bad 13 2)
+    ∷ trace (K 0 0 ∷ K 0 0 ∷ N 0 0 ∷ K 1 0 ∷ []) (bad 11 4)
+    ∷ trace (K 0 0 ∷ P 0 0 5 ∷ N 0 0 ∷ []) (bad 16 3)
+    ∷ []
+
+-- the same row, as the definitions give it
+unfoldable pub computed : Trace → Trace
+computed r = record {
+  events = r .events;
+  marked = mark full two (r .events);
+  main0 = elim (r .main0) [ none ↦ none | some x ↦ some (main 0 (reverse (r .events))) ];
+}
+
+-- ---- the 1-2-3 run of document 000, section 2.3
+-- Thread 0 is its first thread, variable 0 is x, variable 1 is y, lock 0 is o. The locals a, b and c make no events: thread 0
+-- uses 1, 2 and 3.
+
+-- Two threads, two variables, one lock.
+abbrev pub oneTwoThreeCounts : Counts
+oneTwoThreeCounts = record { threads = 2; variables = 2; locks = 1 }
+
+unfoldable pub oneTwoThree : List Event
+oneTwoThree =
+    K 0 0
+    ∷ A 0 1 2
+    ∷ S 0 1 2
+    ∷ W 0 1 2
+    ∷ N 0 0
+    ∷ K 1 0
+    ∷ A 1 1 3
+    ∷ S 1 1 3
+    ∷ W 1 1 3
+    -- the 3 that is used last is read here, before 100 is written
+    ∷ R 0 1 3
+    ∷ A 1 1 100
+    ∷ S 1 1 100
+    ∷ W 1 1 100
+    ∷ N 1 0
+    ∷ A 1 0 1
+    ∷ S 1 0 1
+    ∷ W 1 0 1
+    ∷ R 0 0 1
+    ∷ L 0 0 1
+    ∷ U 0 0 1
+    -- the assign of the first section; no load comes before it
+    ∷ U 0 1 2
+    ∷ L 0 1 3
+    ∷ U 0 1 3
+    ∷ []

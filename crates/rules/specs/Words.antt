@@ -1,0 +1,118 @@
+-- Document 01, "Words about earlier events". The list holds the earlier events, the latest first; an event's position is
+-- its number in the trace, from 1, and is the length of the list that begins with it. 0 stands for no position.
+use Prim.Native.Nat.{ℕ, zero, suc, _-_}
+use mathlib.Core.Bool.{Bool, true, false, not, cond, _&&_, _||_}
+use mathlib.Core.List.{List, [], _∷_, _++_}
+use mathlib.Core.Option.{Option, none, some}
+use lib.Dec.{eqb, ltb}
+use lib.IntN.{ℤ, pos}
+use lib.ListN.{length, drop}
+use Rattle.rules.specs.declared.Event.{Event}
+use Rattle.rules.specs.declared.Slot.{Slot}
+use Rattle.rules.specs.Events.{A, B, L, P, R, S, W, value, is, of, on, locks, unlocks}
+
+-- ---- what the words are made of
+
+-- the latest event that passes the test
+unfoldable pub latest : (Event → Bool) → List Event → Option Event
+latest p [] = none
+latest p (e ∷ es) = cond (p e) (some e) (latest p es)
+
+-- its value; 0 where there is none
+unfoldable pub valueIn : Option Event → ℤ
+valueIn none = pos 0
+valueIn (some e) = value (e .kind)
+
+-- there is one, and it has one of these letters
+unfoldable pub letterIn : List ℕ → Option Event → Bool
+letterIn ks none = false
+letterIn ks (some e) = is ks e
+
+-- the position of the latest event that passes the test; 0 where there is none
+unfoldable pub lastAt : (Event → Bool) → List Event → ℕ
+lastAt p [] = 0
+lastAt p (e ∷ es) = cond (p e) (suc (length es)) (lastAt p es)
+
+-- how many pass the test
+unfoldable pub count : (Event → Bool) → List Event → ℕ
+count p [] = 0
+count p (e ∷ es) = cond (p e) (suc (count p es)) (count p es)
+
+-- value and position of e, which comes after es
+abbrev pub slot : List Event → Event → Slot
+slot es e = record { value = value (e .kind); position = suc (length es) }
+
+-- those that pass the test, the oldest first
+unfoldable pub inOrder : (Event → Bool) → List Event → List Slot
+inOrder p [] = []
+inOrder p (e ∷ es) = inOrder p es ++ cond (p e) (slot es e ∷ []) []
+
+-- the oldest; value and position 0 where there is none
+abbrev pub first : List Slot → Slot
+first [] = record { value = pos 0; position = 0 }
+first (s ∷ ss) = s
+
+-- e is T's event on V with one of these letters
+unfoldable pub by : List ℕ → ℕ → ℕ → Event → Bool
+by ks t v e = is ks e && (of t e && on v e)
+
+-- T locks, on whichever lock
+unfoldable pub locksBy : ℕ → Event → Bool
+locksBy t e = locks e && of t e
+
+-- T locks l
+unfoldable pub acquires : ℕ → ℕ → Event → Bool
+acquires t l e = locks e && (of t e && on l e)
+
+-- T unlocks l
+unfoldable pub releases : ℕ → ℕ → Event → Bool
+releases t l e = unlocks e && (of t e && on l e)
+
+-- ---- the words, for thread t and variable v
+
+-- The n-th load pairs with the n-th read of T on V, the n-th store (S or P) with the n-th write. Unpaired reads and stores are outstanding.
+unfoldable pub reads : ℕ → ℕ → List Event → List Slot
+reads t v es = drop (count (by (L ∷ []) t v) es) (inOrder (by (R ∷ []) t v) es)
+
+unfoldable pub stores : ℕ → ℕ → List Event → List Slot
+stores t v es = drop (count (by (W ∷ []) t v) es) (inOrder (by (S ∷ P ∷ []) t v) es)
+
+-- Copy: the value of T's latest A, B or L on V.
+unfoldable pub copy : ℕ → ℕ → List Event → ℤ
+copy t v es = valueIn (latest (by (A ∷ B ∷ L ∷ []) t v) es)
+
+-- Fresh: the latest of A, B, S is A.
+unfoldable pub fresh : ℕ → ℕ → List Event → Bool
+fresh t v es = letterIn (A ∷ []) (latest (by (A ∷ B ∷ S ∷ []) t v) es)
+
+-- Owed: the latest of P, B is P. (A prescient store whose assign is pending.)
+unfoldable pub pending : ℕ → ℕ → List Event → Bool
+pending t v es = letterIn (P ∷ []) (latest (by (P ∷ B ∷ []) t v) es)
+
+-- the announced value: that of the latest P
+unfoldable pub announced : ℕ → ℕ → List Event → ℤ
+announced t v es = valueIn (latest (by (P ∷ []) t v) es)
+
+-- the position of T's last K, on whichever lock; 0 is the start
+unfoldable pub lastLock : ℕ → List Event → ℕ
+lastLock t es = lastAt (locksBy t) es
+
+-- the position of T's last write on V
+unfoldable pub lastWrite : ℕ → ℕ → List Event → ℕ
+lastWrite t v es = lastAt (by (W ∷ []) t v) es
+
+-- Usable: since T's last K, on whichever lock (or the start), there is an A or B of V, or an L whose read came after that K.
+-- (The read of a load is the oldest that is outstanding before it.)
+unfoldable pub usable : ℕ → ℕ → List Event → Bool
+usable t v [] = false
+usable t v (e ∷ es) =
+    not (locksBy t e)
+    && (by (A ∷ B ∷ []) t v e || by (L ∷ []) t v e && ltb (lastLock t es) (first (reads t v es) .position) || usable t v es)
+
+-- how many more K than N by T on the lock. Held by T: more K than N by T on that lock.
+unfoldable pub depth : ℕ → ℕ → List Event → ℕ
+depth t l es = count (acquires t l) es - count (releases t l) es
+
+-- Main memory of V: the value of the latest W on V, by any thread; 0 before one.
+unfoldable pub main : ℕ → List Event → ℤ
+main v es = valueIn (latest (λ e. is (W ∷ []) e && on v e) es)

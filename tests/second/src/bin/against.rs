@@ -1,0 +1,28 @@
+//! Marker A against a program that reads a paper from standard input and prints its listing:
+//! `against PROGRAM [RANDOM [LARGE [SHORT]]]`. The last line is `N passed, M failed`.
+
+use second::compare::{run, Size};
+use std::io::Write;
+use std::process::{Command, Stdio};
+
+fn listing(program: &str, paper: &[u8]) -> String {
+    let mut child = Command::new(program)
+        .stdin(Stdio::piped())
+        .stdout(Stdio::piped())
+        .stderr(Stdio::null())
+        .spawn()
+        .expect("the program starts");
+    // a program may stop reading early
+    let _ = child.stdin.take().expect("its input").write_all(paper);
+    let output = child.wait_with_output().expect("its output");
+    String::from_utf8_lossy(&output.stdout).into_owned()
+}
+
+fn main() {
+    let mut args = std::env::args().skip(1);
+    let program = args.next().expect("a program");
+    let numbers: Vec<u64> = args.map(|a| a.parse().expect("a number")).collect();
+    let arg = |i: usize, usual: u64| numbers.get(i).copied().unwrap_or(usual);
+    let size = Size { random: arg(0, 2_000), large: arg(1, 50), aimed: 4, short: arg(2, 2) as usize };
+    std::process::exit(i32::from(!run(Box::new(move |paper| listing(&program, paper)), size)));
+}
