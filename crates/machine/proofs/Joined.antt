@@ -23,7 +23,7 @@ use Rattle.machine.specs.declared.Answer.{Answer}
 use Rattle.machine.specs.State.{noSlot, noHold, noMain, blank, queued, cellAt, readsAt, storesAt, depthOf, wordsIn}
 use Rattle.machine.specs.Step.{nextCell, readAfter, storeAfter, holdAfter, mainAfter, lockedAfter, varOf, lockOf, behind, stepState}
 use Rattle.machine.specs.Range.{inRange}
-use Rattle.machine.specs.Stepped.{refused, stepped}
+use Rattle.machine.specs.Stepped.{unchanged, stepped}
 use Rattle.machine.specs.Parts.{Within, allOf, placesOf, cellPlace, slotPlace, oldestOf, othersHold, useFacts, loadFacts, storeFacts, readFacts, writeFacts, lockFacts, unlockFacts, prescientStoreFacts, prescientAssignFacts, factsFor, table, kindOf, broken, firstOf, ruleFor, someOf, seenOf, holdFor}
 use Rattle.machine.proofs.Rings.{queued-length, queued-none, queued-first}
 use Rattle.machine.proofs.StepWords.{Shape, holder-eqb}
@@ -286,15 +286,15 @@ asked s e r d =
     let h : Room (s .counts) = room full (s .counts) up-to-full (f .counts) in
     record { within = within (s .counts) e h d; threads = h .threads; variables = h .variables; depth = λ l k. f .hold l k .depth }
 
-pub step-out : (s : State) (e : Event) → inRange full s ≡ false → refused s OutOfRange ≡ stepped full s e
+pub step-out : (s : State) (e : Event) → inRange full s ≡ false → unchanged s OutOfRange ≡ stepped full s e
 unfolding stepped
 step-out s e r = rw r refl
 
-pub step-limit : (s : State) (e : Event) (line : ℕ) → inRange full s ≡ true → 2000 ≤ s .events → line ≡ s .events + 3 → refused s (EventLimit line) ≡ stepped full s e
+pub step-limit : (s : State) (e : Event) (line : ℕ) → inRange full s ≡ true → 2000 ≤ s .events → line ≡ s .events + 3 → unchanged s (EventLimit line) ≡ stepped full s e
 unfolding stepped
 step-limit s e line r h q = rw (r, le-leb 2000 (s .events) h, q) refl
 
-pub step-undeclared : (s : State) (e : Event) (line : ℕ) → inRange full s ≡ true → s .events < 2000 → declared (s .counts) e ≡ false → line ≡ s .events + 3 → refused s (Undeclared line) ≡ stepped full s e
+pub step-undeclared : (s : State) (e : Event) (line : ℕ) → inRange full s ≡ true → s .events < 2000 → declared (s .counts) e ≡ false → line ≡ s .events + 3 → unchanged s (Undeclared line) ≡ stepped full s e
 unfolding stepped
 step-undeclared s e line r h d q = rw (r, lt-leb 2000 (s .events) h, d, q) refl
 
@@ -304,7 +304,7 @@ rule-is s e n rule a en er = er ∙ ap (λ (x : Seen). ruleFor x (e .thread) (e 
 
 pub step-broken : (s : State) (e : Event) (line : ℕ) (n : Seen) (rule : ℕ) → inRange full s ≡ true → s .events < 2000 → declared (s .counts) e ≡ true
     → n ≡ seenOf s (e .thread) (e .kind) → rule ≡ ruleFor n (e .thread) (e .kind) → (rule ≡ 0 → ⊥) → line ≡ s .events + 3
-    → refused s (Broken rule line) ≡ stepped full s e
+    → unchanged s (Broken rule line) ≡ stepped full s e
 unfolding stepped
 step-broken s e line n rule r h d en er z q =
     rw (r, lt-leb 2000 (s .events) h, d, ← (rule-is s e n rule (asked s e r d) en er), ne-eqb rule 0 z, q) refl

@@ -14,7 +14,7 @@ use Rattle.machine.specs.declared.Answer.{Answer}
 use Rattle.machine.specs.State.{wordsIn, start}
 use Rattle.machine.specs.Range.{inRange}
 use Rattle.machine.specs.Step.{stepState, stateAfter}
-use Rattle.machine.specs.Stepped.{reported, refused as left, stepped, Stepping, onwards, steps}
+use Rattle.machine.specs.Stepped.{reported, unchanged, stepped, Stepping, onwards, steps}
 use Rattle.machine.specs.Follows.{Follows}
 use Rattle.machine.proofs.Kept.{in-range, range, kept}
 use Rattle.machine.proofs.StepWords.{Shape}
@@ -42,7 +42,7 @@ step-case m h es s u st e = subst (λ (a : Answer). caseOf m s e line (cond (leb
     line = lineAfter (length es)
 
     said : Bool → Bool → ℕ → ℕ → Answer
-    said a b n j = cond a (left s (EventLimit (lineAfter n))) (cond b (cond (eqb j 0) (record { verdict = Passed; state = stepState s e }) (left s (Broken j (lineAfter n)))) (left s (Undeclared (lineAfter n))))
+    said a b n j = cond a (unchanged s (EventLimit (lineAfter n))) (cond b (cond (eqb j 0) (record { verdict = Passed; state = stepState s e }) (unchanged s (Broken j (lineAfter n)))) (unchanged s (Undeclared (lineAfter n))))
 
     opened : stepped m s e ≡ said (leb (m .events) (s .events)) (declared (s .counts) e) (s .events) (judge (s .counts) (wordsIn s) e)
     opened = unfold stepped in rw (in-range m s (st .range)) refl
@@ -53,7 +53,7 @@ step-case m h es s u st e = subst (λ (a : Answer). caseOf m s e line (cond (leb
         ∙ ap (λ (c : Counts). said (leb (m .events) (length es)) (declared c e) (length es) (judge (s .counts) (wordsIn s) e)) (st .counts)
         ∙ ap (λ (j : ℕ). said (leb (m .events) (length es)) (declared h e) (length es) j) (judge-same m h es s st e)
 
-    excess : (n : ℕ) → n ≡ m .excess → 0 < n → caseOf m s e line n (left s (EventLimit line))
+    excess : (n : ℕ) → n ≡ m .excess → 0 < n → caseOf m s e line n (unchanged s (EventLimit line))
     excess zero q h = absurd (not-suc-le-zero h)
     excess (suc n) q h = (unfold reported in rw (← q) refl, refl)
 
@@ -71,6 +71,18 @@ step-report m h es s u st e = go (verdict m h es e) (step-case m h es s u st e)
     go : (n : ℕ) → caseOf m s e (lineAfter (length es)) n (stepped m s e) → reported m (stepped m s e .verdict) ≡ unless n (lineAfter (length es)) accepted
     go zero c = rw c (unfold reported in refl)
     go (suc n) c = c .0
+
+-- (i) the state after an accepted list of events says exactly the list's words, is in range, and its verdict on any next event is
+-- the list's
+pub record Simulates (m : Limits) (h : Counts) (es : List Event) (s : State) : Type 0 where
+  pub words : wordsIn s ≡ wordsOf es
+  pub in-range : inRange m s ≡ true
+  pub verdict : (e : Event) → reported m (stepped m s e .verdict) ≡ unless (verdict m h es e) (lineAfter (length es)) accepted
+
+pub simulation : (m : Limits) (h : Counts) (es : List Event) → UpToFull m → allowed m h ≡ true → T (Accepted m h es) → Simulates m h es (stateAfter h es)
+simulation m h es u ok a =
+    let st = stands m h es u ok a in
+    record { words = st .words; in-range = in-range m (stateAfter h es) (st .range); verdict = step-report m h es (stateAfter h es) u st }
 
 -- ---- a sequence of steps
 
@@ -136,12 +148,12 @@ unfolding stepped
 step-in-range m s e u sh r = rw r (go (leb (m .events) (s .events)) (declared (s .counts) e) (judge (s .counts) (wordsIn s) e) refl refl refl)
   where
     go : (a b : Bool) (j : ℕ) → leb (m .events) (s .events) ≡ a → declared (s .counts) e ≡ b → judge (s .counts) (wordsIn s) e ≡ j
-        → cond a (left s (EventLimit (lineAfter (s .events)))) (cond b (cond (eqb j 0) (record { verdict = Passed; state = stepState s e }) (left s (Broken j (lineAfter (s .events))))) (left s (Undeclared (lineAfter (s .events))))) .verdict ≡ Passed
-        → inRange m (cond a (left s (EventLimit (lineAfter (s .events)))) (cond b (cond (eqb j 0) (record { verdict = Passed; state = stepState s e }) (left s (Broken j (lineAfter (s .events))))) (left s (Undeclared (lineAfter (s .events))))) .state) ≡ true
+        → cond a (unchanged s (EventLimit (lineAfter (s .events)))) (cond b (cond (eqb j 0) (record { verdict = Passed; state = stepState s e }) (unchanged s (Broken j (lineAfter (s .events))))) (unchanged s (Undeclared (lineAfter (s .events))))) .verdict ≡ Passed
+        → inRange m (cond a (unchanged s (EventLimit (lineAfter (s .events)))) (cond b (cond (eqb j 0) (record { verdict = Passed; state = stepState s e }) (unchanged s (Broken j (lineAfter (s .events))))) (unchanged s (Undeclared (lineAfter (s .events))))) .state) ≡ true
     go true b j p q o v = absurd (subst Ok (sym v) tt)
     go false true zero p q o v = in-range m (stepState s e) (kept m s e u sh (range m s r) p q o)
     go false true (suc j) p q o v = absurd (subst Ok (sym (broken v)) tt)
       where
-        broken : cond (eqb (suc j) 0) (record { verdict = Passed; state = stepState s e }) (left s (Broken (suc j) (lineAfter (s .events)))) .verdict ≡ Passed → _≡_ {A = Verdict} (Broken (suc j) (lineAfter (s .events))) Passed
+        broken : cond (eqb (suc j) 0) (record { verdict = Passed; state = stepState s e }) (unchanged s (Broken (suc j) (lineAfter (s .events)))) .verdict ≡ Passed → _≡_ {A = Verdict} (Broken (suc j) (lineAfter (s .events))) Passed
         broken v = rw (ne-eqb (suc j) 0 (suc-ne-zero j)) at v
     go false false j p q o v = absurd (subst Ok (sym v) tt)

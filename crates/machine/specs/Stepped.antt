@@ -12,32 +12,32 @@ use Rattle.machine.specs.Range.{inRange}
 use Rattle.machine.specs.Step.{stepState}
 use Rattle.rules.specs.declared.Event.{Event}
 use Rattle.rules.specs.Limits.{Limits, lineAfter, declared}
-use Rattle.rules.specs.Rules.{judge, Marked, accepted, refused as turned}
+use Rattle.rules.specs.Rules.{judge, Marked, accepted, refused}
 
 -- the number and the line of each case. For one step the line is the events so far plus 3, and 0 for 8.
 unfoldable pub reported : Limits → Verdict → Marked
 reported m Accepted = accepted
-reported m OutOfRange = turned 8 0
-reported m (EventLimit line) = turned (m .excess) line
-reported m (Undeclared line) = turned 5 line
-reported m (Broken rule line) = turned rule line
+reported m OutOfRange = refused 8 0
+reported m (EventLimit line) = refused (m .excess) line
+reported m (Undeclared line) = refused 5 line
+reported m (Broken rule line) = refused rule line
 
 -- a refused step hands the state back as it was
-abbrev pub refused : State → Verdict → Answer
-refused s v = record { verdict = v; state = s }
+abbrev pub unchanged : State → Verdict → Answer
+unchanged s v = record { verdict = v; state = s }
 
 -- One step: 8, 9, 5, row. A state in range that no events reach is answered by the same rows, read from its own contents.
 unfoldable pub stepped : Limits → State → Event → Answer
 stepped m s e =
     cond (inRange m s)
     (cond (leb (m .events) (s .events))
-    (refused s (EventLimit (lineAfter (s .events))))
+    (unchanged s (EventLimit (lineAfter (s .events))))
     (cond (declared (s .counts) e)
     (cond (eqb (judge (s .counts) (wordsIn s) e) 0)
     (record { verdict = Accepted; state = stepState s e })
-    (refused s (Broken (judge (s .counts) (wordsIn s) e) (lineAfter (s .events)))))
-    (refused s (Undeclared (lineAfter (s .events))))))
-    (refused s OutOfRange)
+    (unchanged s (Broken (judge (s .counts) (wordsIn s) e) (lineAfter (s .events)))))
+    (unchanged s (Undeclared (lineAfter (s .events))))))
+    (unchanged s OutOfRange)
 
 -- steps over a list of events from a state, up to the first refusal: what is reported, and the state that is left
 pub record Stepping : Type 0 where

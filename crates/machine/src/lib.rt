@@ -11,7 +11,7 @@ ghost use Rattle.rules.specs.Limits.{full};
 ghost use Rattle.machine.specs.State.{noHold, depthOf, start};
 ghost use Rattle.machine.specs.Range.{holdOk, holdsOk, cellOk, cellsOk, readsOk, storesOk, inRange};
 ghost use Rattle.machine.specs.Step.{pushed, popped, nextCell, readAfter, storeAfter, mainAfter, lockedAfter, lockOf, stepState};
-ghost use Rattle.machine.specs.Stepped.{refused, stepped};
+ghost use Rattle.machine.specs.Stepped.{unchanged, stepped};
 ghost use Rattle.machine.specs.Parts.{
   placesOf,
   cellPlace,
@@ -1026,7 +1026,7 @@ pub struct Answer {
 }
 
 fn refuse(s: State, v: Verdict) -> Answer
-    ensures { λ r. ⌜ r ≡ refused s v ⌝ }
+    ensures { λ r. ⌜ r ≡ unchanged s v ⌝ }
 {
     Answer {
         verdict: v,
