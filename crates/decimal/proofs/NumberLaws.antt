@@ -1,0 +1,163 @@
+-- Laws of a number up to a byte: the scan of its digits, and what a leading zero and an empty field do.
+-- Assumes nothing.
+use mathlib.Core.Path.{_≡_, refl, sym, ap, _∙_}
+use mathlib.Core.Bool.{Bool, true, false}
+use mathlib.Core.List.{List, [], _∷_}
+use Prim.Native.Nat.{ℕ, zero, suc, _≤_, _<_, _+_, _-_, _*_, min}
+use native.Mathlib.Omega.{arith}
+use borrow.Author.Tests.{lt-ltb, le-ltb, eq-eqb, ne-eqb, ltb-true}
+use lib.Dec.{eqb, ltb}
+use lib.ListN.{length, getD, take, drop, drop-of-length-le}
+use lib.Seq.{getD-take, getD-drop, length-take-le}
+use Rattle.decimal.specs.declared.Natural.{Natural}
+use Rattle.decimal.specs.declared.Natural.the-variants as natural
+use Rattle.decimal.specs.Decimal.{isDigit, digitsFrom, naturalOf}
+use Rattle.lines.specs.Lines.{choose, before}
+use Rattle.lines.proofs.FieldLaws.{before-le}
+use Rattle.decimal.specs.declared.Reached.{Reached}
+use Rattle.decimal.specs.Decimal.{scan, nowhere, reached, numberUntil}
+use Rattle.decimal.proofs.ScanLaws.{scan-field}
+
+-- a byte that is no digit spoils a number
+digits-bad : (n i : ℕ) (f : List ℕ) → i < length f → isDigit (getD f i 0) ≡ false → digitsFrom n f ≡ natural.Bad
+unfolding digitsFrom
+digits-bad n i [] h e = absurd (omega arith)
+digits-bad n zero (x ∷ xs) h e = rw (e)
+digits-bad n (suc i) (x ∷ xs) h e = by (isDigit x) (digits-bad (n * 10 + (x - 48)) i xs (omega arith) e)
+  where
+    by : (q : Bool) → digitsFrom (n * 10 + (x - 48)) xs ≡ natural.Bad → choose q (digitsFrom (n * 10 + (x - 48)) xs) natural.Bad ≡ natural.Bad
+    by true r = r
+    by false r = refl
+
+pub bad-either : (p q : Bool) (n : Natural) → n ≡ natural.Bad → choose p natural.Bad (choose q natural.Bad n) ≡ natural.Bad
+bad-either true q n e = refl
+bad-either false true n e = refl
+bad-either false false n e = e
+
+pub natural-bad : (i : ℕ) (f : List ℕ) → i < length f → isDigit (getD f i 0) ≡ false → naturalOf f ≡ natural.Bad
+unfolding naturalOf
+natural-bad i f h e = bad-either (eqb (length f) 0) (choose (eqb (getD f 0 0) 48) (ltb 1 (length f)) false) (digitsFrom 0 f) (digits-bad 0 i f h e)
+
+pub bad-not : (n : ℕ) → natural.Bad ≡ natural.Of n → ⊥
+bad-not n e = let z : _≡_ {A = ℕ} 0 1 = ap (λ (m : Natural). tag m) e in omega arith
+  where
+    tag : Natural → ℕ
+    tag natural.Bad = 0
+    tag (natural.Of n) = 1
+
+pub record Got (d at : ℕ) (t : List ℕ) (n : ℕ) : Type 0 where
+  pub inside : before d t < length t
+  pub is : naturalOf (take (before d t) t) ≡ natural.Of n
+  pub place : numberUntil d at t .next ≡ at + before d t + 1
+
+reached-number : (e : ℕ) (m : Natural) → reached e m .number ≡ m
+reached-number e natural.Bad = refl
+reached-number e (natural.Of n) = refl
+
+reached-next : (e : ℕ) (m : Natural) (n : ℕ) → m ≡ natural.Of n → reached e m .next ≡ e
+reached-next e natural.Bad n h = absurd (bad-not n h)
+reached-next e (natural.Of k) n h = refl
+
+pub got : (d at : ℕ) (t : List ℕ) (n : ℕ) → numberUntil d at t .number ≡ natural.Of n → Got d at t n
+unfolding numberUntil
+got d at t n h = by (ltb (before d t) (length t)) refl h
+  where
+    by : (q : Bool) → ltb (before d t) (length t) ≡ q
+        → (choose q (reached (at + before d t + 1) (naturalOf (take (before d t) t))) nowhere) .number ≡ natural.Of n → Got d at t n
+    by false e r = absurd (bad-not n r)
+    by true e r =
+        let m = sym (reached-number (at + before d t + 1) (naturalOf (take (before d t) t))) ∙ r in
+        record { inside = ltb-true _ _ e; is = m; place = rw (e) (reached-next (at + before d t + 1) (naturalOf (take (before d t) t)) n m) }
+
+natural-empty : (f : List ℕ) → length f ≡ 0 → naturalOf f ≡ natural.Bad
+unfolding naturalOf
+natural-empty f h = rw (eq-eqb _ _ h)
+
+natural-zero : (f : List ℕ) → getD f 0 0 ≡ 48 → 1 < length f → naturalOf f ≡ natural.Bad
+unfolding naturalOf
+natural-zero f z h = rw (ne-eqb (length f) 0 (λ e. omega arith), eq-eqb _ _ z, lt-ltb _ _ h)
+
+natural-plain : (f : List ℕ) → 0 < length f → (getD f 0 0 ≡ 48 → ⊥) → naturalOf f ≡ digitsFrom 0 f
+unfolding naturalOf
+natural-plain f h z = rw (ne-eqb (length f) 0 (λ e. omega arith), ne-eqb _ _ z)
+
+natural-one : (f : List ℕ) → length f ≡ 1 → naturalOf f ≡ digitsFrom 0 f
+unfolding naturalOf
+natural-one f h = rw (ne-eqb (length f) 0 (λ e. omega arith), le-ltb 1 (length f) (omega arith)) (by (eqb (getD f 0 0) 48))
+  where
+    by : (q : Bool) → choose (choose q false false) natural.Bad (digitsFrom 0 f) ≡ digitsFrom 0 f
+    by true = refl
+    by false = refl
+
+natural-from-bad : (f : List ℕ) → digitsFrom 0 f ≡ natural.Bad → naturalOf f ≡ natural.Bad
+unfolding naturalOf
+natural-from-bad f h = bad-either (eqb (length f) 0) (choose (eqb (getD f 0 0) 48) (ltb 1 (length f)) false) (digitsFrom 0 f) h
+
+-- the field's first byte
+first : (k at : ℕ) (s : List ℕ) → 0 < k → getD (take k (drop at s)) 0 0 ≡ getD s at 0
+first k at s h =
+    let e : at + 0 ≡ at = omega arith in
+    getD-take k (drop at s) 0 0 h ∙ getD-drop at s 0 0 ∙ ap (λ (i : ℕ). getD s i 0) e
+
+none : (q : Bool) (e : ℕ) (m m' : Natural) → ((n : ℕ) → q ≡ true → m ≡ natural.Of n → m' ≡ natural.Bad) → (m ≡ natural.Bad → m' ≡ natural.Bad)
+    → nowhere ≡ choose q (reached e m') nowhere
+none false e m m' h b = refl
+none true e natural.Bad m' h b = rw (b refl)
+none true e (natural.Of n) m' h b = rw (h n refl refl)
+
+same : (q : Bool) (e : ℕ) (m m' : Natural) → ((n : ℕ) → q ≡ true → m ≡ natural.Of n → m' ≡ m) → (m ≡ natural.Bad → m' ≡ natural.Bad)
+    → choose q (reached e m) nowhere ≡ choose q (reached e m') nowhere
+same false e m m' h b = refl
+same true e natural.Bad m' h b = rw (b refl)
+same true e (natural.Of n) m' h b = rw (h n refl refl)
+
+-- where the digits end in d
+next-of : (d at : ℕ) (t : List ℕ) (n : ℕ) → ltb (before d t) (length t) ≡ true → digitsFrom 0 (take (before d t) t) ≡ natural.Of n
+    → scan d 0 at t .next ≡ at + before d t + 1
+next-of d at t n q m = rw (scan-field d 0 at t, q, m)
+
+size-of : (d : ℕ) (t : List ℕ) → length (take (before d t) t) ≡ before d t
+size-of d t = length-take-le (before d t) t (before-le d t)
+
+pub until-empty : (d at : ℕ) (s : List ℕ) → scan d 0 at (drop at s) .next ≤ at + 1 → nowhere ≡ numberUntil d at (drop at s)
+unfolding numberUntil
+until-empty d at s h =
+    let t = drop at s in
+    none (ltb (before d t) (length t)) (at + before d t + 1) (digitsFrom 0 (take (before d t) t)) (naturalOf (take (before d t) t))
+    (λ n q m. natural-empty (take (before d t) t) (omega (arith, h, next-of d at t n q m, size-of d t)))
+    (natural-from-bad (take (before d t) t))
+
+pub until-zero : (d at : ℕ) (s : List ℕ) → getD s at 0 ≡ 48 → at + 2 < scan d 0 at (drop at s) .next → nowhere ≡ numberUntil d at (drop at s)
+unfolding numberUntil
+until-zero d at s z h =
+    let t = drop at s in
+    none (ltb (before d t) (length t)) (at + before d t + 1) (digitsFrom 0 (take (before d t) t)) (naturalOf (take (before d t) t))
+    (λ n q m.
+    natural-zero (take (before d t) t) (first (before d t) at s (omega (arith, h, next-of d at t n q m)) ∙ z)
+    (omega (arith, h, next-of d at t n q m, size-of d t)))
+    (natural-from-bad (take (before d t) t))
+
+pub until-plain : (d at : ℕ) (s : List ℕ) → (getD s at 0 ≡ 48 → ⊥) → at + 1 < scan d 0 at (drop at s) .next → scan d 0 at (drop at s) ≡ numberUntil d at (drop at s)
+unfolding numberUntil
+until-plain d at s z h =
+    let t = drop at s in
+    scan-field d 0 at t ∙
+    same (ltb (before d t) (length t)) (at + before d t + 1) (digitsFrom 0 (take (before d t) t)) (naturalOf (take (before d t) t))
+    (λ n q m.
+    natural-plain (take (before d t) t) (omega (arith, h, next-of d at t n q m, size-of d t))
+    (λ e. z (sym (first (before d t) at s (omega (arith, h, next-of d at t n q m))) ∙ e)))
+    (natural-from-bad (take (before d t) t))
+
+pub until-one : (d at : ℕ) (s : List ℕ) → scan d 0 at (drop at s) .next ≤ at + 2 → at + 1 < scan d 0 at (drop at s) .next
+    → scan d 0 at (drop at s) ≡ numberUntil d at (drop at s)
+unfolding numberUntil
+until-one d at s g h =
+    let t = drop at s in
+    scan-field d 0 at t ∙
+    same (ltb (before d t) (length t)) (at + before d t + 1) (digitsFrom 0 (take (before d t) t)) (naturalOf (take (before d t) t))
+    (λ n q m. natural-one (take (before d t) t) (omega (arith, g, h, next-of d at t n q m, size-of d t)))
+    (natural-from-bad (take (before d t) t))
+
+pub until-out : (d at : ℕ) (s : List ℕ) → length s ≤ at → nowhere ≡ numberUntil d at (drop at s)
+unfolding numberUntil before
+until-out d at s h = rw (drop-of-length-le s h)

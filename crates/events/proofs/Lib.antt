@@ -1,0 +1,3 @@
+pub mod StageLaws
+pub mod LineLaws
+pub mod WalkLaws

@@ -1,0 +1,204 @@
+-- Laws of an event line: its last field, and its letter.
+-- Assumes nothing.
+use mathlib.Core.Path.{_≡_, refl, sym, ap, _∙_}
+use mathlib.Core.Bool.{Bool, true, false}
+use mathlib.Core.List.{List, [], _∷_}
+use mathlib.Core.Logic.{⊎-elim}
+use Prim.Native.Nat.{ℕ, zero, suc, _≤_, _<_, _+_, _-_, _*_, min}
+use native.Mathlib.Omega.{arith}
+use native.Mathlib.Numerals.{add-one}
+use borrow.Author.Tests.{lt-ltb, le-ltb, eq-eqb, ne-eqb, ltb-true}
+use lib.Dec.{eqb, ltb}
+use lib.IntN.{ℤ, pos}
+use lib.ListN.{length, getD, take, drop, drop-of-length-le}
+use lib.Seq.{drop-cons}
+use Rattle.decimal.specs.declared.Natural.{Natural}
+use Rattle.decimal.specs.declared.Natural.the-variants as natural
+use Rattle.decimal.specs.declared.Integer.{Integer}
+use Rattle.decimal.specs.declared.Integer.the-variants as integer
+use Rattle.lines.specs.Lines.{choose}
+use Rattle.decimal.specs.Decimal.{isDigit, naturalOf, integerOf, positiveOf, negativeOf}
+use Rattle.lines.specs.Lines.{before, splitOn, onFirst, letter}
+use Rattle.lines.proofs.FieldLaws.{split-some}
+use Rattle.events.specs.declared.Line.{Line}
+use Rattle.decimal.specs.Decimal.{reached, nowhere, numberUntil}
+use Rattle.events.specs.Events.{Fields, wrong, placed, kindOf, noLine, right, onNumber, onInteger, isLock, field, last, lockEnd, valueEnd, afterThread, afterLetter, fromFields, front, stage}
+use Rattle.decimal.proofs.ScanLaws.{ltb-suc}
+use Rattle.decimal.proofs.NumberLaws.{natural-bad}
+use Rattle.events.proofs.StageLaws.{stage-last}
+
+space-bad : (i : ℕ) (x : List ℕ) → i < length x → getD x i 0 ≡ 32 → naturalOf x ≡ natural.Bad
+space-bad i x h e = natural-bad i x h (rw (e))
+
+integer-bad : (i : ℕ) (x : List ℕ) → i < length x → getD x i 0 ≡ 32 → integerOf x ≡ integer.Bad
+unfolding integerOf
+integer-bad i [] h e = absurd (omega arith)
+integer-bad zero (y ∷ ys) h e = rw (ne-eqb y 45 (λ q. omega (arith, e, q)), space-bad 0 (y ∷ ys) h e)
+integer-bad (suc i) (y ∷ ys) h e = rw (space-bad i ys (omega arith) e, space-bad (suc i) (y ∷ ys) h e) (by (eqb y 45))
+  where
+    by : (q : Bool) → choose q integer.Bad integer.Bad ≡ integer.Bad
+    by true = refl
+    by false = refl
+
+-- a lock event's last field
+pub lock-line : (k t at : ℕ) (u : List ℕ)
+    → stage (last (lockEnd k t)) at u ≡ placed (numberUntil 10 at u .next) (onNumber (numberUntil 10 at u .number) (λ n. right k t n (pos 0)))
+unfolding numberUntil front
+lock-line k t at u =
+    stage-last (lockEnd k t) (λ x i h b. rw (space-bad i x h b)) at u
+    ∙ by (ltb (before 10 u) (length u)) (naturalOf (take (before 10 u) u))
+  where
+    by : (q : Bool) (m : Natural)
+        → choose q (placed (at + before 10 u + 1) (onNumber m (λ n. right k t n (pos 0)))) noLine
+        ≡ placed (choose q (reached (at + before 10 u + 1) m) nowhere .next) (onNumber (choose q (reached (at + before 10 u + 1) m) nowhere .number) (λ n. right k t n (pos 0)))
+    by false m = refl
+    by true natural.Bad = refl
+    by true (natural.Of n) = refl
+
+-- a value without a minus
+first-not : (s : List ℕ) (at : ℕ) → (getD s at 0 ≡ 45 → ⊥) → at < length s → getD (front (drop at s)) 0 0 ≡ 45 → ⊥
+unfolding front before
+first-not s at z h = rw (drop-cons s at 0 h) (by (eqb (getD s at 0) 10))
+  where
+    by : (q : Bool) → getD (take (choose q 0 (suc (before 10 (drop (suc at) s)))) (getD s at 0 ∷ drop (suc at) s)) 0 0 ≡ 45 → ⊥
+    by true e = omega arith
+    by false e = z e
+
+pub plain-line : (k t v at : ℕ) (s : List ℕ) → at < length s → (getD s at 0 ≡ 45 → ⊥)
+    → stage (last (valueEnd k t v)) at (drop at s)
+    ≡ placed (numberUntil 10 at (drop at s) .next) (onInteger (positiveOf (numberUntil 10 at (drop at s) .number)) (λ z. right k t v z))
+unfolding numberUntil front integerOf
+plain-line k t v at s h z =
+    let u = drop at s in
+    stage-last (valueEnd k t v) (λ x i h b. rw (integer-bad i x h b)) at u
+    ∙ rw (ne-eqb _ _ (first-not s at z h)) (by (ltb (before 10 u) (length u)) (naturalOf (take (before 10 u) u)) (at + before 10 u + 1))
+  where
+    by : (q : Bool) (m : Natural) (e : ℕ)
+        → choose q (placed e (onInteger (positiveOf m) (λ z. right k t v z))) noLine
+        ≡ placed (choose q (reached e m) nowhere .next) (onInteger (positiveOf (choose q (reached e m) nowhere .number)) (λ z. right k t v z))
+    by false m e = refl
+    by true natural.Bad e = refl
+    by true (natural.Of n) e = refl
+
+pub minus-line : (k t v at : ℕ) (s : List ℕ) → at < length s → getD s at 0 ≡ 45
+    → stage (last (valueEnd k t v)) at (drop at s)
+    ≡ placed (numberUntil 10 (at + 1) (drop (at + 1) s) .next) (onInteger (negativeOf (numberUntil 10 (at + 1) (drop (at + 1) s) .number)) (λ z. right k t v z))
+unfolding numberUntil front integerOf before
+minus-line k t v at s h z =
+    let u = drop (suc at) s in
+    let e : at + suc (before 10 u) + 1 ≡ suc at + before 10 u + 1 = omega arith in
+    rw (drop-cons s at 0 h, z, add-one at)
+    (stage-last (valueEnd k t v) (λ x i h b. rw (integer-bad i x h b)) at (45 ∷ u)
+    ∙ rw (ltb-suc (before 10 u) (length u), e) (by (ltb (before 10 u) (length u)) (naturalOf (take (before 10 u) u)) (suc at + before 10 u + 1)))
+  where
+    by : (q : Bool) (m : Natural) (e : ℕ)
+        → choose q (placed e (onInteger (negativeOf m) (λ z. right k t v z))) noLine
+        ≡ placed (choose q (reached e m) nowhere .next) (onInteger (negativeOf (choose q (reached e m) nowhere .number)) (λ z. right k t v z))
+    by false m e = refl
+    by true natural.Bad e = refl
+    by true (natural.Of n) e = refl
+
+none-either : (q : Bool) (e : ℕ) (f : Fields) → f ≡ wrong → choose q (placed e f) noLine ≡ noLine
+none-either true e f h = rw (h)
+none-either false e f h = refl
+
+either-none : (q : Bool) → choose q wrong wrong ≡ wrong
+either-none true = refl
+either-none false = refl
+
+no-letter : (x : ℕ) (f : List ℕ) → kindOf x ≡ 0 → kindOf (letter (x ∷ f)) ≡ 0
+unfolding letter
+no-letter x [] h = h
+no-letter x (c ∷ cs) h = refl
+
+-- a first byte that is no letter
+none-letter : (at x : ℕ) (xs : List ℕ) → kindOf x ≡ 0 → stage fromFields at (x ∷ xs) ≡ noLine
+unfolding stage front before splitOn letter
+none-letter at x xs h = none-either (ltb (before 10 (x ∷ xs)) (suc (length xs))) (at + before 10 (x ∷ xs) + 1) _ (by (eqb x 10) (eqb x 32) refl)
+  where
+    by : (q p : Bool) → eqb x 32 ≡ p → fromFields (splitOn 32 (take (choose q 0 (suc (before 10 xs))) (x ∷ xs))) ≡ wrong
+    by true p r = refl
+    by false true r = rw (r)
+    by false false r =
+        let w = split-some 32 (take (before 10 xs) xs) in
+        rw (r, w .2, no-letter x (w .0) h)
+
+kind-not : (x b : ℕ) → (kindOf x ≡ 0 → ⊥) → kindOf b ≡ 0 → x ≡ b → ⊥
+kind-not x b k z e = k (ap kindOf e ∙ z)
+
+-- a letter alone at the end
+none-end : (at x : ℕ) → (kindOf x ≡ 0 → ⊥) → stage fromFields at (x ∷ []) ≡ noLine
+unfolding stage before
+none-end at x k = rw (ne-eqb x 10 (kind-not x 10 k refl))
+
+-- a letter and no space behind it
+none-space : (at x y : ℕ) (ys : List ℕ) → (kindOf x ≡ 0 → ⊥) → (y ≡ 32 → ⊥) → stage fromFields at (x ∷ y ∷ ys) ≡ noLine
+unfolding stage front before splitOn letter
+none-space at x y ys k n =
+    rw (ne-eqb x 10 (kind-not x 10 k refl), ne-eqb x 32 (kind-not x 32 k refl))
+    (none-either (ltb (suc (before 10 (y ∷ ys))) (suc (suc (length ys)))) (at + suc (before 10 (y ∷ ys)) + 1) _ (by (eqb y 10)))
+  where
+    by : (q : Bool) → fromFields (onFirst x (splitOn 32 (take (choose q 0 (suc (before 10 ys))) (y ∷ ys)))) ≡ wrong
+    by true = either-none (eqb (kindOf x) 0)
+    by false =
+        let w = split-some 32 (take (before 10 ys) ys) in
+        rw (ne-eqb y 32 n, w .2)
+
+-- a letter and a space
+with-space : (at x : ℕ) (ys : List ℕ) → (kindOf x ≡ 0 → ⊥)
+    → stage fromFields at (x ∷ 32 ∷ ys) ≡ stage (field (afterThread (kindOf x))) (at + 1 + 1) ys
+unfolding stage front before splitOn letter
+with-space at x ys k =
+    let e : at + suc (suc (before 10 ys)) + 1 ≡ at + 1 + 1 + before 10 ys + 1 = omega arith in
+    rw (ne-eqb x 10 (kind-not x 10 k refl), ne-eqb x 32 (kind-not x 32 k refl), ltb-suc (suc (before 10 ys)) (suc (length ys)), ltb-suc (before 10 ys) (length ys), ne-eqb (kindOf x) 0 k, e)
+
+-- the same of a place in the part
+pub at-end : (s : List ℕ) (at : ℕ) → length s ≤ at → stage fromFields at (drop at s) ≡ noLine
+unfolding stage before
+at-end s at h = rw (drop-of-length-le s h)
+
+pub at-none : (s : List ℕ) (at : ℕ) → at < length s → kindOf (getD s at 0) ≡ 0 → stage fromFields at (drop at s) ≡ noLine
+at-none s at h k = rw (drop-cons s at 0 h) (none-letter at (getD s at 0) (drop (suc at) s) k)
+
+pub at-last : (s : List ℕ) (at : ℕ) → at < length s → length s ≤ at + 1 → (kindOf (getD s at 0) ≡ 0 → ⊥) → stage fromFields at (drop at s) ≡ noLine
+at-last s at h l k =
+    let m : length s ≤ suc at = omega arith in
+    rw (drop-cons s at 0 h, drop-of-length-le s m) (none-end at (getD s at 0) k)
+
+pub at-other : (s : List ℕ) (at : ℕ) → at + 1 < length s → (kindOf (getD s at 0) ≡ 0 → ⊥) → (getD s (at + 1) 0 ≡ 32 → ⊥)
+    → stage fromFields at (drop at s) ≡ noLine
+at-other s at h k n =
+    let m : suc at < length s = omega arith in
+    let g : at + 1 ≡ suc at = omega arith in
+    rw (drop-cons s at 0 (omega arith), drop-cons s (suc at) 0 m)
+    (none-space at (getD s at 0) (getD s (suc at) 0) (drop (suc (suc at)) s) k (λ e. n (ap (λ (i : ℕ). getD s i 0) g ∙ e)))
+
+pub at-space : (s : List ℕ) (at : ℕ) → at + 1 < length s → (kindOf (getD s at 0) ≡ 0 → ⊥) → getD s (at + 1) 0 ≡ 32
+    → stage fromFields at (drop at s) ≡ stage (field (afterThread (kindOf (getD s at 0)))) (at + 1 + 1) (drop (at + 1 + 1) s)
+at-space s at h k n =
+    let m : suc at < length s = omega arith in
+    let g : at + 1 ≡ suc at = omega arith in
+    let b : getD s (suc at) 0 ≡ 32 = ap (λ (i : ℕ). getD s i 0) (sym g) ∙ n in
+    let g2 : suc (suc at) ≡ at + 1 + 1 = omega arith in
+    ap (λ (u : List ℕ). stage fromFields at u) (drop-cons s at 0 (omega arith) ∙ ap (λ (u : List ℕ). getD s at 0 ∷ u) (drop-cons s (suc at) 0 m ∙ ap (λ (z : ℕ). z ∷ drop (suc (suc at)) s) b))
+    ∙ with-space at (getD s at 0) (drop (suc (suc at)) s) k
+    ∙ ap (λ (i : ℕ). stage (field (afterThread (kindOf (getD s at 0)))) (at + 1 + 1) (drop i s)) g2
+
+pub stage-out : (f : List (List ℕ) → Fields) (s : List ℕ) (at : ℕ) → length s ≤ at → noLine ≡ stage f at (drop at s)
+unfolding stage before
+stage-out f s at h = rw (drop-of-length-le s h)
+
+pub thread-none : (k t : ℕ) → afterThread k t [] ≡ wrong
+thread-none k t = either-none (isLock k)
+
+pub thread-lock : (k t at : ℕ) (u : List ℕ) → k ≡ 7 → stage (last (lockEnd k t)) at u ≡ stage (afterThread k t) at u
+unfolding stage
+thread-lock k t at u e = rw (eq-eqb k 7 e)
+
+pub thread-unlock : (k t at : ℕ) (u : List ℕ) → (k ≡ 7 → ⊥) → k ≡ 8 → stage (last (lockEnd k t)) at u ≡ stage (afterThread k t) at u
+unfolding stage
+thread-unlock k t at u n e = rw (ne-eqb k 7 n, eq-eqb k 8 e)
+
+pub thread-value : (k t at : ℕ) (u : List ℕ) → (k ≡ 7 → ⊥) → (k ≡ 8 → ⊥) → stage (field (λ v. last (valueEnd k t v))) at u ≡ stage (afterThread k t) at u
+unfolding stage
+thread-value k t at u n e = rw (ne-eqb k 7 n, ne-eqb k 8 e)

@@ -1,0 +1,178 @@
+-- Laws of fields.
+-- Assumes nothing.
+use mathlib.Core.Path.{_≡_, refl, sym, ap, _∙_}
+use mathlib.Core.Bool.{Bool, true, false}
+use mathlib.Core.List.{List, [], _∷_}
+use Prim.Native.Nat.{ℕ, zero, suc, _<_, _≤_, _+_, _-_}
+use native.Mathlib.Numerals.{add-one}
+use native.Mathlib.Omega.{arith}
+use borrow.Author.Tests.{eq-eqb, ne-eqb, eqb-true, eqb-false}
+use lib.Dec.{eqb}
+use lib.ListN.{length, getD, take, drop, drop-of-length-le}
+use lib.Seq.{drop-cons}
+use mathlib.Core.Logic.{⊎-elim}
+use Rattle.lines.proofs.PartLaws.{rest, lt-or-le}
+use Rattle.lines.specs.Lines.{choose, before, upTo, splitOn, onFirst, ended, linesOf, letter}
+
+pub before-here : (b i : ℕ) (s : List ℕ) → i < length s → getD s i 0 ≡ b → before b (drop i s) ≡ 0
+unfolding before
+before-here b i s h e = rw (drop-cons s i 0 h, eq-eqb _ _ e)
+
+pub before-on : (b i : ℕ) (s : List ℕ) → i < length s → (getD s i 0 ≡ b → ⊥) → before b (drop i s) ≡ 1 + before b (drop (i + 1) s)
+unfolding before
+before-on b i s h e = rw (drop-cons s i 0 h, ne-eqb _ _ e, add-one i) (omega arith)
+
+pub before-end : (b i : ℕ) (s : List ℕ) → length s ≤ i → before b (drop i s) ≡ 0
+unfolding before
+before-end b i s h = rw (drop-of-length-le s h)
+
+pub before-le : (b : ℕ) (s : List ℕ) → before b s ≤ length s
+unfolding before
+before-le b [] = omega arith
+before-le b (x ∷ xs) = by (eqb x b) (before-le b xs)
+  where
+    by : (t : Bool) → before b xs ≤ length xs → choose t 0 (suc (before b xs)) ≤ suc (length xs)
+    by true h = omega arith
+    by false h = omega arith
+
+-- a first piece, and the others behind the b
+pub split-more : (b : ℕ) (s : List ℕ) → before b s < length s → splitOn b s ≡ take (before b s) s ∷ splitOn b (drop (before b s + 1) s)
+unfolding before splitOn
+split-more b [] h = absurd (omega arith)
+split-more b (x ∷ xs) h = by (eqb x b) h (split-more b xs)
+  where
+    by : (t : Bool) → choose t 0 (suc (before b xs)) < suc (length xs)
+        → (before b xs < length xs → splitOn b xs ≡ take (before b xs) xs ∷ splitOn b (drop (before b xs + 1) xs))
+        → choose t ([] ∷ splitOn b xs) (onFirst x (splitOn b xs))
+        ≡ take (choose t 0 (suc (before b xs))) (x ∷ xs) ∷ splitOn b (drop (choose t 0 (suc (before b xs)) + 1) (x ∷ xs))
+    by true h r = refl
+    by false h r =
+        let e : suc (before b xs) + 1 ≡ suc (before b xs + 1) = omega arith in
+        rw (e, r (omega arith))
+
+-- no b: one piece
+pub split-last : (b : ℕ) (s : List ℕ) → length s ≤ before b s → splitOn b s ≡ s ∷ []
+unfolding before splitOn
+split-last b [] h = refl
+split-last b (x ∷ xs) h = by (eqb x b) h (split-last b xs)
+  where
+    by : (t : Bool) → suc (length xs) ≤ choose t 0 (suc (before b xs)) → (length xs ≤ before b xs → splitOn b xs ≡ xs ∷ [])
+        → choose t ([] ∷ splitOn b xs) (onFirst x (splitOn b xs)) ≡ (x ∷ xs) ∷ []
+    by true h r = absurd (omega arith)
+    by false h r = rw (r (omega arith))
+
+-- the same, at a place a that `find` gave, with the part behind it as the code has it
+pub split-at : (b : ℕ) (s : List ℕ) (a : ℕ) → a ≡ before b s → a < length s
+    → splitOn b s ≡ take a s ∷ splitOn b (take (length s - (a + 1)) (drop (a + 1) s))
+split-at b s a e h =
+    rw (e, rest (before b s + 1) s) (split-more b s (omega arith))
+
+pub split-one : (b : ℕ) (s : List ℕ) (a : ℕ) → a ≡ before b s → length s ≤ a → splitOn b s ≡ s ∷ []
+split-one b s a e h = split-last b s (omega arith)
+
+-- there is always a first piece
+pub split-some : (b : ℕ) (s : List ℕ) → (f : List ℕ) × (fs : List (List ℕ)) × (splitOn b s ≡ f ∷ fs)
+split-some b s = ⊎-elim
+    (λ h. (take (before b s) s, splitOn b (drop (before b s + 1) s), split-more b s h))
+    (λ h. (s, [], split-last b s h))
+    (lt-or-le (before b s) (length s))
+
+-- a letter
+pub letter-one : (f : List ℕ) → length f ≡ 1 → getD f 0 0 ≡ letter f
+unfolding letter
+letter-one [] h = absurd (omega arith)
+letter-one (b ∷ []) h = refl
+letter-one (b ∷ c ∷ bs) h = absurd (omega arith)
+
+pub letter-none : (f : List ℕ) → (length f ≡ 1 → ⊥) → 0 ≡ letter f
+unfolding letter
+letter-none [] h = refl
+letter-none (b ∷ []) h = absurd (h refl)
+letter-none (b ∷ c ∷ bs) h = refl
+
+-- the last b
+pub up-le : (b : ℕ) (s : List ℕ) → upTo b s ≤ length s
+unfolding upTo
+up-le b [] = omega arith
+up-le b (x ∷ xs) = by (eqb (upTo b xs) 0) (eqb x b) (up-le b xs)
+  where
+    by : (t u : Bool) → upTo b xs ≤ length xs → choose t (choose u 1 0) (suc (upTo b xs)) ≤ suc (length xs)
+    by true true h = omega arith
+    by true false h = omega arith
+    by false u h = omega arith
+
+-- nothing past the end
+pub up-none : (b : ℕ) (s : List ℕ) → upTo b (drop (length s) s) ≡ 0
+unfolding upTo
+up-none b s = rw (drop-of-length-le s {i = length s} (omega arith))
+
+-- one byte further to the front, which is not b
+pub up-back : (b j : ℕ) (s : List ℕ) → j < length s → (getD s j 0 ≡ b → ⊥) → upTo b (drop (suc j) s) ≡ 0 → upTo b (drop j s) ≡ 0
+unfolding upTo
+up-back b j s h e z = rw (drop-cons s j 0 h, eq-eqb _ _ z, ne-eqb _ _ e)
+
+-- the last b is at j
+pub up-here : (b j : ℕ) (s : List ℕ) → j < length s → getD s j 0 ≡ b → upTo b (drop (suc j) s) ≡ 0 → suc j ≡ upTo b s
+unfolding upTo
+up-here b j [] h e z = absurd (omega arith)
+up-here b zero (x ∷ xs) h e z = rw (eq-eqb _ _ z, eq-eqb _ _ e)
+up-here b (suc j) (x ∷ xs) h e z =
+    let r : suc j ≡ upTo b xs = up-here b j xs (omega arith) e z in
+    rw (ne-eqb (upTo b xs) 0 (λ k. omega arith)) (ap suc r)
+
+-- there are no more fields than bytes and one
+pub split-length : (b : ℕ) (s : List ℕ) → length (splitOn b s) ≤ length s + 1
+unfolding splitOn
+split-length b [] = omega arith
+split-length b (x ∷ xs) = by (eqb x b) (splitOn b xs) (split-length b xs)
+  where
+    by : (t : Bool) (l : List (List ℕ)) → length l ≤ length xs + 1 → length (choose t ([] ∷ l) (onFirst x l)) ≤ suc (length xs) + 1
+    by true l h = omega arith
+    by false [] h = omega arith
+    by false (f ∷ fs) h = omega arith
+
+-- the fields behind the first
+pub later : (f : List ℕ) (fs : List (List ℕ)) (j : ℕ) → 0 < j → getD (f ∷ fs) j [] ≡ getD fs (j - 1) []
+later f fs zero h = absurd (omega arith)
+later f fs (suc j) h = let e : j ≡ suc j - 1 = omega arith in ap (λ (k : ℕ). getD fs k []) e
+
+-- A text that is empty or ends in b. What is left of it from any place on is so too.
+ended-tail : (b x : ℕ) (xs : List ℕ) → upTo b (x ∷ xs) ≡ suc (length xs) → upTo b xs ≡ length xs
+unfolding upTo
+ended-tail b x xs h = by (eqb (upTo b xs) 0) (eqb x b) refl h
+  where
+    by : (t u : Bool) → eqb (upTo b xs) 0 ≡ t → choose t (choose u 1 0) (suc (upTo b xs)) ≡ suc (length xs) → upTo b xs ≡ length xs
+    by true true e h = omega (arith, eqb-true (upTo b xs) 0 e)
+    by true false e h = absurd (omega arith)
+    by false u e h = omega arith
+
+pub ended-drop : (b k : ℕ) (s : List ℕ) → upTo b s ≡ length s → upTo b (drop k s) ≡ length (drop k s)
+ended-drop b zero s h = h
+ended-drop b (suc k) [] h = h
+ended-drop b (suc k) (x ∷ xs) h = ended-drop b k xs (ended-tail b x xs h)
+
+-- and it has a b where it is not empty
+pub ended-before : (b : ℕ) (s : List ℕ) → upTo b s ≡ length s → 0 < length s → before b s < length s
+unfolding before upTo
+ended-before b [] h l = absurd (omega arith)
+ended-before b (x ∷ xs) h l = by (eqb x b) (eqb (upTo b xs) 0) refl h (ended-before b xs (ended-tail b x xs h))
+  where
+    by : (t u : Bool) → eqb (upTo b xs) 0 ≡ u → choose u (choose t 1 0) (suc (upTo b xs)) ≡ suc (length xs)
+        → (0 < length xs → before b xs < length xs) → choose t 0 (suc (before b xs)) < suc (length xs)
+    by true u e h r = omega arith
+    by false true e h r = absurd (omega arith)
+    by false false e h r =
+        let n : (upTo b xs ≡ 0 → ⊥) = eqb-false (upTo b xs) 0 e in
+        let k : 0 < length xs = omega (arith, n) in
+        omega (arith, r k)
+
+-- the lines of a text: a line and those behind its end, or none
+pub lines-more : (s : List ℕ) → before 10 s < length s → linesOf s ≡ take (before 10 s) s ∷ linesOf (drop (before 10 s + 1) s)
+unfolding linesOf ended
+lines-more s h =
+    let w = split-some 10 (drop (before 10 s + 1) s) in
+    rw (split-more 10 s h, w .2)
+
+pub lines-none : (s : List ℕ) → length s ≤ before 10 s → linesOf s ≡ []
+unfolding linesOf ended
+lines-none s h = rw (split-last 10 s h)

@@ -1,0 +1,106 @@
+-- Demand 3: an accepted trace with guards gets its order exactly when 20 to 22 deny none, and run whole in that order on the
+-- sequential memory the sections give every use its value and leave every variable its value in main memory.
+use Prim.Native.Nat.{ℕ, zero, suc, _*_, _≤_, _<_}
+use native.Mathlib.Omega.{arith}
+use mathlib.Core.Path.{_≡_, refl, sym, ap, _∙_, subst}
+use mathlib.Core.Logic.{_⊎_, inl, inr}
+use mathlib.Core.Bool.{Bool, true, false}
+use mathlib.Core.List.{List, [], _∷_, map, reverse, reverse-reverse}
+use lib.Dec.{T}
+use lib.IntN.{ℤ, pos}
+use lib.ListN.{length, length-map, length-reverse}
+use Rattle.rules.specs.declared.Event.{Event}
+use Rattle.rules.specs.declared.Counts.{Counts}
+use Rattle.rules.specs.Limits.{Limits, full}
+use Rattle.rules.specs.Words.{main}
+use Rattle.rules.specs.Rules.{mark, wordsOf, held, Accepted}
+use Rattle.rules.proofs.Laws.{is-true}
+use Rattle.rules.proofs.Marking.{walk-accepts}
+use Rattle.serial.specs.Lists.{All}
+use Rattle.serial.specs.Sections.{Section}
+use Rattle.serial.proofs.Trace as Trace
+use Rattle.ordering.specs.View.{view}
+use Rattle.ordering.specs.Refusals.{unfinished, denial}
+use Rattle.ordering.specs.Order.{sections, entry, order}
+use Rattle.ordering.specs.Places.{holdsSome}
+use Rattle.ordering.specs.CriticalSections.{Entry}
+use Rattle.ordering.specs.Sequential.{serially, zeros, after, given, stated}
+use Rattle.ordering.specs.Denials.{Denial, fit, denied, Orderly}
+use Rattle.ordering.specs.Demand3.{AcceptedTrace, Demand3}
+use Rattle.ordering.proofs.Valid.{Valid, Declared, all-declared, short}
+use Rattle.ordering.proofs.Ordered.{All-turn, some-witness, spans, serial-order, fit-from, orderly}
+use Rattle.ordering.proofs.Places.{holdsAfter, so-far-all, holds-more}
+use Rattle.ordering.proofs.Sequence.{serially-view, after-view, given-view, stated-view}
+use Rattle.ordering.proofs.Listed.{listed}
+use Rattle.ordering.proofs.Every.{every}
+use Rattle.ordering.proofs.Denied.{Says, says, orderly-fit}
+use Rattle.ordering.proofs.Few.{half}
+
+-- where nothing is held at the end, no thread holds anything after the last event
+free-at-end : (h : Counts) (guard : ℕ → ℕ) (events : List Event) → Orderly h guard events → (t : ℕ) → holdsAfter h t events (length events) ≡ false
+unfolding holdsSome
+free-at-end h guard events o t = holds-more h t (length events) events (reverse events) (so-far-all events) ∙ go (holdsSome h t (reverse events)) refl
+  where
+    go : (b : Bool) → holdsSome h t (reverse events) ≡ b → b ≡ false
+    go true q =
+        let l : (l : ℕ) × T (held (wordsOf (reverse events)) t l) = some-witness (h .locks) (λ l. held (wordsOf (reverse events)) t l) (subst T (sym q) tt) in
+        absurd (o .finished (inl (record { thread = t; lock = l .0; held = is-true (l .1) })))
+    go false q = refl
+
+marked-accepted : (m : Limits) (h : Counts) (events : List Event) → AcceptedTrace m h events → T (Accepted m h (reverse events))
+marked-accepted m h events a = walk-accepts m h events [] (unfold Accepted in tt) (unfold mark in a .marked)
+
+pub valid : (m : Limits) (h : Counts) (events : List Event) → AcceptedTrace m h events → Valid h (reverse events)
+valid m h events a = (m, a .limits .excess, marked-accepted m h events a)
+
+pub trace-declared : (m : Limits) (h : Counts) (events : List Event) → AcceptedTrace m h events → All (Declared h) events
+trace-declared m h events a = subst (λ l. All (Declared h) l) (reverse-reverse events) (All-turn (Declared h) (reverse events) [] (all-declared h (reverse events) (valid m h events a)) tt)
+
+pub demand-3 : (m : Limits) (h : Counts) (guard : ℕ → ℕ) (events : List Event) → AcceptedTrace m h events → Demand3 h guard events (denial h guard events) (order h events)
+demand-3 m h guard events a = record {
+  only-when = only;
+  when = orderly-fit h guard events d;
+  otherwise = λ number line p. subst (λ x. Says h guard events x) p said;
+  listed = λ p. listed h events d ok (free-at-end h guard events (only p));
+  every = λ p line e i j. every h guard events d ok (only p) (free-at-end h guard events (only p)) line e i j;
+  uses = uses;
+  ends = ends;
+}
+  where
+    d : All (Declared h) events
+    d = trace-declared m h events a
+
+    ok : Valid h (reverse events)
+    ok = valid m h events a
+
+    said : Says h guard events (denial h guard events)
+    said = says h guard events d
+
+    only : denial h guard events ≡ fit → Orderly h guard events
+    only p = subst (λ x. Says h guard events x) p said
+
+    ran : List Event
+    ran = serially (order h events) events
+
+    view-ran : Trace.serially (map view events) (spans h events) ≡ map view ran
+    view-ran = unfold order in serially-view (reverse (sections h (reverse events))) events
+
+    uses : denial h guard events ≡ fit → given ran zeros ≡ stated ran
+    uses p = unfold zeros in
+        (sym (given-view ran (λ v. pos 0)) ∙ rw (← view-ran) (serial-order h guard events ok d p .0) ∙ stated-view ran)
+
+    ends : denial h guard events ≡ fit → (v : ℕ) → v < h .variables → after ran zeros v ≡ main v (reverse events)
+    ends p v i = unfold zeros in
+        (ap (λ f. f v) (sym (after-view ran (λ v. pos 0))) ∙ rw (← view-ran) (serial-order h guard events ok d p .1 v i))
+
+-- the order has at most half as many entries as the trace has events: 1,000 places are enough for 2,000 events
+pub room : (m : Limits) (h : Counts) (guard : ℕ → ℕ) (events : List Event) → AcceptedTrace m h events → denial h guard events ≡ fit → 2 * length (order h events) ≤ full .events
+unfolding order denial orderly
+room m h guard events a p =
+    simp (length-map, length-reverse)
+    (omega (
+      arith,
+      half h (reverse events) (all-declared h (reverse events) (valid m h events a)) (fit-from h guard [] events p tt .1),
+      short m h (reverse events) (a .limits .excess) (marked-accepted m h events a),
+      a .limits .events,
+    ))

@@ -1,0 +1,373 @@
+-- The denial names the first event that breaks 20 or 21, or 22 at the end, as these are read off the trace.
+use Prim.Native.Nat.{ℕ, zero, suc, _+_, _-_, _≤_, _<_}
+use native.Mathlib.Decide.{ℕ-discrete, decLe, decLt}
+use native.Mathlib.Omega.{arith}
+use mathlib.Core.Path.{_≡_, refl, sym, ap, _∙_, subst}
+use mathlib.Core.Logic.{_⊎_, inl, inr}
+use mathlib.Core.Bool.{Bool, true, false, not, cond, _&&_, _||_, and-false, or-true, true≢false, false≢true}
+use mathlib.Core.List.{List, [], _∷_, map, reverse}
+use mathlib.Core.Option.{Option, none, some}
+use lib.Dec.{T, eqb, ltb}
+use lib.ListN.{length, drop, length-reverse}
+use lib.Seq.{drop-length}
+use borrow.Author.Tests.{eq-eqb, ne-eqb, eqb-true, not-true}
+use Rattle.rules.specs.declared.Event.{Event}
+use Rattle.rules.specs.declared.Kind.{Kind}
+use Rattle.rules.specs.declared.Kind.the-variants.{Use, Assign, Load, Store, Read, Write, Lock, Unlock, PrescientStore, PrescientAssign}
+use Rattle.rules.specs.declared.Counts.{Counts}
+use Rattle.rules.specs.Events.{B, P, is, of, on, locks}
+use Rattle.rules.specs.Limits.{lineAfter}
+use Rattle.rules.specs.Words.{by, locksBy, latest, letterIn, pending}
+use Rattle.rules.specs.Rules as Rules
+use Rattle.rules.specs.Rules.{loc, wordsOf, held}
+use Rattle.rules.proofs.Laws.{is-true, some-has}
+use Rattle.serial.specs.Lists.{All}
+use Rattle.serial.proofs.Counted as H
+use Rattle.ordering.specs.View.{view}
+use Rattle.ordering.specs.Refusals.{afterUnlock, notUnder, lateLock, unfinished, denialFrom, denial}
+use Rattle.ordering.specs.Places.{position, atPosition, soFar, eventAt, upTo, usesOrAssigns, unlocksBy, passes, lockAt, unlockAt, holdsSome, holding}
+use Rattle.ordering.specs.Order.{lineOf}
+use Rattle.ordering.specs.Denials.{Denial, fit, denied, Unguarded, LateLock, HeldAtEnd, PendingAtEnd, Unfinished, Clean, Orderly, Denies, unguarded, late}
+use Rattle.ordering.specs.Denials as D
+use Rattle.ordering.proofs.Valid.{Declared, Numbered}
+use Rattle.ordering.proofs.Whole.{from-held, holds-below}
+use Rattle.ordering.proofs.Ordered.{some-witness, lock-below, no-debt, All-turn}
+use Rattle.ordering.proofs.Places.{position-line, position-after, position-last, position-up, position-to, position-ahead, locksAt, unlocksAt, holdsAfter, lock-line, unlock-line, holding-line, Here, at-place, nothing-past, so-far-all, length-so-far, lock-signal, unlock-signal, holds-more}
+
+-- ---- Booleans
+
+pub both-l : (a b : Bool) → (a && b) ≡ true → a ≡ true
+both-l true b h = refl
+both-l false b h = h
+
+pub both-r : (a b : Bool) → (a && b) ≡ true → b ≡ true
+both-r true b h = h
+both-r false b h = absurd (false≢true h)
+
+one-of : (a b : Bool) → (a || b) ≡ true → (a ≡ true) ⊎ (b ≡ true)
+one-of true b h = inl refl
+one-of false b h = inr h
+
+some-same : (x y : Event) → _≡_ {A = Option Event} (some x) (some y) → x ≡ y
+some-same x y p = cc
+
+pub some-none : (x : Event) → _≡_ {A = Option Event} none (some x) → ⊥
+some-none x p = let z : _≡_ {A = ℕ} 0 1 = cc in omega arith
+
+-- ---- the line after n events
+
+pub event-after : (n : ℕ) (events : List Event) → eventAt (lineAfter n) events ≡ atPosition (suc n) events
+unfolding eventAt
+event-after n events = rw (position-after n)
+
+pub up-to-last : (n : ℕ) (events : List Event) → upTo (lineAfter n - 1) events ≡ soFar n events
+unfolding upTo
+up-to-last n events = rw (position-last n)
+
+-- a line in which an event stands is one of the trace's
+pub event-below : (n : ℕ) (events : List Event) (e : Event) → eventAt n events ≡ some e → n < lineAfter (length events)
+unfolding eventAt
+event-below n events e s = go (position n) refl s
+  where
+    go : (p : ℕ) → position n ≡ p → atPosition p events ≡ some e → n < lineAfter (length events)
+    go zero q s = unfold position in omega arith
+    go (suc p) q s = see (decLe (length events) p)
+      where
+        see : Dec (length events ≤ p) → n < lineAfter (length events)
+        see (yes i) = absurd (some-none e (sym (nothing-past p events i) ∙ s))
+        see (no i) = position-ahead n (lineAfter (length events)) (rw (q, position-after (length events)) (omega arith))
+
+-- ---- 20
+
+module _ (guard : ℕ → ℕ) (events : List Event) where
+  to-20 : (n : ℕ) (e : Event) → atPosition (suc n) events ≡ some e → Unguarded guard events (lineAfter n) → notUnder guard (soFar n events) e ≡ true
+  unfolding notUnder
+  to-20 n e s r =
+      let q : r .event ≡ e = some-same (r .event) e (sym (r .stands) ∙ event-after n events ∙ s) in
+      let b : held (wordsOf (soFar n events)) (r .event .thread) (guard (loc (r .event))) ≡ false =
+      subst (λ l. held (wordsOf l) (r .event .thread) (guard (loc (r .event))) ≡ false) (up-to-last n events) (r .notUnder) in
+      subst (λ x. (usesOrAssigns x && not (held (wordsOf (soFar n events)) (x .thread) (guard (loc x)))) ≡ true) q (rw (r .used, b))
+
+  from-20 : (n : ℕ) (e : Event) → atPosition (suc n) events ≡ some e → notUnder guard (soFar n events) e ≡ true → Unguarded guard events (lineAfter n)
+  unfolding notUnder
+  from-20 n e s r = record {
+    event = e;
+    stands = event-after n events ∙ s;
+    used = both-l (usesOrAssigns e) (not (held (wordsOf (soFar n events)) (e .thread) (guard (loc e)))) r;
+    notUnder = rw (up-to-last n events)
+        (not-true (held (wordsOf (soFar n events)) (e .thread) (guard (loc e))) (both-r (usesOrAssigns e) (not (held (wordsOf (soFar n events)) (e .thread) (guard (loc e)))) r));
+  }
+
+-- ---- 21
+
+-- t has done an N, and held something ever since, up to position n
+record Shrinking (c : Counts) (t : ℕ) (events : List Event) (n : ℕ) : Type 0 where
+  earlier : ℕ
+  before : earlier ≤ n
+  unlocks : unlocksAt t events earlier ≡ true
+  same : (q : ℕ) → earlier ≤ q → q ≤ n → holdsAfter c t events q ≡ true
+
+not-at-zero : (t q : ℕ) (events : List Event) → q ≤ 0 → unlocksAt t events q ≡ true → ⊥
+unfolding unlocksAt atPosition
+not-at-zero t zero events i u = false≢true u
+not-at-zero t (suc q) events i u = omega arith
+
+module _ (c : Counts) (events : List Event) (d : All (Declared c) events) where
+  at : (n : ℕ) → n < length events → Here (Declared c) events n
+  at n h = at-place (Declared c) events n d h
+
+  to-shrinking : (t n : ℕ) → n ≤ length events → afterUnlock c t (soFar n events) ≡ true → Shrinking c t events n
+  to-shrinking t zero h b = absurd (false≢true (unfold soFar afterUnlock in b))
+  to-shrinking t (suc n) h b = go (one-of (unlocksBy t e) (afterUnlock c t (soFar n events)) (both-r (holdsSome c t (e ∷ soFar n events)) (unlocksBy t e || afterUnlock c t (soFar n events)) here)) (to-shrinking t n (omega arith))
+    where
+      w : Here (Declared c) events n
+      w = at n (omega arith)
+
+      e : Event
+      e = w .event
+
+      here : (holdsSome c t (e ∷ soFar n events) && (unlocksBy t e || afterUnlock c t (soFar n events))) ≡ true
+      here = unfold afterUnlock in subst (λ l. afterUnlock c t l ≡ true) (w .more) b
+
+      now : holdsAfter c t events (suc n) ≡ true
+      now = holds-more c t (suc n) events (e ∷ soFar n events) (w .more) ∙ both-l (holdsSome c t (e ∷ soFar n events)) (unlocksBy t e || afterUnlock c t (soFar n events)) here
+
+      only : (q : ℕ) → suc n ≤ q → q ≤ suc n → holdsAfter c t events q ≡ true
+      only q i j = subst (λ p. holdsAfter c t events p ≡ true) (let r : suc n ≡ q = omega arith in r) now
+
+      more : Shrinking c t events n → Shrinking c t events (suc n)
+      more s = record { earlier = s .earlier; before = omega (arith, s .before); unlocks = s .unlocks; same = λ q i j. see q i j (ℕ-discrete q (suc n)) }
+        where
+          see : (q : ℕ) → s .earlier ≤ q → q ≤ suc n → Dec (q ≡ suc n) → holdsAfter c t events q ≡ true
+          see q i j (yes p) = subst (λ p. holdsAfter c t events p ≡ true) (sym p) now
+          see q i j (no p) = s .same q i (omega arith)
+
+      go : ((unlocksBy t e) ≡ true) ⊎ (afterUnlock c t (soFar n events) ≡ true) → (afterUnlock c t (soFar n events) ≡ true → Shrinking c t events n) → Shrinking c t events (suc n)
+      go (inl p) r = record { earlier = suc n; before = omega arith; unlocks = unlock-signal t (suc n) events e (w .stands) ∙ p; same = only }
+      go (inr p) r = more (r p)
+
+  from-shrinking : (t n : ℕ) → n ≤ length events → Shrinking c t events n → afterUnlock c t (soFar n events) ≡ true
+  from-shrinking t zero h s = absurd (not-at-zero t (s .earlier) events (s .before) (s .unlocks))
+  from-shrinking t (suc n) h s = subst (λ l. afterUnlock c t l ≡ true) (sym (w .more)) (fold (go (ℕ-discrete (s .earlier) (suc n)) (from-shrinking t n (omega arith))))
+    where
+      w : Here (Declared c) events n
+      w = at n (omega arith)
+
+      e : Event
+      e = w .event
+
+      now : holdsSome c t (e ∷ soFar n events) ≡ true
+      now = sym (holds-more c t (suc n) events (e ∷ soFar n events) (w .more)) ∙ s .same (suc n) (s .before) (omega arith)
+
+      fold : (unlocksBy t e || afterUnlock c t (soFar n events)) ≡ true → afterUnlock c t (e ∷ soFar n events) ≡ true
+      fold p = unfold afterUnlock in rw now p
+
+      or-r : (a b : Bool) → b ≡ true → (a || b) ≡ true
+      or-r a b p = rw p (or-true a)
+
+      go : Dec (s .earlier ≡ suc n) → (Shrinking c t events n → afterUnlock c t (soFar n events) ≡ true) → (unlocksBy t e || afterUnlock c t (soFar n events)) ≡ true
+      go (yes p) r = rw (sym (unlock-signal t (suc n) events e (w .stands)) ∙ subst (λ q. unlocksAt t events q ≡ true) p (s .unlocks))
+      go (no p) r = or-r (unlocksBy t e) (afterUnlock c t (soFar n events))
+          (r (record { earlier = s .earlier; before = omega (arith, s .before); unlocks = s .unlocks; same = λ q i j. s .same q i (omega arith) }))
+
+  to-21 : (n : ℕ) (e : Event) → n < length events → atPosition (suc n) events ≡ some e → LateLock c events (lineAfter n) → lateLock c (soFar n events) e ≡ true
+  unfolding lateLock locksBy of
+  to-21 n e h q r =
+      let k : (locks e && eqb (e .thread) (r .thread)) ≡ true = sym (lock-signal (r .thread) (suc n) events e q) ∙ sym (lock-line (r .thread) events (lineAfter n) (suc n) (position-after n)) ∙ r .locks in
+      let t : e .thread ≡ r .thread = eqb-true (e .thread) (r .thread) (both-r (locks e) (eqb (e .thread) (r .thread)) k) in
+      rw (both-l (locks e) (eqb (e .thread) (r .thread)) k, t)
+      (from-shrinking (r .thread) n (omega arith) (record { earlier = position (r .earlier); before = before; unlocks = sym (unlock-line (r .thread) events (r .earlier) (position (r .earlier)) refl) ∙ r .unlocks; same = same }))
+    where
+      before : position (r .earlier) ≤ n
+      before = let i : position (r .earlier) < position (lineAfter n) = position-up (r .earlier) (lineAfter n) (rw (position-after n) (omega arith)) (r .before) in omega (arith, i, position-after n)
+
+      same : (p : ℕ) → position (r .earlier) ≤ p → p ≤ n → holdsAfter c (r .thread) events p ≡ true
+      same p i j = sym (holding-line c (r .thread) events (lineOf p) p (position-line p)) ∙ r .same (lineOf p) (unfold position in omega arith) (omega arith)
+
+  from-21 : (n : ℕ) (e : Event) → n < length events → atPosition (suc n) events ≡ some e → lateLock c (soFar n events) e ≡ true → LateLock c events (lineAfter n)
+  unfolding lateLock locksBy of
+  from-21 n e h q r = record {
+    thread = e .thread;
+    locks = lock-line (e .thread) events (lineAfter n) (suc n) (position-after n) ∙ lock-signal (e .thread) (suc n) events e q
+        ∙ rw (both-l (locks e) (afterUnlock c (e .thread) (soFar n events)) r, eq-eqb (e .thread) (e .thread) refl);
+    earlier = lineOf (s .earlier);
+    before = omega (arith, s .before);
+    unlocks = unlock-line (e .thread) events (lineOf (s .earlier)) (s .earlier) (position-line (s .earlier)) ∙ s .unlocks;
+    same = λ p i j. holding-line c (e .thread) events p (position p) refl
+        ∙ s .same (position p) (rw (position-line (s .earlier)) at (position-to (lineOf (s .earlier)) p i)) (to-last p j);
+  }
+    where
+      s : Shrinking c (e .thread) events n
+      s = to-shrinking (e .thread) n (omega arith) (both-r (locks e) (afterUnlock c (e .thread) (soFar n events)) r)
+
+      to-last : (p : ℕ) → p < lineAfter n → position p ≤ n
+      to-last p j = unfold position in omega arith
+
+-- ---- 22
+
+-- a variable that is not declared is not owed
+no-debt-on : (h : Counts) (t v : ℕ) (es : List Event) → All (Declared h) es → h .variables ≤ v → pending t v es ≡ false
+unfolding pending latest letterIn by is on
+no-debt-on h t v [] d q = refl
+no-debt-on h t v (e ∷ es) d q = rw (not-on (e .thread) (e .line) (of t e) (e .kind) (d .0 .1)) (no-debt-on h t v es (d .1) q)
+  where
+    not-on : (u ln : ℕ) (b : Bool) (k : Kind) → Numbered h k → (is (P ∷ B ∷ []) (record { thread = u; line = ln; kind = k }) && (b && on v (record { thread = u; line = ln; kind = k }))) ≡ false
+    not-on u ln b (Use w x) i = refl
+    not-on u ln b (Assign w x) i = refl
+    not-on u ln b (Load w x) i = refl
+    not-on u ln b (Store w x) i = refl
+    not-on u ln b (Read w x) i = refl
+    not-on u ln b (Write w x) i = refl
+    not-on u ln b (Lock l) i = refl
+    not-on u ln b (Unlock l) i = refl
+    not-on u ln b (PrescientStore w x) i = rw (ne-eqb w v (λ p. absurd (omega arith))) (and-false b)
+    not-on u ln b (PrescientAssign w x) i = rw (ne-eqb w v (λ p. absurd (omega arith))) (and-false b)
+
+module _ (h : Counts) (events : List Event) (d : All (Declared h) events) where
+  turned : All (Declared h) (reverse events)
+  turned = All-turn (Declared h) events [] d tt
+
+  or-left : (a b : Bool) → a ≡ true → (a || b) ≡ true
+  or-left a b p = rw p
+
+  or-right : (a b : Bool) → b ≡ true → (a || b) ≡ true
+  or-right a b p = rw p (or-true a)
+
+  owes : ℕ → Bool
+  owes t = Rules.some (h .variables) (λ v. pending t v (reverse events))
+
+  pub to-22 : Unfinished events → unfinished h (reverse events) ≡ true
+  unfolding unfinished owes
+  to-22 (inl r) =
+      some-has (h .threads) (λ t. holdsSome h t (reverse events) || owes t) (r .thread) (holds-below h (r .thread) (r .lock) (reverse events) turned g)
+      (or-left (holdsSome h (r .thread) (reverse events)) (owes (r .thread)) (unfold holdsSome in some-has (h .locks) (λ l. held (wordsOf (reverse events)) (r .thread) l) (r .lock) below (r .held)))
+    where
+      g : H.Holds (r .thread) (r .lock) (map view (reverse events))
+      g = from-held (r .thread) (r .lock) (reverse events) (r .held)
+
+      below : r .lock < h .locks
+      below = lock-below h (r .thread) (r .lock) (reverse events) turned
+          (let i : H.unlocked (r .thread) (r .lock) (map view (reverse events)) < H.locked (r .thread) (r .lock) (map view (reverse events)) = unfold H.Holds in g in omega arith)
+  to-22 (inr r) =
+      some-has (h .threads) (λ t. holdsSome h t (reverse events) || owes t) (r .thread) (declared (decLt (r .thread) (h .threads)))
+      (or-right (holdsSome h (r .thread) (reverse events)) (owes (r .thread)) (some-has (h .variables) (λ v. pending (r .thread) v (reverse events)) (r .variable) (named (decLt (r .variable) (h .variables))) (r .pending)))
+    where
+      declared : Dec (r .thread < h .threads) → r .thread < h .threads
+      declared (yes i) = i
+      declared (no i) = absurd (true≢false (sym (r .pending) ∙ no-debt h (r .thread) (r .variable) (reverse events) turned (omega arith)))
+
+      named : Dec (r .variable < h .variables) → r .variable < h .variables
+      named (yes i) = i
+      named (no i) = absurd (true≢false (sym (r .pending) ∙ no-debt-on h (r .thread) (r .variable) (reverse events) turned (omega arith)))
+
+  pub from-22 : unfinished h (reverse events) ≡ true → Unfinished events
+  unfolding unfinished holdsSome owes
+  from-22 b = go (one-of (holdsSome h t (reverse events)) (owes t) (is-true (w .1)))
+    where
+      w : (t : ℕ) × T (holdsSome h t (reverse events) || owes t)
+      w = some-witness (h .threads) (λ t. holdsSome h t (reverse events) || owes t) (subst T (sym b) tt)
+
+      t : ℕ
+      t = w .0
+
+      go : (holdsSome h t (reverse events) ≡ true) ⊎ (owes t ≡ true) → Unfinished events
+      go (inl p) =
+          let l : (l : ℕ) × T (held (wordsOf (reverse events)) t l) = some-witness (h .locks) (λ l. held (wordsOf (reverse events)) t l) (subst T (sym p) tt) in
+          inl (record { thread = t; lock = l .0; held = is-true (l .1) })
+      go (inr p) =
+          let v : (v : ℕ) × T (pending t v (reverse events)) = some-witness (h .variables) (λ v. pending t v (reverse events)) (subst T (sym p) tt) in
+          inr (record { thread = t; variable = v .0; pending = is-true (v .1) })
+
+-- nothing stands past the end
+pub unguarded-below : (guard : ℕ → ℕ) (events : List Event) (n : ℕ) → Unguarded guard events n → n < lineAfter (length events)
+unguarded-below guard events n r = event-below n events (r .event) (r .stands)
+
+pub late-below : (h : Counts) (events : List Event) (n : ℕ) → LateLock h events n → n < lineAfter (length events)
+unfolding lockAt
+late-below h events n r = go (eventAt n events) refl (r .locks)
+  where
+    go : (o : Option Event) → eventAt n events ≡ o → passes (locksBy (r .thread)) o ≡ true → n < lineAfter (length events)
+    go none q k = absurd (false≢true k)
+    go (some e) q k = event-below n events e q
+
+-- ---- the whole
+
+-- what an answer says of the trace
+abbrev pub Says : Counts → (ℕ → ℕ) → List Event → Denial → Type 0
+Says h guard events fit = Orderly h guard events
+Says h guard events (denied number line) = Denies h guard events number line
+
+module _ (h : Counts) (guard : ℕ → ℕ) (events : List Event) (d : All (Declared h) events) where
+  walk : (k n : ℕ) → n + k ≡ length events → Clean h guard events (lineAfter n) → Says h guard events (denialFrom h guard (soFar n events) (drop n events))
+  unfolding denialFrom
+  walk zero n l c = subst (λ i. Says h guard events (denialFrom h guard (soFar i events) (drop i events))) (sym whole) (rw (drop-length events, so-far-all events) (go (unfinished h (reverse events)) refl))
+    where
+      whole : n ≡ length events
+      whole = omega arith
+
+      clean : Clean h guard events (lineAfter (length events))
+      clean = subst (λ i. Clean h guard events (lineAfter i)) whole c
+
+      go : (b : Bool) → unfinished h (reverse events) ≡ b → Says h guard events (cond b (denied 22 (lineAfter (length (reverse events)))) fit)
+      go true q = rw (length-reverse events) (D.unfinished refl refl clean (from-22 h events d q))
+      go false q = record {
+        guarded = λ p r. clean .guarded p (unguarded-below guard events p r) r;
+        twoPhase = λ p r. clean .twoPhase p (late-below h events p r) r;
+        finished = λ r. true≢false (sym (to-22 h events d r) ∙ q);
+      }
+  walk (suc k) n l c = rw (w .rest) (go (notUnder guard es e) refl (lateLock h es e) refl (walk k (suc n) (omega arith)))
+    where
+      w : Here (Declared h) events n
+      w = at-place (Declared h) events n d (omega arith)
+
+      e : Event
+      e = w .event
+
+      es : List Event
+      es = soFar n events
+
+      line : lineAfter n ≡ lineAfter (length es)
+      line = ap lineAfter (sym (length-so-far n events (omega arith)))
+
+      more : notUnder guard es e ≡ false → lateLock h es e ≡ false → Clean h guard events (lineAfter (suc n))
+      more p q = record { guarded = λ i j. see i j (ℕ-discrete i (lineAfter n)); twoPhase = λ i j. sees i j (ℕ-discrete i (lineAfter n)) }
+        where
+          see : (i : ℕ) → i < lineAfter (suc n) → Dec (i ≡ lineAfter n) → Unguarded guard events i → ⊥
+          see i j (yes x) r = true≢false (sym (to-20 guard events n e (w .stands) (subst (λ i. Unguarded guard events i) x r)) ∙ p)
+          see i j (no x) r = c .guarded i (omega arith) r
+
+          sees : (i : ℕ) → i < lineAfter (suc n) → Dec (i ≡ lineAfter n) → LateLock h events i → ⊥
+          sees i j (yes x) r = true≢false (sym (to-21 h events d n e (omega arith) (w .stands) (subst (λ i. LateLock h events i) x r)) ∙ q)
+          sees i j (no x) r = c .twoPhase i (omega arith) r
+
+      go : (b : Bool) → notUnder guard es e ≡ b → (b′ : Bool) → lateLock h es e ≡ b′ → (Clean h guard events (lineAfter (suc n)) → Says h guard events (denialFrom h guard (soFar (suc n) events) (drop (suc n) events)))
+          → Says h guard events (cond b (denied 20 (lineAfter (length es))) (cond b′ (denied 21 (lineAfter (length es))) (denialFrom h guard (e ∷ es) (drop (suc n) events))))
+      go true p b′ q r = subst (λ i. Denies h guard events 20 i) line (unguarded refl c (from-20 guard events n e (w .stands) p))
+      go false p true q r = subst (λ i. Denies h guard events 21 i) line (late refl c (from-21 h events d n e (omega arith) (w .stands) q))
+      go false p false q r = subst (λ l. Says h guard events (denialFrom h guard l (drop (suc n) events))) (w .more) (r (more p q))
+
+  -- nothing stands before the first event line
+  start : Clean h guard events (lineAfter 0)
+  start = record { guarded = λ q i r. nothing q i (r .event) (r .stands); twoPhase = λ q i r. late-none q i (r .thread) (r .locks) }
+    where
+      early : (q : ℕ) → q < lineAfter 0 → position q ≡ 0
+      early q i = unfold position in omega arith
+
+      nothing : (q : ℕ) → q < lineAfter 0 → (e : Event) → eventAt q events ≡ some e → ⊥
+      nothing q i e s = some-none e (unfold eventAt atPosition in rw (early q i) at s)
+
+      late-none : (q : ℕ) → q < lineAfter 0 → (t : ℕ) → lockAt t events q ≡ true → ⊥
+      late-none q i t k = false≢true (unfold lockAt eventAt atPosition in rw (early q i) at k)
+
+  pub says : Says h guard events (denial h guard events)
+  unfolding denial
+  says = unfold soFar in walk (length events) 0 (omega arith) start
+
+  pub orderly-fit : Orderly h guard events → denial h guard events ≡ fit
+  orderly-fit o = go (denial h guard events) says
+    where
+      go : (x : Denial) → Says h guard events x → x ≡ fit
+      go fit s = refl
+      go (denied number line) (unguarded a c r) = absurd (o .guarded line r)
+      go (denied number line) (late a c r) = absurd (o .twoPhase line r)
+      go (denied number line) (D.unfinished a b c r) = absurd (o .finished r)

@@ -1,0 +1,15 @@
+pub mod Valid
+pub mod Cells
+pub mod Judged
+pub mod Whole
+pub mod Ordered
+pub mod Places
+pub mod Steps
+pub mod Listed
+pub mod Sequence
+pub mod Denied
+pub mod Every
+pub mod Only
+pub mod Few
+pub mod Demand3
+pub mod Examples

@@ -1,0 +1,356 @@
+-- A trace that no refusal of 10 to 22 meets has a serial order.
+use Prim.Native.Nat.{ℕ, zero, suc, _+_, _-_, _*_, _≤_, _<_}
+use native.Mathlib.Decide.{ℕ-discrete, decLt}
+use native.Mathlib.Omega.{arith}
+use mathlib.Core.Path.{_≡_, refl, sym, ap, _∙_, subst, subst₂}
+use mathlib.Core.Logic.{_⊎_, inl, inr, ite}
+use mathlib.Core.Bool.{Bool, true, false, not, cond, _&&_, _||_, or-false, or-true, true≢false, false≢true}
+use mathlib.Core.List.{List, [], _∷_, _++_, map, reverse, reverseAux}
+use mathlib.Core.Option.{Option, none, some}
+use lib.Dec.{T, eqb, ltb, eqb→eq}
+use lib.IntN.{ℤ, pos}
+use lib.ListN.{length}
+use Rattle.rules.specs.declared.Event.{Event}
+use Rattle.rules.specs.declared.Kind.{Kind}
+use Rattle.rules.specs.declared.Kind.the-variants.{Use, Assign, Load, Store, Read, Write, Lock, Unlock, PrescientStore, PrescientAssign}
+use Rattle.rules.specs.Events.{A, B, K, L, N, P, R, S, U, W, letter, is, of, on, locks, unlocks}
+use Rattle.rules.specs.declared.Counts.{Counts}
+use Rattle.rules.specs.Words.{by, count, pending, main, latest, letterIn}
+use Rattle.rules.specs.Rules as Rules
+use Rattle.rules.specs.Rules.{wordsOf, held}
+use Rattle.rules.specs.Limits.{lineAfter}
+use Rattle.rules.proofs.Laws.{is-true, and-left, and-right, or-false-left, or-false-right, some-has}
+use Rattle.serial.specs.Words as C
+use Rattle.serial.specs.Events as E
+use Rattle.serial.specs.Sections as Q
+use Rattle.serial.proofs.Order.{proj}
+use Rattle.serial.proofs.Counted as H
+use Rattle.serial.specs.Entry.{Entry as Span, entry as span}
+use Rattle.serial.specs.Lists.{All}
+use Rattle.serial.proofs.Serial.{Ended}
+use Rattle.serial.proofs.Trace as Trace
+use Rattle.ordering.specs.View.{viewed, view}
+use Rattle.ordering.specs.Places.{usesOrAssigns, unlocksBy, holdsSome}
+use Rattle.ordering.specs.Denials.{Denial, fit, denied}
+use Rattle.ordering.specs.Refusals.{afterUnlock, notUnder, lateLock, unfinished, denialFrom, denial}
+use Rattle.ordering.specs.Order.{told, sections}
+use Rattle.ordering.proofs.Valid.{Valid, Numbered, Declared}
+use Rattle.ordering.proofs.Cells.{cellOf, cells, mains, length-view, eqb-yes, eqb-no}
+use Rattle.ordering.proofs.Judged.{some-none}
+use Rattle.ordering.proofs.Whole.{accepted, exclusive, to-held, from-held, holds-below}
+
+-- no event of the list breaks 20 or 21
+unfoldable pub orderly : Counts → (ℕ → ℕ) → List Event → Bool
+orderly h guard [] = true
+orderly h guard (e ∷ es) = not (notUnder guard es e) && (not (lateLock h es e) && orderly h guard es)
+
+pub All-imp : {A : Type 0} (P R : A → Type 0) (l : List A) → ((a : A) → P a → R a) → All P l → All R l
+All-imp P R [] f h = tt
+All-imp P R (a ∷ l) f h = (f a (h .0), All-imp P R l f (h .1))
+
+-- a lock that is held is declared
+pub lock-below : (h : Counts) (t l : ℕ) (es : List Event) → All (Declared h) es → 0 < H.locked t l (map view es) → l < h .locks
+unfolding H.locked
+lock-below h t l [] d b = absurd (omega arith)
+lock-below h t l (e ∷ es) d b = go (e .kind) (d .0 .1) b (lock-below h t l es (d .1))
+  where
+    go : (k : Kind) → Numbered h k → 0 < H.locked t l (viewed (e .thread) k ∷ map view es) → (0 < H.locked t l (map view es) → l < h .locks) → l < h .locks
+    go (Use v x) m b r = r b
+    go (Assign v x) m b r = r b
+    go (Load v x) m b r = r b
+    go (Store v x) m b r = r b
+    go (Read v x) m b r = r b
+    go (Write v x) m b r = r b
+    go (Unlock i) m b r = r b
+    go (PrescientStore v x) m b r = r b
+    go (PrescientAssign v x) m b r = r b
+    go (Lock i) m b r = both (ℕ-discrete (e .thread) t) (ℕ-discrete i l) b
+      where
+        both : (p : Dec (e .thread ≡ t)) (q : Dec (i ≡ l)) → 0 < H.bump p q (H.locked t l (map view es)) → l < h .locks
+        both (yes p) (yes q) b = subst (λ j. j < h .locks) q m
+        both (yes p) (no q) b = r b
+        both (no p) (yes q) b = r b
+        both (no p) (no q) b = r b
+
+pub busy-some : (h : Counts) (t l : ℕ) (es : List Event) → All (Declared h) es → H.Holds t l (map view es) → holdsSome h t es ≡ true
+unfolding holdsSome H.Holds
+busy-some h t l es d b = some-has (h .locks) (λ l. held (wordsOf es) t l) l (lock-below h t l es d (omega (arith, b))) (to-held t l es b)
+
+pub whose : (k : Kind) (u : ℕ) → E.thread (viewed u k) ≡ u
+whose (Use v x) u = refl
+whose (Assign v x) u = refl
+whose (Load v x) u = refl
+whose (Store v x) u = refl
+whose (Read v x) u = refl
+whose (Write v x) u = refl
+whose (Lock l) u = refl
+whose (Unlock l) u = refl
+whose (PrescientStore v x) u = refl
+whose (PrescientAssign v x) u = refl
+
+-- ---- 21
+
+pub unlocking : (k : Kind) (u ln t l : ℕ) → viewed u k ≡ E.unlock t l → unlocksBy t (record { thread = u; line = ln; kind = k }) ≡ true
+unfolding unlocksBy unlocks is of
+unlocking (Unlock i) u ln t l p = eqb-yes u t (cc)
+unlocking (Use v x) u ln t l p = cc
+unlocking (Assign v x) u ln t l p = cc
+unlocking (Load v x) u ln t l p = cc
+unlocking (Store v x) u ln t l p = cc
+unlocking (Read v x) u ln t l p = cc
+unlocking (Write v x) u ln t l p = cc
+unlocking (Lock i) u ln t l p = cc
+unlocking (PrescientStore v x) u ln t l p = cc
+unlocking (PrescientAssign v x) u ln t l p = cc
+
+shrunk : (h : Counts) (t : ℕ) (es : List Event) → All (Declared h) es → Q.Shrunk H.counted t (map view es) → afterUnlock h t es ≡ true
+unfolding Q.Shrunk afterUnlock
+shrunk h t [] d s = absurd s
+shrunk h t (e ∷ es) d s = rw (busy-some h t (s .0 .0) (e ∷ es) d (s .0 .1)) (go (s .1) (shrunk h t es (d .1)))
+  where
+    go : ((l : ℕ) × (view e ≡ E.unlock t l)) ⊎ Q.Shrunk H.counted t (map view es) → (Q.Shrunk H.counted t (map view es) → afterUnlock h t es ≡ true) → (unlocksBy t e || afterUnlock h t es) ≡ true
+    go (inl p) r = rw (unlocking (e .kind) (e .thread) (e .line) t (p .0) (p .1))
+    go (inr q) r = rw (r q) (or-true (unlocksBy t e))
+
+pub locking : (k : Kind) (u ln t l : ℕ) → viewed u k ≡ E.lock t l → (locks (record { thread = u; line = ln; kind = k }) ≡ true) × (u ≡ t)
+unfolding locks is
+locking (Lock i) u ln t l p = (refl, cc)
+locking (Use v x) u ln t l p = (cc, cc)
+locking (Assign v x) u ln t l p = (cc, cc)
+locking (Load v x) u ln t l p = (cc, cc)
+locking (Store v x) u ln t l p = (cc, cc)
+locking (Read v x) u ln t l p = (cc, cc)
+locking (Write v x) u ln t l p = (cc, cc)
+locking (Unlock i) u ln t l p = (cc, cc)
+locking (PrescientStore v x) u ln t l p = (cc, cc)
+locking (PrescientAssign v x) u ln t l p = (cc, cc)
+
+not-true : (b : Bool) → T (not b) → b ≡ true → ⊥
+not-true true h p = h
+not-true false h p = false≢true p
+
+pub two-phase : (h : Counts) (guard : ℕ → ℕ) (es : List Event) → All (Declared h) es → T (orderly h guard es) → Q.TwoPhase H.counted (map view es)
+unfolding Q.TwoPhase orderly lateLock
+two-phase h guard [] d o = tt
+two-phase h guard (e ∷ es) d o = (here, two-phase h guard es (d .1) (and-right (not (lateLock h es e)) (orderly h guard es) rest))
+  where
+    rest : T (not (lateLock h es e) && orderly h guard es)
+    rest = and-right (not (notUnder guard es e)) (not (lateLock h es e) && orderly h guard es) o
+
+    here : (t l : ℕ) → view e ≡ E.lock t l → Q.Shrunk H.counted t (map view es) → ⊥
+    here t l p s =
+        let q : (locks e ≡ true) × (e .thread ≡ t) = locking (e .kind) (e .thread) (e .line) t l p in
+        not-true (lateLock h es e) (and-left (not (lateLock h es e)) (orderly h guard es) rest) (rw (q .0, q .1) (shrunk h t es (d .1) s))
+
+-- ---- 20
+
+untrue : (b : Bool) → not b ≡ false → b ≡ true
+untrue true p = refl
+untrue false p = absurd (true≢false p)
+
+false-of : (b : Bool) → T (not b) → b ≡ false
+false-of true h = absurd h
+false-of false h = refl
+
+under-one : (guard : ℕ → ℕ) (v : ℕ) (es : List Event) (k : Kind) (u ln : ℕ) → notUnder guard es (record { thread = u; line = ln; kind = k }) ≡ false
+    → C.uses v (viewed u k) ≡ true → H.Holds u (guard v) (map view es)
+unfolding notUnder usesOrAssigns is
+under-one guard v es k u ln = go k
+  where
+    own : (κ : E.Kind) (v′ : ℕ) (x : ℤ) → (C.guarded κ ≡ true → not (held (wordsOf es) u (guard v′)) ≡ false) → C.uses v (E.mem κ u v′ x) ≡ true → H.Holds u (guard v) (map view es)
+    own κ v′ x n = see (ℕ-discrete v′ v)
+      where
+        see : (d : Dec (v′ ≡ v)) → C.guardedAt (ite {C = C.Touch ℤ} d (C.at κ x) C.elsewhere) ≡ true → H.Holds u (guard v) (map view es)
+        see (yes q) p = subst (λ i. H.Holds u (guard i) (map view es)) q (from-held u (guard v′) es (untrue (held (wordsOf es) u (guard v′)) (n p)))
+        see (no q) p = absurd (false≢true p)
+
+    go : (k : Kind) → notUnder guard es (record { thread = u; line = ln; kind = k }) ≡ false → C.uses v (viewed u k) ≡ true → H.Holds u (guard v) (map view es)
+    go (Use v′ x) n p = own E.Use v′ x (λ _. n) p
+    go (Assign v′ x) n p = own E.Assign v′ x (λ _. n) p
+    go (PrescientAssign v′ x) n p = own E.PrescientAssign v′ x (λ _. n) p
+    go (Load v′ x) n p = own E.Load v′ x (λ q. absurd (false≢true q)) p
+    go (Store v′ x) n p = own E.Store v′ x (λ q. absurd (false≢true q)) p
+    go (Read v′ x) n p = own E.Read v′ x (λ q. absurd (false≢true q)) p
+    go (Write v′ x) n p = own E.Write v′ x (λ q. absurd (false≢true q)) p
+    go (PrescientStore v′ x) n p = own E.PrescientStore v′ x (λ q. absurd (false≢true q)) p
+    go (Lock l) n p = absurd (false≢true p)
+    go (Unlock l) n p = absurd (false≢true p)
+
+pub under : (h : Counts) (guard : ℕ → ℕ) (v : ℕ) (es : List Event) → T (orderly h guard es) → Q.Under H.counted (C.uses v) (guard v) (map view es)
+unfolding Q.Under orderly
+under h guard v [] o = tt
+under h guard v (e ∷ es) o = (
+  here (under-one guard v es (e .kind) (e .thread) (e .line) (false-of (notUnder guard es e) (and-left (not (notUnder guard es e)) (not (lateLock h es e) && orderly h guard es) o))),
+  under h guard v es (and-right (not (lateLock h es e)) (orderly h guard es) (and-right (not (notUnder guard es e)) (not (lateLock h es e) && orderly h guard es) o)),
+)
+  where
+    here : (C.uses v (view e) ≡ true → H.Holds (e .thread) (guard v) (map view es)) → C.uses v (view e) ≡ true → H.Holds (E.thread (view e)) (guard v) (map view es)
+    here f p = subst (λ i. H.Holds i (guard v) (map view es)) (sym (whose (e .kind) (e .thread))) (f p)
+
+-- ---- 22
+
+-- a thread that is not declared owes nothing
+pub no-debt : (h : Counts) (t v : ℕ) (es : List Event) → All (Declared h) es → h .threads ≤ t → pending t v es ≡ false
+unfolding pending latest letterIn by of
+no-debt h t v [] d b = refl
+no-debt h t v (e ∷ es) d b = step (eqb-no (e .thread) t (λ p. absurd (omega (arith, d .0 .0)))) (no-debt h t v es (d .1) b)
+  where
+    none-of : (a : Bool) (b : Bool) → b ≡ false → (a && (b && on v e)) ≡ false
+    none-of true b p = rw p
+    none-of false b p = refl
+
+    step : eqb (e .thread) t ≡ false → letterIn (P ∷ []) (latest (by (P ∷ B ∷ []) t v) es) ≡ false → letterIn (P ∷ []) (cond (is (P ∷ B ∷ []) e && (eqb (e .thread) t && on v e)) (some e) (latest (by (P ∷ B ∷ []) t v) es)) ≡ false
+    step p r = rw (none-of (is (P ∷ B ∷ []) e) (eqb (e .thread) t) p) r
+
+-- t holds nothing, and owes nothing on a declared variable
+pub settled : (h : Counts) (es : List Event) → unfinished h es ≡ false → (t : ℕ) → t < h .threads → (holdsSome h t es ≡ false) × (Rules.some (h .variables) (λ v. pending t v es) ≡ false)
+unfolding unfinished
+settled h es f t b =
+    let q : (holdsSome h t es || Rules.some (h .variables) (λ v. pending t v es)) ≡ false = some-none (h .threads) (λ t. holdsSome h t es || Rules.some (h .variables) (λ v. pending t v es)) f t b in
+    (or-false-left (holdsSome h t es) (Rules.some (h .variables) (λ v. pending t v es)) q, or-false-right (holdsSome h t es) (Rules.some (h .variables) (λ v. pending t v es)) q)
+
+-- no lock is held
+pub unheld : (h : Counts) (es : List Event) → All (Declared h) es → unfinished h es ≡ false → (t l : ℕ) → H.Holds t l (map view es) → ⊥
+unheld h es d f t l b = true≢false (sym (busy-some h t l es d b) ∙ settled h es f t (holds-below h t l es d b) .0)
+
+pub ended : (h : Counts) (guard : ℕ → ℕ) (v : ℕ) (es : List Event) → v < h .variables → Valid h es → All (Declared h) es → unfinished h es ≡ false → Ended (pos 0) H.counted (guard v) v (map view es)
+unfolding wordsOf cellOf
+ended h guard v es hv a d f = record { unheld = λ t b. unheld h es d f t (guard v) b; paid = paid }
+  where
+    owes : (t : ℕ) → Dec (t < h .threads) → pending t v es ≡ false
+    owes t (yes b) = some-none (h .variables) (λ v. pending t v es) (settled h es f t b .1) v hv
+    owes t (no b) = no-debt h t v es d (omega arith)
+
+    paid : (t : ℕ) → C.cell (pos 0) t v (map view es) .pending ≡ false
+    paid t = rw (cells h t v es a) (owes t (decLt t (h .threads)))
+
+-- ---- the whole
+
+pub turn-map : (l m : List Event) → reverseAux (map view l) (map view m) ≡ map view (reverseAux l m)
+turn-map [] m = refl
+turn-map (e ∷ l) m = turn-map l (e ∷ m)
+
+pub All-turn : {A : Type 0} (P : A → Type 0) (l m : List A) → All P l → All P m → All P (reverseAux l m)
+All-turn P [] m h k = k
+All-turn P (a ∷ l) m h k = All-turn P l (a ∷ m) (h .1) (h .0, k)
+
+names : (h : Counts) (es : List Event) → All (Declared h) es → All (Trace.Names (h .variables)) (map view es)
+names h [] d = tt
+names h (e ∷ es) d = (one (e .kind) (e .thread) (d .0 .1), names h es (d .1))
+  where
+    one : (k : Kind) (u : ℕ) → Numbered h k → Trace.Names (h .variables) (viewed u k)
+    one (Use v x) u m = m
+    one (Assign v x) u m = m
+    one (Load v x) u m = m
+    one (Store v x) u m = m
+    one (Read v x) u m = m
+    one (Write v x) u m = m
+    one (Lock l) u m = tt
+    one (Unlock l) u m = tt
+    one (PrescientStore v x) u m = m
+    one (PrescientAssign v x) u m = m
+
+-- ---- the order, by the rules' test of what a thread holds and by the theory's
+
+agree : {A B : Type 0} (e : E.Event ℤ) (a : Dec A) (b : Dec B) (n : ℕ) (ss : List (Q.Section ℤ)) → (A → B) → (B → A) → Q.next e a n ss ≡ Q.next e b n ss
+unfolding Q.next
+agree e (yes a) (yes b) n ss f g = same e
+  where
+    same : (e : E.Event ℤ) → Q.next e (yes a) n ss ≡ Q.next e (yes b) n ss
+    same (E.lock t l) = refl
+    same (E.unlock t l) = refl
+    same (E.mem k t v x) = refl
+agree e (yes a) (no b) n ss f g = absurd (b (f a))
+agree e (no a) (yes b) n ss f g = absurd (a (g b))
+agree e (no a) (no b) n ss f g = same e
+  where
+    same : (e : E.Event ℤ) → Q.next e (no a) n ss ≡ Q.next e (no b) n ss
+    same (E.lock t l) = refl
+    same (E.unlock t l) = refl
+    same (E.mem k t v x) = refl
+
+pub some-witness : (n : ℕ) (f : ℕ → Bool) → T (Rules.some n f) → (i : ℕ) × T (f i)
+unfolding Rules.some
+some-witness zero f t = absurd t
+some-witness (suc n) f t = go (f n) refl t (some-witness n f)
+  where
+    go : (b : Bool) → f n ≡ b → T (b || Rules.some n f) → (T (Rules.some n f) → (i : ℕ) × T (f i)) → (i : ℕ) × T (f i)
+    go true p t r = (n, subst T (sym p) tt)
+    go false p t r = r t
+
+pub some-busy : (h : Counts) (t : ℕ) (es : List Event) → T (holdsSome h t es) → (l : ℕ) × H.Holds t l (map view es)
+unfolding holdsSome
+some-busy h t es b =
+    let i : (l : ℕ) × T (held (wordsOf es) t l) = some-witness (h .locks) (λ l. held (wordsOf es) t l) b in
+    (i .0, from-held t (i .0) es (is-true (i .1)))
+
+pub sections-same : (h : Counts) (es : List Event) → All (Declared h) es → sections h es ≡ Q.sections H.counted (map view es)
+unfolding sections Q.sections
+sections-same h [] d = refl
+sections-same h (e ∷ es) d =
+    rw (sections-same h es (d .1), length-view es, whose (e .kind) (e .thread))
+    (agree (view e) (told (holdsSome h (e .thread) es)) (H.counted .busy? (e .thread) (map view es)) (suc (length es)) (Q.sections H.counted (map view es))
+    (some-busy h (e .thread) es) (λ b. subst T (sym (busy-some h (e .thread) (b .0) es (d .1) (b .1))) tt))
+
+-- the sections of the theory, by positions, in the order of their last K
+abbrev pub spans : Counts → List Event → List Span
+spans h events = map span (reverse (sections h (reverse events)))
+
+spans-same : (h : Counts) (events : List Event) → All (Declared h) events → spans h events ≡ Trace.order H.counted (map view events)
+unfolding Trace.order
+spans-same h events d = rw (turn-map events [], sections-same h (reverse events) (All-turn (Declared h) events [] d tt))
+
+-- An accepted trace that 20 to 22 do not deny an order: run whole in its order on the sequential memory of zeros, the sections
+-- give every use its value in the trace and leave every variable its value in main memory.
+pub serial-run : (h : Counts) (guard : ℕ → ℕ) (events : List Event) → Valid h (reverse events) → All (Declared h) events → T (orderly h guard (reverse events)) → unfinished h (reverse events) ≡ false
+    → (Trace.given (λ v. pos 0) (Trace.serially (map view events) (spans h events)) ≡ Trace.stated (Trace.serially (map view events) (spans h events)))
+    × ((v : ℕ) → v < h .variables → Trace.after (Trace.serially (map view events) (spans h events)) (λ v. pos 0) v ≡ main v (reverse events))
+unfolding wordsOf
+serial-run h guard events a d o f =
+    rw (spans-same h events d)
+    (proved .uses-right, λ v k. proved .ends-right v k ∙ rw (turn-map events []) (mains h v (reverse events) a))
+  where
+    d′ : All (Declared h) (reverse events)
+    d′ = All-turn (Declared h) events [] d tt
+
+    proved : Trace.Serial (pos 0) H.counted (h .variables) (map view events)
+    proved = Trace.demand-3 (pos 0) H.counted (h .variables) guard (map view events) (names h events d)
+        (rw (turn-map events []) (exclusive h (reverse events) d′ a))
+        (rw (turn-map events []) (two-phase h guard (reverse events) d′ o))
+        (λ v k. rw (turn-map events []) (accepted h v k (reverse events) a))
+        (λ v k. rw (turn-map events []) (under h guard v (reverse events) o))
+        (λ v k. rw (turn-map events []) (ended h guard v (reverse events) k a d′ f))
+
+-- ---- a trace that nothing denies an order
+
+fit-cond : (b : Bool) (n m : ℕ) (d : Denial) → cond b (denied n m) d ≡ fit → (b ≡ false) × (d ≡ fit)
+fit-cond true n m d p = (cc, cc)
+fit-cond false n m d p = (refl, p)
+
+pub fit-from : (h : Counts) (guard : ℕ → ℕ) (es rest : List Event) → denialFrom h guard es rest ≡ fit → T (orderly h guard es)
+    → T (orderly h guard (reverseAux rest es)) × (unfinished h (reverseAux rest es) ≡ false)
+unfolding denialFrom orderly
+fit-from h guard es [] p o = (o, fit-cond (unfinished h es) 22 (lineAfter (length es)) fit p .0)
+fit-from h guard es (e ∷ rest) p o =
+    let a : (notUnder guard es e ≡ false) × (cond (lateLock h es e) (denied 21 (lineAfter (length es))) (denialFrom h guard (e ∷ es) rest) ≡ fit) = fit-cond (notUnder guard es e) 20 (lineAfter (length es)) _ p in
+    let b : (lateLock h es e ≡ false) × (denialFrom h guard (e ∷ es) rest ≡ fit) = fit-cond (lateLock h es e) 21 (lineAfter (length es)) _ (a .1) in
+    fit-from h guard (e ∷ es) rest (b .1) (rw (a .0, b .0) o)
+
+-- Demand 3's run, for an accepted trace that 20 to 22 do not deny its order.
+pub serial-order : (h : Counts) (guard : ℕ → ℕ) (events : List Event) → Valid h (reverse events) → All (Declared h) events → denial h guard events ≡ fit
+    → (Trace.given (λ v. pos 0) (Trace.serially (map view events) (spans h events)) ≡ Trace.stated (Trace.serially (map view events) (spans h events)))
+    × ((v : ℕ) → v < h .variables → Trace.after (Trace.serially (map view events) (spans h events)) (λ v. pos 0) v ≡ main v (reverse events))
+unfolding denial orderly
+serial-order h guard events a d p =
+    let f : T (orderly h guard (reverse events)) × (unfinished h (reverse events) ≡ false) = fit-from h guard [] events p tt in
+    serial-run h guard events a d (f .0) (f .1)
+
+pub holds-lock : (t l : ℕ) (es : List (E.Event ℤ)) → H.unlocked t l es ≤ H.locked t l es → H.Holds t l (E.lock t l ∷ es)
+unfolding H.Holds H.locked H.unlocked
+holds-lock t l es h = go (ℕ-discrete t t) (ℕ-discrete l l)
+  where
+    go : (d : Dec (t ≡ t)) (d′ : Dec (l ≡ l)) → H.unlocked t l es < H.bump d d′ (H.locked t l es)
+    go (yes p) (yes q) = omega arith
+    go (yes p) (no q) = absurd (q refl)
+    go (no p) (yes q) = absurd (p refl)
+    go (no p) (no q) = absurd (p refl)

@@ -1,0 +1,203 @@
+-- What one event does to what a thread holds, and to the thread's sections in the scan's list.
+use Prim.Native.Nat.{ℕ, zero, suc, _≤_, _<_}
+use native.Mathlib.Decide.{ℕ-discrete}
+use native.Mathlib.Omega.{arith}
+use mathlib.Core.Path.{_≡_, refl, sym, ap, _∙_, subst}
+use mathlib.Core.Logic.{_⊎_, inl, inr}
+use mathlib.Core.Bool.{Bool, true, false, cond, _&&_, and-false, true≢false, false≢true}
+use mathlib.Core.List.{List, [], _∷_, map, reverse}
+use mathlib.Core.Option.{Option, none, some}
+use lib.Dec.{T, eqb}
+use lib.IntN.{ℤ}
+use lib.ListN.{length}
+use borrow.Author.Tests.{eq-eqb, ne-eqb, eqb-true}
+use Rattle.rules.specs.declared.Event.{Event}
+use Rattle.rules.specs.declared.Kind.{Kind}
+use Rattle.rules.specs.declared.Kind.the-variants.{Use, Assign, Load, Store, Read, Write, Lock, Unlock, PrescientStore, PrescientAssign}
+use Rattle.rules.specs.declared.Counts.{Counts}
+use Rattle.rules.specs.Events.{is, of, locks, unlocks}
+use Rattle.rules.specs.Words.{locksBy, acquires, releases, count, depth}
+use Rattle.rules.specs.Rules as Rules
+use Rattle.rules.specs.Rules.{wordsOf}
+use Rattle.rules.proofs.Simulation.{Paired}
+use Rattle.serial.specs.Events as E
+use Rattle.serial.specs.Lists.{All}
+use Rattle.serial.specs.Sections as Q
+use Rattle.serial.proofs.Counted as H
+use Rattle.ordering.specs.View.{viewed, view}
+use Rattle.ordering.specs.Order.{told, sections}
+use Rattle.ordering.specs.Places.{soFar, unlocksBy, holdsSome}
+use Rattle.ordering.proofs.Valid.{Valid, pairs, Declared}
+use Rattle.ordering.proofs.Whole.{lockeds, unlockeds}
+use Rattle.ordering.proofs.Ordered.{whose, locking, unlocking, busy-some, some-busy, holds-lock}
+use Rattle.ordering.proofs.Places.{locksAt, unlocksAt, holdsAfter, Here, at-place, length-so-far, valid-so-far, all-so-far, lock-signal, unlock-signal, holds-more}
+use Rattle.serial.proofs.Stacks.{own, grow, rest, front, own-push, own-next-other, own-next-lock, own-next-open}
+use Rattle.serial.proofs.Signals.{Step, Ended, Stack, none-yet, other-busy, out, opening, raising, going}
+
+as-lock : (u t ln : ℕ) (k : Kind) → locksBy u (record { thread = t; line = ln; kind = k }) ≡ true → (l : ℕ) × (viewed t k ≡ E.lock u l)
+unfolding locksBy locks is of
+as-lock u t ln (Lock l) h = (l, ap (λ w. viewed w (Lock l)) (eqb-true t u h))
+as-lock u t ln (Use v x) h = absurd (false≢true h)
+as-lock u t ln (Assign v x) h = absurd (false≢true h)
+as-lock u t ln (Load v x) h = absurd (false≢true h)
+as-lock u t ln (Store v x) h = absurd (false≢true h)
+as-lock u t ln (Read v x) h = absurd (false≢true h)
+as-lock u t ln (Write v x) h = absurd (false≢true h)
+as-lock u t ln (Unlock l) h = absurd (false≢true h)
+as-lock u t ln (PrescientStore v x) h = absurd (false≢true h)
+as-lock u t ln (PrescientAssign v x) h = absurd (false≢true h)
+
+not-both : (u t ln : ℕ) (k : Kind) → locksBy u (record { thread = t; line = ln; kind = k }) ≡ true → unlocksBy u (record { thread = t; line = ln; kind = k }) ≡ false
+unfolding locksBy unlocksBy locks unlocks is
+not-both u t ln (Lock l) q = refl
+not-both u t ln (Use v x) q = refl
+not-both u t ln (Assign v x) q = refl
+not-both u t ln (Load v x) q = refl
+not-both u t ln (Store v x) q = refl
+not-both u t ln (Read v x) q = refl
+not-both u t ln (Write v x) q = refl
+not-both u t ln (Unlock l) q = absurd (false≢true q)
+not-both u t ln (PrescientStore v x) q = refl
+not-both u t ln (PrescientAssign v x) q = refl
+
+is-lock : (u l : ℕ) (e : Event) → view e ≡ E.lock u l → locksBy u e ≡ true
+unfolding locksBy of
+is-lock u l e p = let q : (locks e ≡ true) × (e .thread ≡ u) = locking (e .kind) (e .thread) (e .line) u l p in rw (q .0, eq-eqb (e .thread) u (q .1))
+
+none-held : (n : ℕ) (t : ℕ) → Rules.some n (λ l. Rules.held (wordsOf []) t l) ≡ false
+unfolding Rules.some wordsOf depth count
+none-held zero t = refl
+none-held (suc n) t = none-held n t
+
+pub idle-start : (h : Counts) (t : ℕ) (events : List Event) → holdsAfter h t events 0 ≡ false
+unfolding holdsAfter soFar holdsSome
+idle-start h t events = none-held (h .locks) t
+
+module _ (c : Counts) (events : List Event) (d : All (Declared c) events) (a : Valid c (reverse events)) where
+  pub steps : (u n : ℕ) → n < length events → Step (locksAt u events) (unlocksAt u events) (holdsAfter c u events) n
+  steps u n h = record { lock-holds = lock-holds; idle-keeps = idle-keeps; busy-keeps = busy-keeps; apart = apart }
+    where
+      at : Here (Declared c) events n
+      at = at-place (Declared c) events n d h
+
+      e : Event
+      e = at .event
+
+      es : List Event
+      es = soFar n events
+
+      before : All (Declared c) es
+      before = all-so-far (Declared c) n events d
+
+      both : All (Declared c) (e ∷ es)
+      both = (at .good, before)
+
+      now : holdsAfter c u events (suc n) ≡ holdsSome c u (e ∷ es)
+      now = holds-more c u (suc n) events (e ∷ es) (at .more)
+
+      was : holdsAfter c u events n ≡ holdsSome c u es
+      was = holds-more c u n events es refl
+
+      l-sig : locksAt u events (suc n) ≡ locksBy u e
+      l-sig = lock-signal u (suc n) events e (at .stands)
+
+      u-sig : unlocksAt u events (suc n) ≡ unlocksBy u e
+      u-sig = unlock-signal u (suc n) events e (at .stands)
+
+      lock-holds : locksAt u events (suc n) ≡ true → holdsAfter c u events (suc n) ≡ true
+      lock-holds k =
+          let w : (l : ℕ) × (view e ≡ E.lock u l) = as-lock u (e .thread) (e .line) (e .kind) (sym l-sig ∙ k) in
+          now ∙ busy-some c u (w .0) (e ∷ es) both
+          (subst (λ x. H.Holds u (w .0) (x ∷ map view es)) (sym (w .1))
+          (holds-lock u (w .0) (map view es) (omega (arith, pairs c es (valid-so-far c n events a) .unlocks u (w .0), lockeds u (w .0) es, unlockeds u (w .0) es))))
+
+      idle-keeps : holdsAfter c u events n ≡ false → locksAt u events (suc n) ≡ false → holdsAfter c u events (suc n) ≡ false
+      idle-keeps i k = now ∙ go (holdsSome c u (e ∷ es)) refl
+        where
+          back : (l : ℕ) → (view e ≡ E.lock u l) ⊎ H.Holds u l (map view es) → ⊥
+          back l (inl p) = true≢false (sym (is-lock u l e p) ∙ sym l-sig ∙ k)
+          back l (inr g) = true≢false (sym (busy-some c u l es before g) ∙ sym was ∙ i)
+
+          go : (b : Bool) → holdsSome c u (e ∷ es) ≡ b → b ≡ false
+          go true q =
+              let w : (l : ℕ) × H.Holds u l (map view (e ∷ es)) = some-busy c u (e ∷ es) (subst T (sym q) tt) in
+              absurd (back (w .0) (H.holds-back u (w .0) (view e) (map view es) (w .1)))
+          go false q = refl
+
+      busy-keeps : holdsAfter c u events n ≡ true → unlocksAt u events (suc n) ≡ false → holdsAfter c u events (suc n) ≡ true
+      busy-keeps i k =
+          let w : (l : ℕ) × H.Holds u l (map view es) = some-busy c u es (subst T (sym (sym was ∙ i)) tt) in
+          now ∙ busy-some c u (w .0) (e ∷ es) both
+          (H.holds-keep u (w .0) (view e) (map view es) (w .1) (λ l p. true≢false (sym (unlocking (e .kind) (e .thread) (e .line) u l p) ∙ sym u-sig ∙ k)))
+
+      apart : locksAt u events (suc n) ≡ true → unlocksAt u events (suc n) ≡ false
+      apart k = u-sig ∙ not-both u (e .thread) (e .line) (e .kind) (sym l-sig ∙ k)
+
+-- ---- one event of the scan
+
+module _ (L F G : ℕ → Bool) (n : ℕ) (f : Step L F G n) where
+  calm : (l : List (Q.Section ℤ)) → L (suc n) ≡ false → F (suc n) ≡ false → (b : Bool) → G n ≡ b → Stack L F G b n l → Stack L F G (G (suc n)) (suc n) l
+  calm l k v true q st = rw (f .busy-keeps q v) (other-busy L F G n f l q k v st)
+  calm l k v false q st = rw (f .idle-keeps q k) (out L F G n f l q st)
+
+  module _ (u : ℕ) (ss : List (Q.Section ℤ)) where
+    plainly : (x : E.Event ℤ) → own u (Q.next x (told true) (suc n) ss) ≡ grow u (suc n) x (own u ss) → Q.next x (told false) (suc n) ss ≡ ss
+        → L (suc n) ≡ false → (b : Bool) → G n ≡ b → Stack L F G b n (own u ss) → Stack L F G (G (suc n)) (suc n) (own u (Q.next x (told b) (suc n) ss))
+    plainly x p q k true g st = rw p (going L F G n f u x (own u ss) k g st)
+    plainly x p q k false g st = rw (q, f .idle-keeps g k) (out L F G n f (own u ss) g st)
+
+    locked : (l : ℕ) → L (suc n) ≡ true → (b : Bool) → G n ≡ b → Stack L F G b n (own u ss) → Stack L F G (G (suc n)) (suc n) (own u (Q.next (E.lock u l) (told b) (suc n) ss))
+    locked l k true g st = rw (own-next-lock {B = T true} u l (tt {0}) (suc n) ss, f .lock-holds k) (raising L F G n f u (E.lock u l) (own u ss) k st)
+    locked l k false g st = rw (own-next-open {B = T false} u l (λ t. t) (suc n) ss, f .lock-holds k) (opening L F G n f u (E.lock u l) (own u ss) g k st)
+
+    mine : (ln : ℕ) (k : Kind) → L (suc n) ≡ locks (record { thread = u; line = ln; kind = k }) → (b : Bool) → G n ≡ b → Stack L F G b n (own u ss)
+        → Stack L F G (G (suc n)) (suc n) (own u (Q.next (viewed u k) (told b) (suc n) ss))
+    unfolding locks is Q.next
+    mine ln (Use v x) k b g st = plainly (E.mem E.Use u v x) (own-push u (suc n) (E.mem E.Use u v x) ss) refl k b g st
+    mine ln (Assign v x) k b g st = plainly (E.mem E.Assign u v x) (own-push u (suc n) (E.mem E.Assign u v x) ss) refl k b g st
+    mine ln (Load v x) k b g st = plainly (E.mem E.Load u v x) (own-push u (suc n) (E.mem E.Load u v x) ss) refl k b g st
+    mine ln (Store v x) k b g st = plainly (E.mem E.Store u v x) (own-push u (suc n) (E.mem E.Store u v x) ss) refl k b g st
+    mine ln (Read v x) k b g st = plainly (E.mem E.Read u v x) (own-push u (suc n) (E.mem E.Read u v x) ss) refl k b g st
+    mine ln (Write v x) k b g st = plainly (E.mem E.Write u v x) (own-push u (suc n) (E.mem E.Write u v x) ss) refl k b g st
+    mine ln (Lock l) k b g st = locked l k b g st
+    mine ln (Unlock l) k b g st = plainly (E.unlock u l) (own-push u (suc n) (E.unlock u l) ss) refl k b g st
+    mine ln (PrescientStore v x) k b g st = plainly (E.mem E.PrescientStore u v x) (own-push u (suc n) (E.mem E.PrescientStore u v x) ss) refl k b g st
+    mine ln (PrescientAssign v x) k b g st = plainly (E.mem E.PrescientAssign u v x) (own-push u (suc n) (E.mem E.PrescientAssign u v x) ss) refl k b g st
+
+    and-yes : (a b : Bool) → b ≡ true → (a && b) ≡ a
+    and-yes true b h = h
+    and-yes false b h = refl
+
+    -- one more event; b: its thread holds something before it
+    pub one-more : (e : Event) (b : Bool) → L (suc n) ≡ locksBy u e → F (suc n) ≡ unlocksBy u e → (e .thread ≡ u → G n ≡ b)
+        → Stack L F G (G n) n (own u ss) → Stack L F G (G (suc n)) (suc n) (own u (Q.next (view e) (told b) (suc n) ss))
+    unfolding locksBy unlocksBy of
+    one-more e b k v g st = see (ℕ-discrete (e .thread) u)
+      where
+        see : Dec (e .thread ≡ u) → Stack L F G (G (suc n)) (suc n) (own u (Q.next (view e) (told b) (suc n) ss))
+        see (no o) =
+            rw (own-next-other u (view e) (told b) (suc n) ss (λ p. o (sym (whose (e .kind) (e .thread)) ∙ p)))
+            (calm (own u ss) (k ∙ rw (ne-eqb (e .thread) u o) (and-false (locks e))) (v ∙ rw (ne-eqb (e .thread) u o) (and-false (unlocks e))) (G n) refl st)
+        see (yes p) =
+            subst (λ w. Stack L F G (G (suc n)) (suc n) (own u (Q.next (viewed w (e .kind)) (told b) (suc n) ss))) (sym p)
+            (mine (e .line) (e .kind) (k ∙ and-yes (locks e) (eqb (e .thread) u) (eq-eqb (e .thread) u p) ∙ unfold locks is in refl) b (g p) (subst (λ c. Stack L F G c n (own u ss)) (g p) st))
+
+module _ (c : Counts) (events : List Event) (d : All (Declared c) events) (a : Valid c (reverse events)) where
+  -- u's sections in the scan's list, after the first n events
+  pub stack : (u n : ℕ) → n ≤ length events → Stack (locksAt u events) (unlocksAt u events) (holdsAfter c u events) (holdsAfter c u events n) n (own u (sections c (soFar n events)))
+  stack u zero h = rw (idle-start c u events) (unfold soFar sections own in none-yet (locksAt u events) (unlocksAt u events) (holdsAfter c u events))
+  stack u (suc n) h = go (stack u n (omega arith))
+    where
+      at : Here (Declared c) events n
+      at = at-place (Declared c) events n d (omega arith)
+
+      scan : sections c (at .event ∷ soFar n events) ≡ Q.next (view (at .event)) (told (holdsSome c (at .event .thread) (soFar n events))) (suc n) (sections c (soFar n events))
+      scan = unfold sections in rw (length-so-far n events (omega arith))
+
+      go : Stack (locksAt u events) (unlocksAt u events) (holdsAfter c u events) (holdsAfter c u events n) n (own u (sections c (soFar n events)))
+          → Stack (locksAt u events) (unlocksAt u events) (holdsAfter c u events) (holdsAfter c u events (suc n)) (suc n) (own u (sections c (soFar (suc n) events)))
+      go st =
+          rw (at .more, scan)
+          (one-more (locksAt u events) (unlocksAt u events) (holdsAfter c u events) n (steps c events d a u n (omega arith)) u (sections c (soFar n events)) (at .event) (holdsSome c (at .event .thread) (soFar n events))
+          (lock-signal u (suc n) events (at .event) (at .stands)) (unlock-signal u (suc n) events (at .event) (at .stands))
+          (λ p. holds-more c u n events (soFar n events) refl ∙ ap (λ t. holdsSome c t (soFar n events)) (sym p)) st)

@@ -1,0 +1,155 @@
+-- Demand 3 from the rules' own acceptance.
+use Prim.Native.Nat.{ℕ, zero, suc, _-_, _≤_, _<_}
+use native.Mathlib.Decide.{ℕ-discrete}
+use native.Mathlib.Omega.{arith}
+use mathlib.Core.Path.{_≡_, refl, sym, ap, _∙_, subst, subst₂}
+use mathlib.Core.Bool.{Bool, true, false, not, cond, _&&_, _||_, or-false, true≢false, false≢true}
+use mathlib.Core.List.{List, [], _∷_, _++_, map}
+use lib.Dec.{T, eqb, ltb, eqb→eq}
+use lib.IntN.{ℤ, pos}
+use borrow.Author.Tests.{lt-ltb, ltb-true}
+use Rattle.rules.specs.declared.Event.{Event}
+use Rattle.rules.specs.declared.Kind.{Kind}
+use Rattle.rules.specs.declared.Kind.the-variants.{Use, Assign, Load, Store, Read, Write, Lock, Unlock, PrescientStore, PrescientAssign}
+use Rattle.rules.specs.Events.{A, B, K, L, N, P, R, S, U, W, letter, is, of, on, locks, unlocks}
+use Rattle.rules.specs.declared.Counts.{Counts}
+use Rattle.rules.specs.Words.{acquires, releases, count, depth}
+use Rattle.rules.specs.Rules.{Words, wordsOf, held, some, lockTaken, breaks, rows, rowIn, judge}
+use Rattle.rules.proofs.Laws.{and-left, and-right, Unbroken, judged}
+use Rattle.serial.specs.Words as C
+use Rattle.serial.specs.Events as E
+use Rattle.serial.specs.Sections as Q
+use Rattle.serial.proofs.Counted as H
+use Rattle.serial.specs.Lists.{All}
+use Rattle.ordering.specs.View.{viewed, view}
+use Rattle.ordering.proofs.Valid.{Valid, before, row, Declared}
+use Rattle.ordering.proofs.Cells.{cellOf, cells, mains, eqb-yes, eqb-no}
+use Rattle.ordering.proofs.Judged.{allowed, some-none}
+
+-- the rows hold, as the theory words them
+pub accepted : (h : Counts) (v : ℕ) → v < h .variables → (es : List Event) → Valid h es → C.Accepted (pos 0) v (map view es)
+unfolding C.Accepted
+accepted h v b [] a = tt
+accepted h v b (e ∷ es) a = (here, accepted h v b es (before h e es a))
+  where
+    here : (t : ℕ) → C.Allowed (C.act t v (view e)) (C.cell (pos 0) t v (map view es)) (C.main (pos 0) v (map view es))
+    here t = rw (cells h t v es (before h e es a), mains h v es (before h e es a)) (allowed h (wordsOf es) (e .kind) (e .thread) (e .line) (row h e es a) t v b)
+
+-- ---- the locks: more K than N
+
+one-lock : (t l : ℕ) (e : Event) (es : List Event) (m : ℕ) → H.locked t l (map view es) ≡ m → H.locked t l (map view (e ∷ es)) ≡ cond (acquires t l e) (suc m) m
+unfolding H.locked acquires locks is of on
+one-lock t l e es m h = go (e .kind) h
+  where
+    go : (k : Kind) → H.locked t l (map view es) ≡ m
+        → H.locked t l (viewed (e .thread) k ∷ map view es) ≡ cond (acquires t l (record { thread = e .thread; line = e .line; kind = k })) (suc m) m
+    go (Use v x) h = h
+    go (Assign v x) h = h
+    go (Load v x) h = h
+    go (Store v x) h = h
+    go (Read v x) h = h
+    go (Write v x) h = h
+    go (Unlock i) h = h
+    go (PrescientStore v x) h = h
+    go (PrescientAssign v x) h = h
+    go (Lock i) h = both (ℕ-discrete (e .thread) t) (ℕ-discrete i l)
+      where
+        both : (d : Dec (e .thread ≡ t)) (d′ : Dec (i ≡ l)) → H.bump d d′ (H.locked t l (map view es)) ≡ cond (eqb (e .thread) t && eqb i l) (suc m) m
+        both (yes p) (yes q) = rw (eqb-yes (e .thread) t p, eqb-yes i l q) (ap suc h)
+        both (yes p) (no q) = rw (eqb-yes (e .thread) t p, eqb-no i l q) h
+        both (no p) (yes q) = rw (eqb-no (e .thread) t p) h
+        both (no p) (no q) = rw (eqb-no (e .thread) t p) h
+
+one-unlock : (t l : ℕ) (e : Event) (es : List Event) (m : ℕ) → H.unlocked t l (map view es) ≡ m → H.unlocked t l (map view (e ∷ es)) ≡ cond (releases t l e) (suc m) m
+unfolding H.unlocked releases unlocks is of on
+one-unlock t l e es m h = go (e .kind) h
+  where
+    go : (k : Kind) → H.unlocked t l (map view es) ≡ m
+        → H.unlocked t l (viewed (e .thread) k ∷ map view es) ≡ cond (releases t l (record { thread = e .thread; line = e .line; kind = k })) (suc m) m
+    go (Use v x) h = h
+    go (Assign v x) h = h
+    go (Load v x) h = h
+    go (Store v x) h = h
+    go (Read v x) h = h
+    go (Write v x) h = h
+    go (Lock i) h = h
+    go (PrescientStore v x) h = h
+    go (PrescientAssign v x) h = h
+    go (Unlock i) h = both (ℕ-discrete (e .thread) t) (ℕ-discrete i l)
+      where
+        both : (d : Dec (e .thread ≡ t)) (d′ : Dec (i ≡ l)) → H.bump d d′ (H.unlocked t l (map view es)) ≡ cond (eqb (e .thread) t && eqb i l) (suc m) m
+        both (yes p) (yes q) = rw (eqb-yes (e .thread) t p, eqb-yes i l q) (ap suc h)
+        both (yes p) (no q) = rw (eqb-yes (e .thread) t p, eqb-no i l q) h
+        both (no p) (yes q) = rw (eqb-no (e .thread) t p) h
+        both (no p) (no q) = rw (eqb-no (e .thread) t p) h
+
+pub lockeds : (t l : ℕ) (es : List Event) → H.locked t l (map view es) ≡ count (acquires t l) es
+unfolding count
+lockeds t l [] = unfold H.locked in refl
+lockeds t l (e ∷ es) = one-lock t l e es (count (acquires t l) es) (lockeds t l es)
+
+pub unlockeds : (t l : ℕ) (es : List Event) → H.unlocked t l (map view es) ≡ count (releases t l) es
+unfolding count
+unlockeds t l [] = unfold H.unlocked in refl
+unlockeds t l (e ∷ es) = one-unlock t l e es (count (releases t l) es) (unlockeds t l es)
+
+-- Held, in the theory's terms and in the rules'
+pub to-held : (t l : ℕ) (es : List Event) → H.Holds t l (map view es) → held (wordsOf es) t l ≡ true
+unfolding H.Holds wordsOf depth
+to-held t l es h = lt-ltb 0 (count (acquires t l) es - count (releases t l) es) (omega (arith, h, lockeds t l es, unlockeds t l es))
+
+pub from-held : (t l : ℕ) (es : List Event) → held (wordsOf es) t l ≡ true → H.Holds t l (map view es)
+unfolding H.Holds wordsOf depth
+from-held t l es h =
+    let q : 0 < count (acquires t l) es - count (releases t l) es = ltb-true 0 (count (acquires t l) es - count (releases t l) es) h in
+    omega (arith, q, lockeds t l es, unlockeds t l es)
+
+-- ---- a thread that holds something is declared
+
+acquired-by : (t l : ℕ) (e : Event) → T (acquires t l e) → e .thread ≡ t
+unfolding acquires of
+acquired-by t l e b = eqb→eq (e .thread) t (and-left (of t e) (on l e) (and-right (locks e) (of t e && on l e) b))
+
+below : (h : Counts) (t l : ℕ) (es : List Event) → All (Declared h) es → 0 < count (acquires t l) es → t < h .threads
+unfolding count
+below h t l [] a b = absurd (omega arith)
+below h t l (e ∷ es) a b = go (acquires t l e) refl b (below h t l es (a .1))
+  where
+    go : (c : Bool) → acquires t l e ≡ c → 0 < cond c (suc (count (acquires t l) es)) (count (acquires t l) es) → (0 < count (acquires t l) es → t < h .threads) → t < h .threads
+    go true p b r = subst (λ i. i < h .threads) (acquired-by t l e (subst T (sym p) tt)) (a .0 .0)
+    go false p b r = r b
+
+pub holds-below : (h : Counts) (t l : ℕ) (es : List Event) → All (Declared h) es → H.Holds t l (map view es) → t < h .threads
+unfolding H.Holds
+holds-below h t l es a b = below h t l es a (omega (arith, b, lockeds t l es))
+
+-- 11, as the theory words it
+sole : (h : Counts) (w : Words) (u ln l t : ℕ) → judge h w (record { thread = u; line = ln; kind = Lock l }) ≡ 0 → t < h .threads → held w t l ≡ true → t ≡ u
+unfolding breaks lockTaken is rowIn rows
+sole h w u ln l t p b q =
+    let e : Event = record { thread = u; line = ln; kind = Lock l } in
+    let x : Unbroken (11 ∷ 13 ∷ []) h w e = judged h w e (11 ∷ 13 ∷ []) refl p in
+    go (eqb t u) refl (rw q at (some-none (h .threads) (λ t. not (eqb t u) && held w t l) (x .0) t b))
+  where
+    go : (c : Bool) → eqb t u ≡ c → (not c && true) ≡ false → t ≡ u
+    go true r x = eqb→eq t u (subst T (sym r) tt)
+    go false r x = absurd (true≢false x)
+
+pub exclusive : (h : Counts) (es : List Event) → All (Declared h) es → Valid h es → Q.Exclusive H.counted (map view es)
+unfolding Q.Exclusive
+exclusive h [] d a = tt
+exclusive h (e ∷ es) d a = (λ t l p u b. go (e .kind) (row h e es a) t l p u b, exclusive h es (d .1) (before h e es a))
+  where
+    go : (k : Kind) → judge h (wordsOf es) (record { thread = e .thread; line = e .line; kind = k }) ≡ 0 → (t l : ℕ) → viewed (e .thread) k ≡ E.lock t l → (u : ℕ) → H.Holds u l (map view es) → u ≡ t
+    go (Lock i) j t l p u b =
+        let q : i ≡ l = cc in let r : e .thread ≡ t = cc in
+        sole h (wordsOf es) (e .thread) (e .line) i u j (holds-below h u l es (d .1) b) (subst (λ m. held (wordsOf es) u m ≡ true) (sym q) (to-held u l es b)) ∙ r
+    go (Use v x) j t l p u b = cc
+    go (Assign v x) j t l p u b = cc
+    go (Load v x) j t l p u b = cc
+    go (Store v x) j t l p u b = cc
+    go (Read v x) j t l p u b = cc
+    go (Write v x) j t l p u b = cc
+    go (Unlock i) j t l p u b = cc
+    go (PrescientStore v x) j t l p u b = cc
+    go (PrescientAssign v x) j t l p u b = cc

@@ -1,0 +1,10 @@
+-- what must be believed
+pub mod Places
+pub mod CriticalSections
+pub mod Sequential
+pub mod Denials
+pub mod Demand3
+-- what is computed, and proved to be that
+pub mod View
+pub mod Refusals
+pub mod Order

@@ -1,0 +1,69 @@
+-- The lines of a trace: the event in a line, the events up to a line, and what a thread holds after it. Entries, denials and all
+-- that follows here speak of lines; `position` alone goes from a line to the place of its event in the list.
+use Prim.Native.Nat.{ℕ, zero, suc, _-_}
+use mathlib.Core.Bool.{Bool, true, false, _&&_}
+use mathlib.Core.List.{List, [], _∷_, reverse}
+use mathlib.Core.Option.{Option, none, some}
+use lib.ListN.{take}
+use Rattle.rules.specs.declared.Event.{Event}
+use Rattle.rules.specs.declared.Counts.{Counts}
+use Rattle.rules.specs.Events.{A, B, U, is, of, unlocks}
+use Rattle.rules.specs.Limits.{firstLine}
+use Rattle.rules.specs.Words.{locksBy}
+use Rattle.rules.specs.Rules as Rules
+use Rattle.rules.specs.Rules.{wordsOf, held}
+
+-- the number of event lines up to this line: its event's position, from 1; 0 before the first
+unfoldable pub position : ℕ → ℕ
+position line = suc line - firstLine
+
+-- the event that has n events before it
+unfoldable pub nth : ℕ → List Event → Option Event
+nth n [] = none
+nth zero (e ∷ events) = some e
+nth (suc n) (e ∷ events) = nth n events
+
+-- the event at this position, from 1
+unfoldable pub atPosition : ℕ → List Event → Option Event
+atPosition zero events = none
+atPosition (suc n) events = nth n events
+
+-- the first n events, as the words about earlier events take them: the latest first
+unfoldable pub soFar : ℕ → List Event → List Event
+soFar n events = reverse (take n events)
+
+-- the event in this line
+unfoldable pub eventAt : ℕ → List Event → Option Event
+eventAt line events = atPosition (position line) events
+
+-- the events up to this line, the latest first
+unfoldable pub upTo : ℕ → List Event → List Event
+upTo line events = soFar (position line) events
+
+-- U, A or B
+unfoldable pub usesOrAssigns : Event → Bool
+usesOrAssigns e = is (U ∷ A ∷ B ∷ []) e
+
+-- T unlocks, on whichever lock
+unfoldable pub unlocksBy : ℕ → Event → Bool
+unlocksBy t e = unlocks e && of t e
+
+abbrev pub passes : (Event → Bool) → Option Event → Bool
+passes f none = false
+passes f (some e) = f e
+
+-- in this line stands a K by thread t
+unfoldable pub lockAt : ℕ → List Event → ℕ → Bool
+lockAt t events line = passes (locksBy t) (eventAt line events)
+
+-- in this line stands an N by thread t
+unfoldable pub unlockAt : ℕ → List Event → ℕ → Bool
+unlockAt t events line = passes (unlocksBy t) (eventAt line events)
+
+-- T holds something: a declared lock
+unfoldable pub holdsSome : Counts → ℕ → List Event → Bool
+holdsSome h t es = Rules.some (h .locks) (λ l. held (wordsOf es) t l)
+
+-- thread t holds something after this line
+unfoldable pub holding : Counts → ℕ → List Event → ℕ → Bool
+holding h t events line = holdsSome h t (upTo line events)

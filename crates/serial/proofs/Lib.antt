@@ -1,0 +1,10 @@
+pub mod Order
+pub mod Memory
+pub mod Guard
+pub mod Serial
+pub mod Lines
+pub mod Trace
+pub mod Counted
+pub mod Examples
+pub mod Stacks
+pub mod Signals

@@ -1,0 +1,1 @@
+// The theory of serial orders: definitions in specs/, laws in proofs/; it has no code.

@@ -1,0 +1,300 @@
+// Finding a trace in bytes: its refusal, or its head, its guards and the part that holds its events.
+use decimal::Natural;
+use rules::Counts;
+ghost use mathlib.Core.Path.{_≡_};
+ghost use mathlib.Core.List.{[]};
+ghost use Prim.Native.Nat.{_+_, _-_, _≤_, _<_};
+ghost use lib.ListN.{length, drop};
+ghost use Rattle.lines.specs.Lines.{splitOn};
+ghost use Rattle.decimal.specs.Decimal.{naturalOf};
+ghost use Rattle.trace.specs.Trace.{most, trailerNumber, checkAt, trailerOf, checkHead, headOf, badLine, noLocks, lockOf, locksFrom, isDash, guardsOf, refused, withGuards, secondOf, firstOf, traceOf, eventsOf};
+
+// What finding says of the bytes. The number and the line of a refusal are in specs/Trace.antt.
+pub enum Verdict {
+    Found,
+    TooLong,
+    WrongTrailer,
+    WrongHead,
+    WrongGuards,
+}
+
+// The guards of a trace: whether line 2 names locks, and then the lock of each variable, 0 past the last.
+pub struct Guards {
+    pub given: bool,
+    pub locks: [usize; 16],
+}
+
+// A trace that was found, with the places where its events start and its trailer starts; all 0 after a refusal.
+pub struct Trace {
+    pub verdict: Verdict,
+    pub head: Counts,
+    pub guards: Guards,
+    pub from: usize,
+    pub to: usize,
+}
+
+// The trailer: wrong, or where it starts.
+pub enum Trailer {
+    Wrong,
+    At(usize),
+}
+
+pub enum Headed {
+    Wrong,
+    Of(Counts),
+}
+
+pub struct GuardLine {
+    pub ok: bool,
+    pub given: bool,
+    pub locks: [usize; 16],
+}
+
+// The number of a trailer, a line without its end.
+fn trailer_number(s: &[u8]) -> Natural
+    ensures { λ r. ⌜ r ≡ trailerNumber (splitOn 32 (now (s .entry))) ⌝ }
+{
+    if lines::count_fields(s) == 2 {
+        if lines::read_letter(lines::field(s, 0)) == b'Z' {
+            return decimal::read_natural(lines::field(s, 1));
+        }
+    }
+    Natural::Bad
+}
+
+fn check_at(at: usize, n: Natural) -> Trailer
+    ensures { λ r. ⌜ r ≡ checkAt at n ⌝ }
+{
+    match n {
+        Natural::Bad => Trailer::Wrong,
+        Natural::Of(m) => {
+            if m == at {
+                Trailer::At(at)
+            } else {
+                Trailer::Wrong
+            }
+        }
+    }
+}
+
+// The trailer: the last line, with the number of bytes before it.
+fn find_trailer(s: &[u8]) -> Trailer
+    ensures { λ r. ⌜ r ≡ trailerOf (now (s .entry)) ⌝ }
+{
+    if s.len() == 0 {
+        return Trailer::Wrong;
+    }
+    let last = s.len() - 1;
+    if s[last] == 10 {
+        let at = lines::last_end(&s[..last]);
+        check_at(at, trailer_number(&s[at..last]))
+    } else {
+        Trailer::Wrong
+    }
+}
+
+fn check_head(t: Natural, v: Natural, l: Natural) -> Headed
+    ensures { λ r. ⌜ r ≡ checkHead t v l ⌝ }
+{
+    match t {
+        Natural::Bad => Headed::Wrong,
+        Natural::Of(threads) => match v {
+            Natural::Bad => Headed::Wrong,
+            Natural::Of(variables) => match l {
+                Natural::Bad => Headed::Wrong,
+                Natural::Of(locks) => {
+                    let c = Counts {
+                        threads,
+                        variables,
+                        locks,
+                    };
+                    if rules::is_allowed(c) {
+                        Headed::Of(c)
+                    } else {
+                        Headed::Wrong
+                    }
+                }
+            },
+        },
+    }
+}
+
+// Line 1, without its end.
+fn read_head(s: &[u8]) -> Headed
+    ensures { λ r. ⌜ r ≡ headOf (splitOn 32 (now (s .entry))) ⌝ }
+{
+    if lines::count_fields(s) == 4 {
+        if lines::read_letter(lines::field(s, 0)) == b'H' {
+            return check_head(
+                decimal::read_natural(lines::field(s, 1)),
+                decimal::read_natural(lines::field(s, 2)),
+                decimal::read_natural(lines::field(s, 3)),
+            );
+        }
+    }
+    Headed::Wrong
+}
+
+fn bad_line() -> GuardLine
+    ensures { λ r. ⌜ r ≡ badLine ⌝ }
+{
+    GuardLine {
+        ok: false,
+        given: false,
+        locks: [0; 16],
+    }
+}
+
+// A field as the number of one of l locks.
+fn read_lock(f: &[u8], l: usize) -> Natural
+    ensures { λ r. ⌜ r ≡ lockOf l (naturalOf (now (f .entry))) ⌝ }
+{
+    match decimal::read_natural(f) {
+        Natural::Bad => Natural::Bad,
+        Natural::Of(n) => { if n < l { Natural::Of(n) } else { Natural::Bad } }
+    }
+}
+
+// The locks of v variables, behind the first field.
+fn read_locks(s: &[u8], v: usize, l: usize) -> GuardLine
+    requires { ⌜ (v ≤ 16) × (length (splitOn 32 (now s)) ≡ v + 1) ⌝ }
+    ensures { λ r. ⌜ r ≡ locksFrom 0 noLocks l (drop 1 (splitOn 32 (now (s .entry)))) ⌝ }
+{
+    let mut g = [0usize; 16];
+    let mut i: usize = 0;
+    while i < v {
+        let Natural::Of(n) = read_lock(lines::field(s, i + 1), l) else {
+            return bad_line();
+        };
+        g[i] = n;
+        i += 1;
+    }
+    GuardLine {
+        ok: true,
+        given: true,
+        locks: g,
+    }
+}
+
+// Whether a line of guards names none.
+fn is_dash(s: &[u8]) -> bool
+    ensures { λ r. ⌜ r ≡ isDash (splitOn 32 (now (s .entry))) ⌝ }
+{
+    if lines::count_fields(s) == 2 {
+        lines::read_letter(lines::field(s, 1)) == b'-'
+    } else {
+        false
+    }
+}
+
+// Line 2, without its end, for v variables and l locks.
+fn read_guards(s: &[u8], v: usize, l: usize) -> GuardLine
+    requires { ⌜ v ≤ 16 ⌝ }
+    ensures { λ r. ⌜ r ≡ guardsOf v l (splitOn 32 (now (s .entry))) ⌝ }
+{
+    if lines::read_letter(lines::field(s, 0)) == b'G' {
+        if is_dash(s) {
+            GuardLine {
+                ok: true,
+                given: false,
+                locks: [0; 16],
+            }
+        } else if lines::count_fields(s) == v + 1 {
+            read_locks(s, v, l)
+        } else {
+            bad_line()
+        }
+    } else {
+        bad_line()
+    }
+}
+
+fn refuse(r: Verdict) -> Trace
+    ensures { λ t. ⌜ t ≡ refused r ⌝ }
+{
+    Trace {
+        verdict: r,
+        head: Counts {
+            threads: 0,
+            variables: 0,
+            locks: 0,
+        },
+        guards: Guards {
+            given: false,
+            locks: [0; 16],
+        },
+        from: 0,
+        to: 0,
+    }
+}
+
+fn with_guards(a: usize, e: usize, h: Counts, g: GuardLine) -> Trace
+    ensures { λ r. ⌜ r ≡ withGuards a e h g ⌝ }
+{
+    if g.ok {
+        let locks = g.locks;
+        Trace {
+            verdict: Verdict::Found,
+            head: h,
+            guards: Guards {
+                given: g.given,
+                locks,
+            },
+            from: a,
+            to: e,
+        }
+    } else {
+        refuse(Verdict::WrongGuards)
+    }
+}
+
+// Line 2, the first of s, at `at` and in front of the trailer at `e`.
+fn find_second(s: &[u8], at: usize, e: usize, h: Counts) -> Trace
+    requires { ⌜ (at + length (now s) ≤ most) × (h .variables ≤ 16) ⌝ }
+    ensures { λ r. ⌜ r ≡ secondOf (now (s .entry)) at e h ⌝ }
+{
+    let b = lines::find(s, 10);
+    if s.len() <= b {
+        return refuse(Verdict::WrongGuards);
+    }
+    let g = read_guards(&s[..b], h.variables, h.locks);
+    with_guards(at + b + 1, e, h, g)
+}
+
+// Line 1, the first of s, in front of the trailer at `e`.
+fn find_first(s: &[u8], e: usize) -> Trace
+    requires { ⌜ length (now s) ≤ most ⌝ }
+    ensures { λ r. ⌜ r ≡ firstOf (now (s .entry)) e ⌝ }
+{
+    let a = lines::find(s, 10);
+    if s.len() <= a {
+        return refuse(Verdict::WrongHead);
+    }
+    match read_head(&s[..a]) {
+        Headed::Wrong => refuse(Verdict::WrongHead),
+        Headed::Of(h) => find_second(&s[a + 1..], a + 1, e, h),
+    }
+}
+
+// The trace in the bytes, or its refusal: 1, 2, 3 and 6 in this order.
+pub fn find(s: &[u8]) -> Trace
+    ensures { λ r. ⌜ r ≡ traceOf (now (s .entry)) ⌝ }
+{
+    if 65536 < s.len() {
+        return refuse(Verdict::TooLong);
+    }
+    match find_trailer(s) {
+        Trailer::Wrong => refuse(Verdict::WrongTrailer),
+        Trailer::At(e) => find_first(&s[..e], e),
+    }
+}
+
+// The part of the bytes that holds the events; empty after a refusal.
+pub fn find_events(s: &[u8]) -> &[u8]
+    ensures { λ r. ⌜ now r ≡ eventsOf (now (s .entry)) (traceOf (now (s .entry))) ⌝ }
+{
+    let t = find(s);
+    let from = t.from;
+    let to = t.to;
+    &s[from..to]
+}

@@ -1,0 +1,5 @@
+pub mod NumberText
+pub mod FieldText
+pub mod EventBack
+pub mod TraceBack
+pub mod WriteLaws

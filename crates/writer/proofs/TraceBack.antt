@@ -1,0 +1,253 @@
+-- The canonical text of a trace is found and read back as it was.
+-- Assumes nothing.
+use mathlib.Core.Path.{_≡_, refl, sym, ap, _∙_}
+use mathlib.Core.Bool.{Bool, true, false, _&&_}
+use mathlib.Core.List.{List, [], _∷_, _++_, append-assoc, append-nil}
+use Prim.Native.Nat.{ℕ, zero, suc, _≤_, _<_, _+_, _-_}
+use native.Mathlib.Omega.{arith}
+use borrow.Author.Tests.{lt-ltb, eq-eqb, ne-eqb, ltb-true}
+use lib.Dec.{eqb, ltb}
+use lib.ListN.{length, getD, take, drop, set, replicate, length-append}
+use lib.Seq.{take-at, drop-at, getD-at, set-at}
+use Rattle.rules.specs.declared.Counts.{Counts}
+use Rattle.rules.specs.declared.Event.{Event}
+use Rattle.rules.specs.Limits.{full, allowed, firstLine}
+use Rattle.lines.specs.Lines.{choose, before, upTo, splitOn, ended, linesOf, letter}
+use Rattle.decimal.specs.declared.Natural.{Natural}
+use Rattle.decimal.specs.declared.Natural.the-variants as natural
+use Rattle.decimal.specs.Decimal.{cap, naturalOf}
+use Rattle.decimal.specs.Text.{naturalText}
+use Rattle.decimal.proofs.TextLaws.{text-small}
+use Rattle.events.specs.declared.Reading.{Reading}
+use Rattle.events.specs.declared.Reading.the-variants as reading
+use Rattle.events.specs.Events.{readings}
+use Rattle.trace.specs.declared.GuardLine.{GuardLine}
+use Rattle.trace.specs.declared.Guards.{Guards}
+use Rattle.trace.specs.declared.Headed.{Headed}
+use Rattle.trace.specs.declared.Headed.the-variants as headed
+use Rattle.trace.specs.declared.Trailer.{Trailer}
+use Rattle.trace.specs.declared.Trailer.the-variants as trailer
+use Rattle.trace.specs.declared.Trace.{Trace}
+use Rattle.trace.specs.Trace.{most, trailerNumber, checkAt, lastLine, trailerOf, headOf, noLocks, lockLine, lockOf, withLock, locksFrom, isDash, guardsOf, withGuards, secondOf, behindHead, firstOf, behindTrailer, traceOf, eventsOf}
+use Rattle.trace.proofs.TraceLaws.{first-some, second-some, trace-short}
+use Rattle.writer.specs.Text.{rowLine, headLine, guardLine, eventLine, trailerLine, line, eventsText, bodyText, traceText, allBelow, padded, Guarded, none, given, Declared, AllDeclared, done, more, foundText, allRead}
+use Rattle.writer.proofs.NumberText.{natural-back}
+use Rattle.writer.proofs.FieldText.{Free, free-nil, free-cons, before-end, lines-free, texts, up-line, up-join, up-free, up-append}
+use Rattle.writer.proofs.EventBack.{row-fields, row-free, allowed-bounds, written-read, event-free}
+
+-- a line at the front of a text: where it ends, and what is behind it
+pub record Cut (t u s : List ℕ) : Type 0 where
+  pub place : length t ≡ before 10 s
+  pub inside : length t < length s
+  pub front : take (length t) s ≡ t
+  pub back : drop (length t + 1) s ≡ u
+
+cut : (t u : List ℕ) → Free 10 t → Cut t u (line t ++ u)
+cut t u h =
+    let e : line t ++ u ≡ t ++ (10 ∷ u) = append-assoc t (10 ∷ []) u in
+    let m : length t + 1 ≡ length (line t) = omega (arith, length-append t (10 ∷ [])) in
+    record {
+      place = sym (ap (before 10) e ∙ before-end 10 t u h);
+      inside = omega (arith, length-append (line t) u, length-append t (10 ∷ []));
+      front = ap (take (length t)) e ∙ take-at t (10 ∷ u) (length t) refl;
+      back = ap (λ (i : ℕ). drop i (line t ++ u)) m ∙ drop-at (line t) u (length (line t)) refl;
+    }
+
+-- the trailer
+trailer-number : (n : ℕ) → n ≤ cap → trailerNumber (splitOn 32 (trailerLine n)) ≡ natural.Of n
+unfolding trailerNumber texts letter
+trailer-number n h = ap trailerNumber (row-fields 90 (n ∷ []) (λ e. omega arith)) ∙ natural-back n h
+
+module _ (b : List ℕ) (whole : upTo 10 b ≡ length b) (small : length b ≤ cap) where
+  abbrev last : List ℕ
+  last = trailerLine (length b)
+
+  abbrev bytes : List ℕ
+  bytes = b ++ line last
+
+  joined : bytes ≡ (b ++ last) ++ (10 ∷ [])
+  joined = sym (append-assoc b last (10 ∷ []))
+
+  before-last : length bytes - 1 ≡ length (b ++ last)
+  before-last = omega (arith, ap length joined, length-append (b ++ last) (10 ∷ []))
+
+  final : getD bytes (length bytes - 1) 0 ≡ 10
+  final =
+      ap (λ (i : ℕ). getD bytes i 0) before-last ∙ ap (λ (s : List ℕ). getD s (length (b ++ last)) 0) joined
+      ∙ getD-at (b ++ last) 10 [] 0 (length (b ++ last)) refl
+
+  start : lastLine bytes ≡ length b
+  unfolding lastLine
+  start =
+      ap (λ (i : ℕ). upTo 10 (take i bytes)) before-last
+      ∙ ap (λ (s : List ℕ). upTo 10 (take (length (b ++ last)) s)) joined
+      ∙ ap (upTo 10) (take-at (b ++ last) (10 ∷ []) (length (b ++ last)) refl)
+      ∙ up-append 10 b last (up-free 10 last (row-free 90 (length b ∷ []) (λ e. omega arith))) ∙ whole
+
+  piece : take (length bytes - 1 - length b) (drop (length b) bytes) ≡ last
+  piece =
+      let n : length bytes - 1 - length b ≡ length last = omega (arith, before-last, length-append b last) in
+      ap (λ (s : List ℕ). take (length bytes - 1 - length b) s) (drop-at b (line last) (length b) refl)
+      ∙ ap (λ (i : ℕ). take i (line last)) n ∙ take-at last (10 ∷ []) (length last) refl
+
+  pub trailer-back : trailerOf bytes ≡ trailer.At (length b)
+  unfolding trailerOf
+  trailer-back =
+      rw (eq-eqb _ _ final)
+      (ap (λ (a : ℕ). checkAt a (trailerNumber (splitOn 32 (take (length bytes - 1 - a) (drop a bytes))))) start
+      ∙ ap (λ (t : List ℕ). checkAt (length b) (trailerNumber (splitOn 32 t))) piece
+      ∙ ap (checkAt (length b)) (trailer-number (length b) small)
+      ∙ rw (eq-eqb (length b) (length b) refl))
+
+-- the head
+head-back : (c : Counts) → allowed full c ≡ true → headOf (splitOn 32 (headLine c)) ≡ headed.Of c
+unfolding headOf texts letter
+head-back c a =
+    let w = allowed-bounds c a in
+    let t : naturalOf (naturalText (c .threads)) ≡ natural.Of (c .threads) = natural-back (c .threads) (omega (arith, w)) in
+    let v : naturalOf (naturalText (c .variables)) ≡ natural.Of (c .variables) = natural-back (c .variables) (omega (arith, w)) in
+    let l : naturalOf (naturalText (c .locks)) ≡ natural.Of (c .locks) = natural-back (c .locks) (omega (arith, w)) in
+    ap headOf (row-fields 72 (c .threads ∷ c .variables ∷ c .locks ∷ []) (λ e. omega arith)) ∙ rw (t, v, l, a)
+
+-- the guards
+below-split : (l n : ℕ) (ns : List ℕ) → allBelow l (n ∷ ns) ≡ true → (n < l) × (allBelow l ns ≡ true)
+unfolding allBelow
+below-split l n ns h = by (ltb n l) refl h
+  where
+    by : (q : Bool) → ltb n l ≡ q → q && allBelow l ns ≡ true → (n < l) × (allBelow l ns ≡ true)
+    by true e h = (ltb-true n l e, h)
+    by false e h = absurd (let z : _≡_ {A = ℕ} 0 1 = cc in omega arith)
+
+locks-back : (l : ℕ) → l ≤ 8 → (a ns : List ℕ) → length a + length ns ≤ 16 → allBelow l ns ≡ true
+    → locksFrom (length a) (padded a) l (texts ns) ≡ lockLine (padded (a ++ ns))
+unfolding locksFrom texts
+locks-back l k a [] h b = ap (λ (u : List ℕ). lockLine (padded u)) (sym (append-nil a))
+locks-back l k a (n ∷ ns) h b =
+    let w = below-split l n ns b in
+    let z : 16 - length a ≡ suc (16 - length (a ++ (n ∷ []))) = omega (arith, length-append a (n ∷ [])) in
+    let s : set (padded a) (length a) n ≡ padded (a ++ (n ∷ [])) =
+    ap (λ (i : ℕ). set (a ++ replicate i 0) (length a) n) z
+    ∙ set-at a 0 (replicate (16 - length (a ++ (n ∷ []))) 0) n (length a) refl
+    ∙ sym (append-assoc a (n ∷ []) (replicate (16 - length (a ++ (n ∷ []))) 0)) in
+    let i : length a + 1 ≡ length (a ++ (n ∷ [])) = omega (arith, length-append a (n ∷ [])) in
+    rw (natural-back n (omega (arith, w)), lt-ltb n l (w .0), s, i)
+    (locks-back l k (a ++ (n ∷ [])) ns (omega (arith, length-append a (n ∷ []))) (w .1)
+    ∙ ap (λ (u : List ℕ). lockLine (padded u)) (append-assoc a (n ∷ []) ns))
+
+texts-length : (ns : List ℕ) → length (texts ns) ≡ length ns
+unfolding texts
+texts-length [] = refl
+texts-length (n ∷ ns) = ap suc (texts-length ns)
+
+no-dash : (l : ℕ) → l ≤ 8 → (ns : List ℕ) → allBelow l ns ≡ true → isDash ((71 ∷ []) ∷ texts ns) ≡ false
+unfolding texts letter
+no-dash l k [] b = refl
+no-dash l k (n ∷ []) b =
+    let w = below-split l n [] b in
+    rw (text-small n (omega (arith, w))) (ne-eqb (48 + n) 45 (λ e. omega arith))
+no-dash l k (n ∷ m ∷ ns) b = rw (ne-eqb (suc (suc (suc (length (texts ns))))) 2 (λ e. omega arith))
+
+guards-back : (c : Counts) (g : Guards) → allowed full c ≡ true → Guarded c g
+    → guardsOf (c .variables) (c .locks) (splitOn 32 (guardLine (c .variables) g)) ≡ record { ok = true; given = g .given; locks = g .locks }
+unfolding guardsOf splitOn letter
+guards-back c g a none = refl
+guards-back c g a (given ns n b) =
+    let w = allowed-bounds c a in
+    let t : take (c .variables) (padded ns) ≡ ns = take-at ns (replicate (16 - length ns) 0) (c .variables) n in
+    let d = no-dash (c .locks) (omega (arith, w)) ns b in
+    let m : suc (length (texts ns)) ≡ c .variables + 1 = omega (arith, texts-length ns, n) in
+    let k = locks-back (c .locks) (omega (arith, w)) [] ns (omega (arith, w, n)) b in
+    ap (guardsOf (c .variables) (c .locks)) (ap (λ (u : List ℕ). splitOn 32 (rowLine 71 u)) t ∙ row-fields 71 ns (λ e. omega arith))
+    ∙ rw (d, eq-eqb _ _ m) k
+
+-- the events
+events-back : (c : Counts) → allowed full c ≡ true → (n : ℕ) (es : List Event) → AllDeclared c n es → readings c n (linesOf (eventsText es)) ≡ allRead es
+unfolding readings eventsText linesOf splitOn ended allRead
+events-back c a n [] (done m) = refl
+events-back c a n (e ∷ es) (more m f fs d r) =
+    ap (readings c n) (ap linesOf (append-assoc (eventLine e) (10 ∷ []) (eventsText es)) ∙ lines-free (eventLine e) (eventsText es) (event-free e))
+    ∙ rw (written-read c n e a d, events-back c a (n + 1) es r)
+
+events-whole : (es : List Event) → upTo 10 (eventsText es) ≡ length (eventsText es)
+unfolding eventsText upTo
+events-whole [] = refl
+events-whole (e ∷ es) = up-join 10 (line (eventLine e)) (eventsText es) (up-line 10 (eventLine e)) (events-whole es)
+
+guard-free : (c : Counts) (g : Guards) → Free 10 (guardLine (c .variables) g)
+guard-free c g = by (g .given)
+  where
+    by : (q : Bool) → Free 10 (choose q (rowLine 71 (take (c .variables) (g .locks))) (71 ∷ 32 ∷ 45 ∷ []))
+    by true = row-free 71 (take (c .variables) (g .locks)) (λ e. omega arith)
+    by false =
+        free-cons 10 71 (32 ∷ 45 ∷ []) (λ e. omega arith) (free-cons 10 32 (45 ∷ []) (λ e. omega arith) (free-cons 10 45 [] (λ e. omega arith) (free-nil 10)))
+
+module _ (c : Counts) (g : Guards) (es : List Event) (a : allowed full c ≡ true) (ok : Guarded c g) (short : length (traceText c g es) ≤ most) where
+  abbrev second : List ℕ
+  second = line (guardLine (c .variables) g) ++ eventsText es
+
+  abbrev n : ℕ
+  n = length (bodyText c g es)
+
+  body-whole : upTo 10 (bodyText c g es) ≡ n
+  unfolding bodyText
+  body-whole =
+      up-join 10 (line (headLine c)) second (up-line 10 (headLine c))
+      (up-join 10 (line (guardLine (c .variables) g)) (eventsText es) (up-line 10 (guardLine (c .variables) g)) (events-whole es))
+
+  body-small : n ≤ cap
+  unfolding traceText
+  body-small = omega (arith, length-append (bodyText c g es) (line (trailerLine n)))
+
+  places : length (headLine c) + 1 + length (guardLine (c .variables) g) + 1 ≡ length (line (headLine c)) + length (line (guardLine (c .variables) g))
+  places = omega (arith, length-append (headLine c) (10 ∷ []), length-append (guardLine (c .variables) g) (10 ∷ []))
+
+  second-back : secondOf second (length (headLine c) + 1) n c ≡ foundText c g es
+  unfolding foundText
+  second-back =
+      let w = cut (guardLine (c .variables) g) (eventsText es) (guard-free c g) in
+      sym (second-some second (length (headLine c) + 1) n (length (guardLine (c .variables) g)) c (w .place) (w .inside))
+      ∙ ap (λ (t : List ℕ). withGuards (length (headLine c) + 1 + length (guardLine (c .variables) g) + 1) n c (guardsOf (c .variables) (c .locks) (splitOn 32 t))) (w .front)
+      ∙ ap (withGuards (length (headLine c) + 1 + length (guardLine (c .variables) g) + 1) n c) (guards-back c g a ok)
+      ∙ ap (λ (i : ℕ). withGuards i n c (record { ok = true; given = g .given; locks = g .locks })) places
+
+  first-back : firstOf (bodyText c g es) n ≡ foundText c g es
+  unfolding bodyText
+  first-back =
+      let b = line (headLine c) ++ second in
+      let w = cut (headLine c) second (row-free 72 (c .threads ∷ c .variables ∷ c .locks ∷ []) (λ e. omega arith)) in
+      sym (first-some b n (length (headLine c)) (w .place) (w .inside))
+      ∙ ap (λ (t : List ℕ). behindHead b (length (headLine c)) n (headOf (splitOn 32 t))) (w .front)
+      ∙ ap (behindHead b (length (headLine c)) n) (head-back c a)
+      ∙ ap (λ (t : List ℕ). secondOf t (length (headLine c) + 1) n c) (w .back)
+      ∙ second-back
+
+  -- The text is found, with its head, its guards and the place of its events.
+  pub trace-found : traceOf (traceText c g es) ≡ foundText c g es
+  unfolding traceText
+  trace-found =
+      let s = bodyText c g es ++ line (trailerLine n) in
+      sym (trace-short s short) ∙ ap (behindTrailer s) (trailer-back (bodyText c g es) body-whole body-small)
+      ∙ ap (λ (t : List ℕ). firstOf t n) (take-at (bodyText c g es) (line (trailerLine n)) n refl)
+      ∙ first-back
+
+  -- The part that is handed back holds the events.
+  pub events-found : eventsOf (traceText c g es) (traceOf (traceText c g es)) ≡ eventsText es
+  unfolding eventsOf foundText traceText bodyText
+  events-found =
+      let p = line (headLine c) ++ line (guardLine (c .variables) g) in
+      let e = eventsText es in
+      let z = line (trailerLine n) in
+      let from = length (line (headLine c)) + length (line (guardLine (c .variables) g)) in
+      let i : from ≡ length p = sym (length-append (line (headLine c)) (line (guardLine (c .variables) g))) in
+      let b : line (headLine c) ++ (line (guardLine (c .variables) g) ++ e) ≡ p ++ e = sym (append-assoc (line (headLine c)) (line (guardLine (c .variables) g)) e) in
+      let s : traceText c g es ≡ p ++ (e ++ z) = ap (λ (u : List ℕ). u ++ z) b ∙ append-assoc p e z in
+      let m : n - from ≡ length e = omega (arith, i, ap length b, length-append p e) in
+      ap (eventsOf (traceText c g es)) trace-found
+      ∙ ap (λ (u : List ℕ). take (n - from) (drop from u)) s
+      ∙ ap (λ (k : ℕ). take (n - from) (drop k (p ++ (e ++ z)))) i
+      ∙ ap (take (n - from)) (drop-at p (e ++ z) (length p) refl)
+      ∙ ap (λ (k : ℕ). take k (e ++ z)) m ∙ take-at e z (length e) refl
+
+  -- Its lines are read as the events.
+  pub events-read : AllDeclared c firstLine es → readings c firstLine (linesOf (eventsOf (traceText c g es) (traceOf (traceText c g es)))) ≡ allRead es
+  events-read d = ap (λ (t : List ℕ). readings c firstLine (linesOf t)) events-found ∙ events-back c a firstLine es d
