@@ -26,59 +26,45 @@ bound c =
     let at = c .before .before .before .loop .at in
     omega (arith, c .find .ensures, before-le 1 (take (length s - at) (drop at s)), rest-length at s)
 
--- src/main.rt:16:5
 loop-holds : tie.Need-loop-holds Inv-loop μ-loop
 loop-holds c = omega arith
 
--- src/main.rt:17:29
 sub-find : tie.Need-sub-find Inv-loop μ-loop
 sub-find c = omega arith
 
--- src/main.rt:17:29
 part-find-start : tie.Need-part-find-start Inv-loop μ-loop
 part-find-start c = omega arith
 
--- src/main.rt:17:29
 part-find-end : tie.Need-part-find-end Inv-loop μ-loop
 part-find-end c = search needs
 
--- src/main.rt:17:13
 find-requires : tie.Need-find-requires Inv-loop μ-loop
 find-requires c κs = search needs
 
--- src/main.rt:18:18
 add-to : tie.Need-add-to Inv-loop μ-loop
 add-to c = omega (arith, bound c)
 
--- src/main.rt:19:14
 sub-show : tie.Need-sub-show Inv-loop μ-loop
 sub-show c = omega (arith, bound c)
 
--- src/main.rt:19:14
 part-show-start : tie.Need-part-show-start Inv-loop μ-loop
 part-show-start c = omega (arith, bound c)
 
--- src/main.rt:19:14
 part-show-end : tie.Need-part-show-end Inv-loop μ-loop
 part-show-end c = omega (arith, bound c)
 
--- src/main.rt:19:9
 show-requires : tie.Need-show-requires Inv-loop μ-loop
 show-requires c κs = search needs
 
--- src/main.rt:20:14
 add-at : tie.Need-add-at Inv-loop μ-loop
 add-at c = omega (arith, bound (c .before .before))
 
--- src/main.rt:16:5
 loop-less : tie.Need-loop-less Inv-loop μ-loop
 loop-less c = omega (arith, bound (c .before .before))
 
--- src/main.rt:16:5
 loop-again : tie.Need-loop-again Inv-loop μ-loop
 loop-again c = omega (arith, bound (c .before .before))
 
--- src/main.rt:14:1
 returns : tie.Need-returns Inv-loop μ-loop
 returns c = search needs
 

@@ -15,7 +15,8 @@ use Rattle.trace_cases.proofs.show.Tie as tie
 use Rattle.trace_cases.proofs.show.Reads as reads
 use Rattle.trace_cases.proofs.show.Lts as lts
 use Rattle.io.proofs.write_all.Reads as write-all-reads
-use Rattle.reader.proofs.check.Reads as check-reads
+use Rattle.marking.proofs.mark.Reads as mark-reads
+use Rattle.trace_cases.proofs.said.Reads as said-reads
 use Rattle.writer.proofs.write_row_line.Reads as write-row-line-reads
 
 short : (k : ℕ) (ns : List ℕ) → length (line (rowLine k ns)) ≤ 32 * length ns + 2
@@ -24,38 +25,33 @@ short k ns = omega (arith, length-append (k ∷ rowText ns) (10 ∷ []), row-sho
 
 starts : tie.Need-array-share-prefix-out
 starts c =
-    let a = c .before .before .before .before .check .result in
+    let a = c .before .before .before .before .said .result in
     wrote-within 66 (line (rowLine 61 (a .number ∷ a .line ∷ []))) _ _ _ (short 61 (a .number ∷ a .line ∷ [])) (c .before .write-row-line .ensures)
 
--- src/main.rt:8:9
-check-requires : tie.Need-check-requires
-check-requires c κs = search needs
+mark-requires : tie.Need-mark-requires
+mark-requires c κs = search needs
 
--- src/main.rt:10:36
+said-requires : tie.Need-said-requires
+said-requires c κs = search needs
+
 slice-aggregate-write-row-line : tie.Need-slice-aggregate-write-row-line
 slice-aggregate-write-row-line c = search needs
 
--- src/main.rt:10:52
 slice-aggregate-write-row-line-2 : tie.Need-slice-aggregate-write-row-line-2
 slice-aggregate-write-row-line-2 c = search needs
 
--- src/main.rt:10:9
 write-row-line-requires : tie.Need-write-row-line-requires
 write-row-line-requires c κs = search needs
 
--- src/main.rt:11:34
 array-share-prefix-out : tie.Need-array-share-prefix-out
 array-share-prefix-out c = starts c
 
--- src/main.rt:11:34
 slice-aggregate-write-all : tie.Need-slice-aggregate-write-all
 slice-aggregate-write-all c = sym (length-take-le _ (c .before .before .write-row-line .last .0) (starts (c .before)))
 
--- src/main.rt:11:5
 write-all-requires : tie.Need-write-all-requires
 write-all-requires c κs = search needs
 
--- src/main.rt:6:1
 returns : tie.Need-returns
 returns c = search needs
 
@@ -63,7 +59,8 @@ pub show-spec : {M : Type 1} → statement M
 show-spec =
     tie.close
     (tie.spec
-    check-requires
+    mark-requires
+    said-requires
     slice-aggregate-write-row-line
     slice-aggregate-write-row-line-2
     write-row-line-requires

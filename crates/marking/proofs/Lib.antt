@@ -1,0 +1,5 @@
+pub mod PartLines
+pub mod Tags
+pub mod Scanning
+pub mod Turns
+pub mod Whole

@@ -1,0 +1,201 @@
+// Marks a whole trace: finds it in the bytes, then reads and marks it line by line. The state stays in one local; each event
+// reads and puts back its own parts.
+ghost use mathlib.Core.Path.{_≡_};
+ghost use mathlib.Core.Bool.{cond};
+ghost use Prim.Native.Nat.{_≤_};
+ghost use Rattle.rules.specs.Limits.{lineAfter};
+ghost use Rattle.machine.specs.State.{start};
+ghost use Rattle.marking.specs.Marking.{ranOf, Marks};
+use events::Reading;
+use machine::OnSome;
+use machine::Seen;
+use machine::State;
+use rules::Counts;
+
+// What is said of a trace: the number of its events, or a refusal. The number and the line of each case are in
+// specs/Marking.antt.
+pub enum Verdict {
+    // With the number of events.
+    Accepted(usize),
+    TooLong,
+    WrongTrailer,
+    WrongHead,
+    WrongGuards,
+    // With the line, as all that follow.
+    NoEvent(usize),
+    Undeclared(usize),
+    EventLimit(usize),
+    // The rule of the row that is broken, 10 to 19, and the line.
+    Broken(u8, usize),
+}
+
+// The verdict, and the state after the events before the first refusal.
+pub struct Ran {
+    pub verdict: Verdict,
+    pub state: State,
+}
+
+// The line of the event after n events.
+fn line_after(n: u32) -> usize
+    requires { ⌜ n ≤ 2000 ⌝ }
+    ensures { λ r. ⌜ r ≡ lineAfter n ⌝ }
+{
+    n as usize + 3
+}
+
+fn span(all: bool, n: usize) -> usize
+    ensures { λ r. ⌜ r ≡ cond all n 0 ⌝ }
+{
+    if all { n } else { 0 }
+}
+
+// Marks the lines of a part that holds events, with these counts declared: line by line 4, 9, 5 and the row.
+pub fn mark_part(h: Counts, part: &[u8]) -> Ran
+    ensures { λ r. ⌜ r ≡ ranOf h (now (part .entry)) ⌝ }
+{
+    let mut s = machine::initial(h);
+    if !rules::is_allowed(h) {
+        let wrong = Verdict::WrongHead;
+        return Ran {
+            verdict: wrong,
+            state: s,
+        };
+    }
+    let mut at: usize = 0;
+    while at < part.len() {
+        let n = s.events;
+        let counts = s.counts;
+        let line = line_after(n);
+        let l = events::line_at(part, at);
+        let Reading::Of(e) = events::event_of(l, line) else {
+            let no_event = Verdict::NoEvent(line);
+            return Ran {
+                verdict: no_event,
+                state: s,
+            };
+        };
+        if 2000 <= n {
+            let limit = Verdict::EventLimit(line);
+            return Ran {
+                verdict: limit,
+                state: s,
+            };
+        }
+        if !rules::is_declared(counts, e) {
+            let undeclared = Verdict::Undeclared(line);
+            return Ran {
+                verdict: undeclared,
+                state: s,
+            };
+        }
+        let t = e.thread;
+        let k = e.kind;
+        // What the event looks at.
+        let places = machine::places_of(k);
+        let v = places.variable;
+        let lock = places.lock;
+        let i = machine::cell_place(t, v);
+        let c = s.cells[i];
+        let q = c.reads;
+        let o = c.stores;
+        let front_read = machine::slot_place(i, q, 0);
+        let front_store = machine::slot_place(i, o, 0);
+        let r0 = s.reads[front_read];
+        let s0 = s.stores[front_store];
+        let read = machine::oldest(q, r0);
+        let store = machine::oldest(o, s0);
+        let hold = s.holds[lock];
+        let main = s.memory[v];
+        let locked = s.locked[t];
+        // What the declared variables of its thread have; no turns where the kind does not ask it.
+        let mut pending = false;
+        let mut fresh = false;
+        let mut stored = false;
+        let end = span(places.all, counts.variables);
+        let mut j: usize = 0;
+        while j < end {
+            let x = machine::cell_place(t, j);
+            let d = s.cells[x];
+            let w = d.stores;
+            pending = d.pending | pending;
+            fresh = d.fresh | fresh;
+            stored = (w.len != 0) | stored;
+            j += 1;
+        }
+        let any = OnSome {
+            pending: pending,
+            fresh: fresh,
+            stored: stored,
+        };
+        let seen = Seen {
+            cell: c,
+            read: read,
+            store: store,
+            hold: hold,
+            main: main,
+            locked: locked,
+            any: any,
+            threads: counts.threads,
+        };
+        let rule = machine::rule_for(seen, t, k);
+        if rule != 0 {
+            let broken = Verdict::Broken(rule, line);
+            return Ran {
+                verdict: broken,
+                state: s,
+            };
+        }
+        // What it leaves.
+        let p = n + 1;
+        let behind_reads = machine::slot_place(i, q, q.len);
+        let behind_stores = machine::slot_place(i, o, o.len);
+        let r1 = s.reads[behind_reads];
+        let s1 = s.stores[behind_stores];
+        let cell_left = machine::cell_after(c, read, k, p);
+        let read_left = machine::read_after(r1, k, p);
+        let store_left = machine::store_after(s1, k, p);
+        let locked_left = machine::locked_after(locked, k, p);
+        let hold_left = machine::hold_after(hold, t, k);
+        let main_left = machine::main_after(main, k);
+        s.events = p;
+        s.cells[i] = cell_left;
+        s.reads[behind_reads] = read_left;
+        s.stores[behind_stores] = store_left;
+        s.locked[t] = locked_left;
+        s.holds[lock] = hold_left;
+        s.memory[v] = main_left;
+        at = l.next;
+    }
+    let all = Verdict::Accepted(s.events as usize);
+    Ran {
+        verdict: all,
+        state: s,
+    }
+}
+
+// The verdict on a trace of which no event is read.
+fn refuse(h: Counts, v: Verdict) -> Ran
+    ensures { λ r. ⌜ r ≡ record { verdict = v; state = start h } ⌝ }
+{
+    let s = machine::initial(h);
+    Ran {
+        verdict: v,
+        state: s,
+    }
+}
+
+// Marks a whole trace: 1, 2, 3, 6, then line by line 4, 9, 5 and the row.
+pub fn mark(bytes: &[u8]) -> Ran
+    ensures { λ r. ⌜ Marks (now (bytes .entry)) r ⌝ }
+{
+    let t = trace::find(bytes);
+    let v = t.verdict;
+    let h = t.head;
+    match v {
+        trace::Verdict::Found => mark_part(h, trace::find_events(bytes)),
+        trace::Verdict::TooLong => refuse(h, Verdict::TooLong),
+        trace::Verdict::WrongTrailer => refuse(h, Verdict::WrongTrailer),
+        trace::Verdict::WrongHead => refuse(h, Verdict::WrongHead),
+        trace::Verdict::WrongGuards => refuse(h, Verdict::WrongGuards),
+    }
+}
