@@ -8,7 +8,7 @@ use lib.Dec.{leb}
 use Rattle.rules.specs.declared.Event.{Event}
 use Rattle.rules.specs.declared.Counts.{Counts}
 use Rattle.serial.specs.Lists.{All}
-use Rattle.ordering.specs.Places.{lockAt, unlockAt, holding}
+use Rattle.sections.specs.Places.{lockAt, unlockAt, holding}
 
 -- an entry of the order: thread, first and last line of a section
 pub record Entry : Type 0 where

@@ -9,10 +9,10 @@ use Rattle.rules.specs.declared.Counts.{Counts}
 use Rattle.rules.specs.Limits.{Limits, UpToFull, allowed}
 use Rattle.rules.specs.Words.{main}
 use Rattle.rules.specs.Rules.{Marked, accepted, mark}
-use Rattle.ordering.specs.Places.{eventAt, usesOrAssigns}
-use Rattle.ordering.specs.CriticalSections.{Entry, SerialOrder}
-use Rattle.ordering.specs.Sequential.{serially, times, zeros, after, given, stated}
-use Rattle.ordering.specs.Denials.{Denial, fit, denied, Orderly, Denies}
+use Rattle.sections.specs.Places.{eventAt, usesOrAssigns}
+use Rattle.sections.specs.CriticalSections.{Entry, SerialOrder}
+use Rattle.sections.specs.Sequential.{serially, times, zeros, after, given, stated}
+use Rattle.sections.specs.Denials.{Denial, fit, denied, Orderly, Denies}
 
 -- an accepted trace: the head is allowed, and no event is refused
 pub record AcceptedTrace (m : Limits) (h : Counts) (events : List Event) : Type 0 where

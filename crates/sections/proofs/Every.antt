@@ -20,18 +20,18 @@ use Rattle.serial.specs.Lists.{All}
 use Rattle.serial.specs.Sections as Q
 use Rattle.serial.proofs.Stacks.{own}
 use Rattle.serial.proofs.Signals.{Runs, Step, Opened, Stack}
-use Rattle.ordering.specs.Places.{position, atPosition, soFar, eventAt, upTo, usesOrAssigns, lockAt, unlockAt, holding}
-use Rattle.ordering.specs.CriticalSections.{Entry, CriticalSection, Member, Distinct, SerialOrder}
-use Rattle.ordering.specs.Sequential.{takes, times}
-use Rattle.ordering.specs.Denials.{Unguarded, Orderly}
-use Rattle.ordering.specs.Order.{sections, lineOf, order}
-use Rattle.ordering.proofs.Valid.{Valid, Declared}
-use Rattle.ordering.proofs.Whole.{from-held}
-use Rattle.ordering.proofs.Ordered.{busy-some}
-use Rattle.ordering.proofs.Places.{position-line, line-position, locksAt, unlocksAt, holdsAfter, nothing-past, all-so-far, holds-more}
-use Rattle.ordering.proofs.Steps.{steps, stack}
-use Rattle.ordering.proofs.Listed.{Span, in-lines, listed}
-use Rattle.ordering.proofs.Denied.{both-l, both-r, some-none, up-to-last}
+use Rattle.sections.specs.Places.{position, atPosition, soFar, eventAt, upTo, usesOrAssigns, lockAt, unlockAt, holding}
+use Rattle.sections.specs.CriticalSections.{Entry, CriticalSection, Member, Distinct, SerialOrder}
+use Rattle.sections.specs.Sequential.{takes, times}
+use Rattle.sections.specs.Denials.{Unguarded, Orderly}
+use Rattle.sections.specs.Order.{sections, lineOf, order}
+use Rattle.sections.proofs.Valid.{Valid, Declared}
+use Rattle.sections.proofs.Whole.{from-held}
+use Rattle.sections.proofs.Ordered.{busy-some}
+use Rattle.sections.proofs.Places.{position-line, line-position, locksAt, unlocksAt, holdsAfter, nothing-past, all-so-far, holds-more}
+use Rattle.sections.proofs.Steps.{steps, stack}
+use Rattle.sections.proofs.Listed.{Span, in-lines, listed}
+use Rattle.sections.proofs.Denied.{both-l, both-r, some-none, up-to-last}
 
 module _ (locks unlocks busy : ℕ → Bool) where
   -- a section that goes on after position n ends, where nothing is held at the end

@@ -15,13 +15,13 @@ use Rattle.rules.specs.Events.{is, locks}
 use Rattle.rules.specs.Limits.{lineAfter}
 use Rattle.rules.specs.Words.{locksBy}
 use Rattle.serial.specs.Lists.{All}
-use Rattle.ordering.specs.CriticalSections.{Entry, CriticalSection, lockPoint, Member, Rising, SerialOrder}
-use Rattle.ordering.specs.Places.{usesOrAssigns, lockAt}
-use Rattle.ordering.specs.Denials.{Denial, fit, denied, Unguarded, LateLock, Unfinished, Clean, Orderly, Denies, unguarded, late}
-use Rattle.ordering.specs.Denials as D
-use Rattle.ordering.specs.Demand3.{Demand3}
-use Rattle.ordering.proofs.Denied.{unguarded-below, late-below}
-use Rattle.ordering.proofs.Every.{all-members}
+use Rattle.sections.specs.CriticalSections.{Entry, CriticalSection, lockPoint, Member, Rising, SerialOrder}
+use Rattle.sections.specs.Places.{usesOrAssigns, lockAt}
+use Rattle.sections.specs.Denials.{Denial, fit, denied, Unguarded, LateLock, Unfinished, Clean, Orderly, Denies, unguarded, late}
+use Rattle.sections.specs.Denials as D
+use Rattle.sections.specs.Demand3.{Demand3}
+use Rattle.sections.proofs.Denied.{unguarded-below, late-below}
+use Rattle.sections.proofs.Every.{all-members}
 
 -- ---- the list
 

@@ -24,13 +24,13 @@ use Rattle.serial.specs.Events as E
 use Rattle.serial.specs.Lists.{All}
 use Rattle.serial.specs.Sections as Q
 use Rattle.serial.proofs.Counted as H
-use Rattle.ordering.specs.View.{viewed, view}
-use Rattle.ordering.specs.Order.{told, sections}
-use Rattle.ordering.specs.Places.{soFar, unlocksBy, holdsSome}
-use Rattle.ordering.proofs.Valid.{Valid, pairs, Declared}
-use Rattle.ordering.proofs.Whole.{lockeds, unlockeds}
-use Rattle.ordering.proofs.Ordered.{whose, locking, unlocking, busy-some, some-busy, holds-lock}
-use Rattle.ordering.proofs.Places.{locksAt, unlocksAt, holdsAfter, Here, at-place, length-so-far, valid-so-far, all-so-far, lock-signal, unlock-signal, holds-more}
+use Rattle.sections.specs.View.{viewed, view}
+use Rattle.sections.specs.Order.{told, sections}
+use Rattle.sections.specs.Places.{soFar, unlocksBy, holdsSome}
+use Rattle.sections.proofs.Valid.{Valid, pairs, Declared}
+use Rattle.sections.proofs.Whole.{lockeds, unlockeds}
+use Rattle.sections.proofs.Ordered.{whose, locking, unlocking, busy-some, some-busy, holds-lock}
+use Rattle.sections.proofs.Places.{locksAt, unlocksAt, holdsAfter, Here, at-place, length-so-far, valid-so-far, all-so-far, lock-signal, unlock-signal, holds-more}
 use Rattle.serial.proofs.Stacks.{own, grow, rest, front, own-push, own-next-other, own-next-lock, own-next-open}
 use Rattle.serial.proofs.Signals.{Step, Ended, Stack, none-yet, other-busy, out, opening, raising, going}
 

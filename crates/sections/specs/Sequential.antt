@@ -8,7 +8,7 @@ use Rattle.rules.specs.declared.Event.{Event}
 use Rattle.rules.specs.Events.{A, B, U, value, is, of, on}
 use Rattle.rules.specs.Limits.{firstLine}
 use Rattle.rules.specs.Rules.{loc}
-use Rattle.ordering.specs.CriticalSections.{Entry}
+use Rattle.sections.specs.CriticalSections.{Entry}
 
 -- Of a section it takes the events of that section's thread, from the first line to the last:
 -- it takes the event e in line n

@@ -9,9 +9,9 @@ use Rattle.rules.specs.declared.Event.{Event}
 use Rattle.rules.specs.declared.Counts.{Counts}
 use Rattle.rules.specs.Limits.{lineAfter}
 use Rattle.serial.specs.Sections.{Section, next}
-use Rattle.ordering.specs.View.{view}
-use Rattle.ordering.specs.Places.{holdsSome}
-use Rattle.ordering.specs.CriticalSections.{Entry}
+use Rattle.sections.specs.View.{view}
+use Rattle.sections.specs.Places.{holdsSome}
+use Rattle.sections.specs.CriticalSections.{Entry}
 
 abbrev pub told : (b : Bool) → Dec (T b)
 told true = yes tt

@@ -12,7 +12,7 @@ use Rattle.rules.specs.Limits.{lineAfter}
 use Rattle.rules.specs.Words as Earlier
 use Rattle.rules.specs.Rules as Rules
 use Rattle.rules.specs.Rules.{loc, wordsOf}
-use Rattle.ordering.specs.Places.{eventAt, upTo, usesOrAssigns, lockAt, unlockAt, holding}
+use Rattle.sections.specs.Places.{eventAt, upTo, usesOrAssigns, lockAt, unlockAt, holding}
 
 -- the answer: an order is given, or it is denied with a number of 20 to 22 and a line
 pub data Denial : Type 0 where

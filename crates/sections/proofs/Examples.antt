@@ -15,13 +15,13 @@ use Rattle.rules.specs.Words.{latest, valueIn, letterIn, lastAt, count, inOrder
 use Rattle.rules.specs.Rules.{wordsOf, some, noPartner, lockTaken, notHeld, pendingBars, notFresh, notStored, readBeforeWrite, unwritten, notWritten, notUsable, differs, eightAlready, breaks, rows, rowIn, firstBroken, judge, answer, verdict, markFrom, mark}
 use Rattle.rules.specs.Traces.{ev, U, A, L, S, R, W, P, B, K, N, two}
 use Rattle.serial.specs.Sections as Q
-use Rattle.ordering.specs.Places.{usesOrAssigns, unlocksBy, holdsSome}
-use Rattle.ordering.specs.CriticalSections.{Entry}
-use Rattle.ordering.specs.Denials.{Denial, fit, denied}
-use Rattle.ordering.specs.Demand3.{AcceptedTrace, Demand3}
-use Rattle.ordering.specs.Refusals.{afterUnlock, notUnder, lateLock, unfinished, denialFrom, denial}
-use Rattle.ordering.specs.Order.{sections, order}
-use Rattle.ordering.proofs.Demand3.{demand-3}
+use Rattle.sections.specs.Places.{usesOrAssigns, unlocksBy, holdsSome}
+use Rattle.sections.specs.CriticalSections.{Entry}
+use Rattle.sections.specs.Denials.{Denial, fit, denied}
+use Rattle.sections.specs.Demand3.{AcceptedTrace, Demand3}
+use Rattle.sections.specs.Refusals.{afterUnlock, notUnder, lateLock, unfinished, denialFrom, denial}
+use Rattle.sections.specs.Order.{sections, order}
+use Rattle.sections.proofs.Demand3.{demand-3}
 
 abbrev section : ℕ → ℕ → ℕ → Entry
 section t a b = record { thread = t; first = a; last = b }

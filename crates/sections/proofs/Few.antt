@@ -25,13 +25,13 @@ use Rattle.serial.specs.Sections as Q
 use Rattle.serial.specs.Sections.{Section, grown, push, without}
 use Rattle.serial.proofs.Counted as H
 use Rattle.serial.proofs.Lines.{either, Open, Now, traced}
-use Rattle.ordering.specs.View.{viewed, view}
-use Rattle.ordering.specs.Places.{holdsSome}
-use Rattle.ordering.specs.Order.{told, sections}
-use Rattle.ordering.specs.Refusals.{unfinished}
-use Rattle.ordering.proofs.Valid.{Numbered, Declared}
-use Rattle.ordering.proofs.Judged.{some-none}
-use Rattle.ordering.proofs.Ordered.{All-imp, sections-same, some-busy, settled}
+use Rattle.sections.specs.View.{viewed, view}
+use Rattle.sections.specs.Places.{holdsSome}
+use Rattle.sections.specs.Order.{told, sections}
+use Rattle.sections.specs.Refusals.{unfinished}
+use Rattle.sections.proofs.Valid.{Numbered, Declared}
+use Rattle.sections.proofs.Judged.{some-none}
+use Rattle.sections.proofs.Ordered.{All-imp, sections-same, some-busy, settled}
 
 -- ---- each section has a K of its own
 

@@ -23,16 +23,16 @@ use Rattle.rules.specs.Rules.{loc, wordsOf, held}
 use Rattle.rules.proofs.Laws.{is-true, some-has}
 use Rattle.serial.specs.Lists.{All}
 use Rattle.serial.proofs.Counted as H
-use Rattle.ordering.specs.View.{view}
-use Rattle.ordering.specs.Refusals.{afterUnlock, notUnder, lateLock, unfinished, denialFrom, denial}
-use Rattle.ordering.specs.Places.{position, atPosition, soFar, eventAt, upTo, usesOrAssigns, unlocksBy, passes, lockAt, unlockAt, holdsSome, holding}
-use Rattle.ordering.specs.Order.{lineOf}
-use Rattle.ordering.specs.Denials.{Denial, fit, denied, Unguarded, LateLock, HeldAtEnd, PendingAtEnd, Unfinished, Clean, Orderly, Denies, unguarded, late}
-use Rattle.ordering.specs.Denials as D
-use Rattle.ordering.proofs.Valid.{Declared, Numbered}
-use Rattle.ordering.proofs.Whole.{from-held, holds-below}
-use Rattle.ordering.proofs.Ordered.{some-witness, lock-below, no-debt, All-turn}
-use Rattle.ordering.proofs.Places.{position-line, position-after, position-last, position-up, position-to, position-ahead, locksAt, unlocksAt, holdsAfter, lock-line, unlock-line, holding-line, Here, at-place, nothing-past, so-far-all, length-so-far, lock-signal, unlock-signal, holds-more}
+use Rattle.sections.specs.View.{view}
+use Rattle.sections.specs.Refusals.{afterUnlock, notUnder, lateLock, unfinished, denialFrom, denial}
+use Rattle.sections.specs.Places.{position, atPosition, soFar, eventAt, upTo, usesOrAssigns, unlocksBy, passes, lockAt, unlockAt, holdsSome, holding}
+use Rattle.sections.specs.Order.{lineOf}
+use Rattle.sections.specs.Denials.{Denial, fit, denied, Unguarded, LateLock, HeldAtEnd, PendingAtEnd, Unfinished, Clean, Orderly, Denies, unguarded, late}
+use Rattle.sections.specs.Denials as D
+use Rattle.sections.proofs.Valid.{Declared, Numbered}
+use Rattle.sections.proofs.Whole.{from-held, holds-below}
+use Rattle.sections.proofs.Ordered.{some-witness, lock-below, no-debt, All-turn}
+use Rattle.sections.proofs.Places.{position-line, position-after, position-last, position-up, position-to, position-ahead, locksAt, unlocksAt, holdsAfter, lock-line, unlock-line, holding-line, Here, at-place, nothing-past, so-far-all, length-so-far, lock-signal, unlock-signal, holds-more}
 
 -- ---- Booleans
 

@@ -18,16 +18,16 @@ use Rattle.serial.specs.Sections as Q
 use Rattle.serial.proofs.Counted as H
 use Rattle.serial.proofs.Memory.{All-map}
 use Rattle.serial.proofs.Lines.{Falling, Traced, traced}
-use Rattle.ordering.specs.View.{view}
-use Rattle.ordering.specs.Order.{sections, lineOf, entry, order}
-use Rattle.ordering.specs.Places.{position, atPosition, lockAt, unlockAt, holding}
-use Rattle.ordering.specs.CriticalSections.{Entry, CriticalSection, greatest, lockPoint, Member, Distinct, Rising, SerialOrder}
-use Rattle.ordering.proofs.Valid.{Valid, Declared}
-use Rattle.ordering.proofs.Ordered.{All-turn, sections-same}
-use Rattle.ordering.proofs.Places.{position-line, position-before, line-position, position-up, position-to, position-ahead, locksAt, unlocksAt, holdsAfter, lock-line, unlock-line, holding-line, nothing-past, so-far-all}
+use Rattle.sections.specs.View.{view}
+use Rattle.sections.specs.Order.{sections, lineOf, entry, order}
+use Rattle.sections.specs.Places.{position, atPosition, lockAt, unlockAt, holding}
+use Rattle.sections.specs.CriticalSections.{Entry, CriticalSection, greatest, lockPoint, Member, Distinct, Rising, SerialOrder}
+use Rattle.sections.proofs.Valid.{Valid, Declared}
+use Rattle.sections.proofs.Ordered.{All-turn, sections-same}
+use Rattle.sections.proofs.Places.{position-line, position-before, line-position, position-up, position-to, position-ahead, locksAt, unlocksAt, holdsAfter, lock-line, unlock-line, holding-line, nothing-past, so-far-all}
 use Rattle.serial.proofs.Stacks.{own, own-mine, own-other}
 use Rattle.serial.proofs.Signals.{Runs, LastLock, Closed, Has, Ended, Stack}
-use Rattle.ordering.proofs.Steps.{stack}
+use Rattle.sections.proofs.Steps.{stack}
 
 abbrev Section : Type 0
 Section = Q.Section ℤ

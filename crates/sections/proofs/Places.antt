@@ -14,10 +14,10 @@ use Rattle.rules.specs.declared.Counts.{Counts}
 use Rattle.rules.specs.Limits.{lineAfter}
 use Rattle.rules.specs.Words.{locksBy}
 use Rattle.serial.specs.Lists.{All}
-use Rattle.ordering.specs.Places.{position, nth, atPosition, soFar, eventAt, upTo, unlocksBy, passes, lockAt, unlockAt, holdsSome, holding}
-use Rattle.ordering.specs.Order.{lineOf}
-use Rattle.ordering.proofs.Valid.{Valid, before}
-use Rattle.ordering.proofs.Ordered.{All-turn}
+use Rattle.sections.specs.Places.{position, nth, atPosition, soFar, eventAt, upTo, unlocksBy, passes, lockAt, unlockAt, holdsSome, holding}
+use Rattle.sections.specs.Order.{lineOf}
+use Rattle.sections.proofs.Valid.{Valid, before}
+use Rattle.sections.proofs.Ordered.{All-turn}
 
 -- ---- a position's line, and a line's position
 

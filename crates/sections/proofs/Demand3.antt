@@ -19,22 +19,22 @@ use Rattle.rules.proofs.Marking.{walk-accepts}
 use Rattle.serial.specs.Lists.{All}
 use Rattle.serial.specs.Sections.{Section}
 use Rattle.serial.proofs.Trace as Trace
-use Rattle.ordering.specs.View.{view}
-use Rattle.ordering.specs.Refusals.{unfinished, denial}
-use Rattle.ordering.specs.Order.{sections, entry, order}
-use Rattle.ordering.specs.Places.{holdsSome}
-use Rattle.ordering.specs.CriticalSections.{Entry}
-use Rattle.ordering.specs.Sequential.{serially, zeros, after, given, stated}
-use Rattle.ordering.specs.Denials.{Denial, fit, denied, Orderly}
-use Rattle.ordering.specs.Demand3.{AcceptedTrace, Demand3}
-use Rattle.ordering.proofs.Valid.{Valid, Declared, all-declared, short}
-use Rattle.ordering.proofs.Ordered.{All-turn, some-witness, spans, serial-order, fit-from, orderly}
-use Rattle.ordering.proofs.Places.{holdsAfter, so-far-all, holds-more}
-use Rattle.ordering.proofs.Sequence.{serially-view, after-view, given-view, stated-view}
-use Rattle.ordering.proofs.Listed.{listed}
-use Rattle.ordering.proofs.Every.{every}
-use Rattle.ordering.proofs.Denied.{Says, says, orderly-fit}
-use Rattle.ordering.proofs.Few.{half}
+use Rattle.sections.specs.View.{view}
+use Rattle.sections.specs.Refusals.{unfinished, denial}
+use Rattle.sections.specs.Order.{sections, entry, order}
+use Rattle.sections.specs.Places.{holdsSome}
+use Rattle.sections.specs.CriticalSections.{Entry}
+use Rattle.sections.specs.Sequential.{serially, zeros, after, given, stated}
+use Rattle.sections.specs.Denials.{Denial, fit, denied, Orderly}
+use Rattle.sections.specs.Demand3.{AcceptedTrace, Demand3}
+use Rattle.sections.proofs.Valid.{Valid, Declared, all-declared, short}
+use Rattle.sections.proofs.Ordered.{All-turn, some-witness, spans, serial-order, fit-from, orderly}
+use Rattle.sections.proofs.Places.{holdsAfter, so-far-all, holds-more}
+use Rattle.sections.proofs.Sequence.{serially-view, after-view, given-view, stated-view}
+use Rattle.sections.proofs.Listed.{listed}
+use Rattle.sections.proofs.Every.{every}
+use Rattle.sections.proofs.Denied.{Says, says, orderly-fit}
+use Rattle.sections.proofs.Few.{half}
 
 -- where nothing is held at the end, no thread holds anything after the last event
 free-at-end : (h : Counts) (guard : ℕ → ℕ) (events : List Event) → Orderly h guard events → (t : ℕ) → holdsAfter h t events (length events) ≡ false

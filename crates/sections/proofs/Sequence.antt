@@ -20,11 +20,11 @@ use Rattle.serial.specs.Events as E
 use Rattle.serial.specs.Words as C
 use Rattle.serial.proofs.Lines.{join}
 use Rattle.serial.proofs.Trace as Trace
-use Rattle.ordering.specs.View.{viewed, view}
-use Rattle.ordering.specs.CriticalSections.{Entry}
-use Rattle.ordering.specs.Order.{lineOf, entry}
-use Rattle.ordering.specs.Sequential.{takes, partFrom, part, serially, assign, after, given, stated}
-use Rattle.ordering.proofs.Ordered.{whose}
+use Rattle.sections.specs.View.{viewed, view}
+use Rattle.sections.specs.CriticalSections.{Entry}
+use Rattle.sections.specs.Order.{lineOf, entry}
+use Rattle.sections.specs.Sequential.{takes, partFrom, part, serially, assign, after, given, stated}
+use Rattle.sections.proofs.Ordered.{whose}
 
 -- a section's events: by positions from p on, and by lines from n on
 part-view : (p n : ℕ) (s : Section ℤ) (es : List Event) → n ≡ lineOf p → Trace.between p (s .owner) (s .first) (s .last) (map view es) ≡ map view (partFrom n (entry s) es)

@@ -29,15 +29,15 @@ use Rattle.serial.specs.Entry.{Entry as Span, entry as span}
 use Rattle.serial.specs.Lists.{All}
 use Rattle.serial.proofs.Serial.{Ended}
 use Rattle.serial.proofs.Trace as Trace
-use Rattle.ordering.specs.View.{viewed, view}
-use Rattle.ordering.specs.Places.{usesOrAssigns, unlocksBy, holdsSome}
-use Rattle.ordering.specs.Denials.{Denial, fit, denied}
-use Rattle.ordering.specs.Refusals.{afterUnlock, notUnder, lateLock, unfinished, denialFrom, denial}
-use Rattle.ordering.specs.Order.{told, sections}
-use Rattle.ordering.proofs.Valid.{Valid, Numbered, Declared}
-use Rattle.ordering.proofs.Cells.{cellOf, cells, mains, length-view, eqb-yes, eqb-no}
-use Rattle.ordering.proofs.Judged.{some-none}
-use Rattle.ordering.proofs.Whole.{accepted, exclusive, to-held, from-held, holds-below}
+use Rattle.sections.specs.View.{viewed, view}
+use Rattle.sections.specs.Places.{usesOrAssigns, unlocksBy, holdsSome}
+use Rattle.sections.specs.Denials.{Denial, fit, denied}
+use Rattle.sections.specs.Refusals.{afterUnlock, notUnder, lateLock, unfinished, denialFrom, denial}
+use Rattle.sections.specs.Order.{told, sections}
+use Rattle.sections.proofs.Valid.{Valid, Numbered, Declared}
+use Rattle.sections.proofs.Cells.{cellOf, cells, mains, length-view, eqb-yes, eqb-no}
+use Rattle.sections.proofs.Judged.{some-none}
+use Rattle.sections.proofs.Whole.{accepted, exclusive, to-held, from-held, holds-below}
 
 -- no event of the list breaks 20 or 21
 unfoldable pub orderly : Counts → (ℕ → ℕ) → List Event → Bool

@@ -21,10 +21,10 @@ use Rattle.serial.specs.Events as E
 use Rattle.serial.specs.Sections as Q
 use Rattle.serial.proofs.Counted as H
 use Rattle.serial.specs.Lists.{All}
-use Rattle.ordering.specs.View.{viewed, view}
-use Rattle.ordering.proofs.Valid.{Valid, before, row, Declared}
-use Rattle.ordering.proofs.Cells.{cellOf, cells, mains, eqb-yes, eqb-no}
-use Rattle.ordering.proofs.Judged.{allowed, some-none}
+use Rattle.sections.specs.View.{viewed, view}
+use Rattle.sections.proofs.Valid.{Valid, before, row, Declared}
+use Rattle.sections.proofs.Cells.{cellOf, cells, mains, eqb-yes, eqb-no}
+use Rattle.sections.proofs.Judged.{allowed, some-none}
 
 -- the rows hold, as the theory words them
 pub accepted : (h : Counts) (v : ℕ) → v < h .variables → (es : List Event) → Valid h es → C.Accepted (pos 0) v (map view es)

@@ -21,8 +21,8 @@ use Rattle.rules.proofs.Laws.{or-false-left, or-false-right, Unbroken, judged}
 use Rattle.rules.proofs.Signed.{eqZ-true}
 use Rattle.serial.specs.Words as C
 use Rattle.serial.specs.Events as E
-use Rattle.ordering.specs.View.{viewed, view}
-use Rattle.ordering.proofs.Cells.{cellOf, slotted, valued}
+use Rattle.sections.specs.View.{viewed, view}
+use Rattle.sections.proofs.Cells.{cellOf, slotted, valued}
 
 untrue : (b : Bool) → not b ≡ false → b ≡ true
 untrue true p = refl

@@ -9,8 +9,8 @@ use Rattle.rules.specs.Events.{locks}
 use Rattle.rules.specs.Limits.{lineAfter}
 use Rattle.rules.specs.Words.{pending}
 use Rattle.rules.specs.Rules.{some, loc, wordsOf, held}
-use Rattle.ordering.specs.Places.{usesOrAssigns, unlocksBy, holdsSome}
-use Rattle.ordering.specs.Denials.{Denial, fit, denied}
+use Rattle.sections.specs.Places.{usesOrAssigns, unlocksBy, holdsSome}
+use Rattle.sections.specs.Denials.{Denial, fit, denied}
 
 -- T is in a section, and has done an N in it
 unfoldable pub afterUnlock : Counts → ℕ → List Event → Bool

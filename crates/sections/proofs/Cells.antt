@@ -21,8 +21,8 @@ use Rattle.rules.proofs.Next.{others, next}
 use Rattle.rules.proofs.Simulation.{words-next}
 use Rattle.serial.specs.Words as C
 use Rattle.serial.specs.Events as E
-use Rattle.ordering.specs.View.{viewed, view}
-use Rattle.ordering.proofs.Valid.{Valid, before, pairs}
+use Rattle.sections.specs.View.{viewed, view}
+use Rattle.sections.proofs.Valid.{Valid, before, pairs}
 
 pub eqb-yes : (a b : ℕ) → a ≡ b → eqb a b ≡ true
 eqb-yes a b p = go (eqb a b) (subst (λ c. T (eqb a c)) p (eqb-refl a))
