@@ -6,7 +6,7 @@ use mathlib.Core.Path.{_≡_, refl, sym, ap, _∙_, subst}
 use mathlib.Core.Bool.{Bool, true, false, cond}
 use mathlib.Core.List.{List, [], _∷_}
 use lib.Dec.{T, leb}
-use lib.ListN.{length, getD, drop}
+use lib.ListN.{length, getD, drop, set}
 use borrow.Author.Tests.{le-leb, lt-leb}
 use Rattle.rules.specs.declared.Event.{Event}
 use Rattle.rules.specs.declared.Counts.{Counts}
@@ -20,6 +20,8 @@ use Rattle.machine.specs.declared.State.{State}
 use Rattle.machine.specs.declared.Seen.{Seen}
 use Rattle.machine.specs.State.{noHold, wordsIn, start}
 use Rattle.machine.specs.Step.{lockOf, stepState, stateAfter}
+use Rattle.records.specs.Records.{packed, rowOf}
+use Rattle.records.proofs.RowLaws.{row-length}
 use Rattle.machine.specs.Parts.{ruleFor, seenOf}
 use Rattle.machine.proofs.StepWords.{Shape}
 use Rattle.machine.proofs.Kept.{in-range}
@@ -114,27 +116,28 @@ judge-high h w e z = first-high (rowIn rows (letter (e .kind))) h w e (row-high 
 
 -- ---- the invariant
 
-pub record Turn (h : Counts) (bytes : List ℕ) (s : State) (at : ℕ) : Type 0 where
+pub record Turn (h : Counts) (bytes : List ℕ) (s : State) (row : List ℕ) (at : ℕ) : Type 0 where
   pub past : List Event
   pub state : s ≡ stateAfter h past
+  pub kept : row ≡ rowOf past
   pub clean : T (Accepted full h past)
   pub head : allowed full h ≡ true
   pub same : ranLines h past (partLines (drop at bytes)) ≡ ranLines h [] (partLines bytes)
 
-turn-start : (h : Counts) (bytes : List ℕ) (s : State) → allowed full h ≡ true → s ≡ start h → Turn h bytes s 0
-turn-start h bytes s a e = record { past = []; state = e ∙ (unfold stateAfter in refl); clean = unfold Accepted in tt; head = a; same = refl }
+turn-start : (h : Counts) (bytes : List ℕ) (s : State) → allowed full h ≡ true → s ≡ start h → Turn h bytes s (rowOf []) 0
+turn-start h bytes s a e = record { past = []; state = e ∙ (unfold stateAfter in refl); kept = refl; clean = unfold Accepted in tt; head = a; same = refl }
 
 -- the initial state has the counts of the head
 counts-start : (h : Counts) (s : State) → s ≡ start h → s .counts ≡ h
 unfolding start
 counts-start h s e = ap (λ (z : State). z .counts) e
 
-pub turn-first : (h : Counts) (s : State) (bytes : List ℕ) → s ≡ start h → allowed full h ≡ true → Turn (s .counts) bytes s 0
+pub turn-first : (h : Counts) (s : State) (bytes : List ℕ) → s ≡ start h → allowed full h ≡ true → Turn (s .counts) bytes s (rowOf []) 0
 turn-first h s bytes e a =
     let c = counts-start h s e in
     turn-start (s .counts) bytes s (ap (λ (x : Counts). allowed full x) c ∙ a) (e ∙ ap start (sym c))
 
-module _ (h : Counts) (bytes : List ℕ) (s : State) (at : ℕ) (t : Turn h bytes s at) where
+module _ (h : Counts) (bytes : List ℕ) (s : State) (row : List ℕ) (at : ℕ) (t : Turn h bytes s row at) where
   stood : Stands full h (t .past) s
   stood = subst (λ (z : State). Stands full h (t .past) z) (sym (t .state)) (stands full h (t .past) up-to-full (t .head) (t .clean))
 
@@ -143,6 +146,9 @@ module _ (h : Counts) (bytes : List ℕ) (s : State) (at : ℕ) (t : Turn h byte
 
   pub shaped : Shape s
   shaped = stood .shape
+
+  pub wide : length row ≡ 2000
+  wide = ap (λ (xs : List ℕ). length xs) (t .kept) ∙ row-length (t .past)
 
   events-are : s .events ≡ length (t .past)
   events-are = events-same full h (t .past) s stood
@@ -171,24 +177,24 @@ module _ (h : Counts) (bytes : List ℕ) (s : State) (at : ℕ) (t : Turn h byte
   -- ---- the answers
 
   stopped : (k line : ℕ) → line ≡ s .events + 3 → ranLines h (t .past) (partLines (drop at bytes)) ≡ ranWith h (t .past) (refused k (lineAfter (length (t .past))))
-      → _≡_ {A = Ran} (record { verdict = caseOf 0 (refused k line); state = s }) (ranLines h [] (partLines bytes))
+      → _≡_ {A = Ran} (record { verdict = caseOf 0 (refused k line); state = s; row = row }) (ranLines h [] (partLines bytes))
   stopped k line q e = both ∙ sym e ∙ t .same
     where
-      both : _≡_ {A = Ran} (record { verdict = caseOf 0 (refused k line); state = s }) (ranWith h (t .past) (refused k (lineAfter (length (t .past)))))
-      both = λ i. record { verdict = caseOf 0 (refused k (line-is q i)); state = t .state i }
+      both : _≡_ {A = Ran} (record { verdict = caseOf 0 (refused k line); state = s; row = row }) (ranWith h (t .past) (refused k (lineAfter (length (t .past)))))
+      both = λ i. record { verdict = caseOf 0 (refused k (line-is q i)); state = t .state i; row = t .kept i }
 
-  pub turn-end : length bytes ≤ at → _≡_ {A = Ran} (record { verdict = said.Accepted (s .events); state = s }) (ranLines h [] (partLines bytes))
+  pub turn-end : length bytes ≤ at → _≡_ {A = Ran} (record { verdict = said.Accepted (s .events); state = s; row = row }) (ranLines h [] (partLines bytes))
   turn-end b = both ∙ sym (ap (λ (ls : List (List ℕ)). ranLines h (t .past) ls) (part-none bytes at b) ∙ ran-end h (t .past)) ∙ t .same
     where
-      both : _≡_ {A = Ran} (record { verdict = said.Accepted (s .events); state = s }) (ranWith h (t .past) accepted)
-      both = λ i. record { verdict = said.Accepted (events-are i); state = t .state i }
+      both : _≡_ {A = Ran} (record { verdict = said.Accepted (s .events); state = s; row = row }) (ranWith h (t .past) accepted)
+      both = λ i. record { verdict = said.Accepted (events-are i); state = t .state i; row = t .kept i }
 
   -- the reading of the line at `at`, with the line's number as the list has it
   reading-is : {line : ℕ} {l : Line} {r : Reading} → line ≡ s .events + 3 → l ≡ lineAt bytes at → r ≡ eventFrom line l → eventFrom (lineAfter (length (t .past))) (lineAt bytes at) ≡ r
   reading-is q el er = sym (er ∙ (λ i. eventFrom (line-is q i) (el i)))
 
   pub turn-no : (line : ℕ) (l : Line) (r : Reading) → at < length bytes → line ≡ s .events + 3 → l ≡ lineAt bytes at → r ≡ eventFrom line l → Not r
-      → _≡_ {A = Ran} (record { verdict = said.NoEvent line; state = s }) (ranLines h [] (partLines bytes))
+      → _≡_ {A = Ran} (record { verdict = said.NoEvent line; state = s; row = row }) (ranLines h [] (partLines bytes))
   turn-no line l r inside q el er n = stopped 4 line q (ap (λ (ls : List (List ℕ)). ranLines h (t .past) ls) (w .lines) ∙ ran-no h (t .past) (w .line) (w .rest) (w .reading))
     where
       w : Wrong (lineAfter (length (t .past))) bytes at
@@ -202,35 +208,36 @@ module _ (h : Counts) (bytes : List ℕ) (s : State) (at : ℕ) (t : Turn h byte
     pub goes-on : at < l .next
     goes-on = subst (λ (x : Line). at < x .next) (sym el) (at-line .more)
 
-    refusal : (k : ℕ) → verdict full h (t .past) e ≡ k → (k ≡ 0 → ⊥) → _≡_ {A = Ran} (record { verdict = caseOf 0 (refused k line); state = s }) (ranLines h [] (partLines bytes))
+    refusal : (k : ℕ) → verdict full h (t .past) e ≡ k → (k ≡ 0 → ⊥) → _≡_ {A = Ran} (record { verdict = caseOf 0 (refused k line); state = s; row = row }) (ranLines h [] (partLines bytes))
     refusal k v z =
         stopped k line q
         (ap (λ (ls : List (List ℕ)). ranLines h (t .past) ls) (at-line .lines)
         ∙ ran-stop h (t .past) (at-line .line) (partLines (drop (lineAt bytes at .next) bytes)) e k (at-line .reading) v z)
 
-    pub turn-limit : 2000 ≤ s .events → _≡_ {A = Ran} (record { verdict = said.EventLimit line; state = s }) (ranLines h [] (partLines bytes))
+    pub turn-limit : 2000 ≤ s .events → _≡_ {A = Ran} (record { verdict = said.EventLimit line; state = s; row = row }) (ranLines h [] (partLines bytes))
     turn-limit f = refusal 9 (verdict-is e ∙ rw (le-leb 2000 (s .events) f)) (suc-ne-zero 8)
 
-    pub turn-undeclared : s .events < 2000 → declared (s .counts) e ≡ false → _≡_ {A = Ran} (record { verdict = said.Undeclared line; state = s }) (ranLines h [] (partLines bytes))
+    pub turn-undeclared : s .events < 2000 → declared (s .counts) e ≡ false → _≡_ {A = Ran} (record { verdict = said.Undeclared line; state = s; row = row }) (ranLines h [] (partLines bytes))
     turn-undeclared f d = refusal 5 (verdict-is e ∙ rw (lt-leb 2000 (s .events) f, d)) (suc-ne-zero 4)
 
     module _ (f : s .events < 2000) (d : declared (s .counts) e ≡ true) (n : Seen) (en : n ≡ seenOf s (e .thread) (e .kind)) (rule : ℕ) (ev : rule ≡ ruleFor n (e .thread) (e .kind)) where
       row-is : rule ≡ judge (s .counts) (wordsIn s) e
       row-is = ev ∙ ap (λ (x : Seen). ruleFor x (e .thread) (e .kind)) en ∙ rule-same s e (may e d .within .thread) (may e d .threads)
 
-      pub turn-broken : (rule ≡ 0 → ⊥) → _≡_ {A = Ran} (record { verdict = said.Broken rule line; state = s }) (ranLines h [] (partLines bytes))
+      pub turn-broken : (rule ≡ 0 → ⊥) → _≡_ {A = Ran} (record { verdict = said.Broken rule line; state = s; row = row }) (ranLines h [] (partLines bytes))
       turn-broken z = high ∙ refusal rule (verdict-row e f d ∙ sym row-is) z
         where
           ten : 10 ≤ rule
           ten = subst (λ (j : ℕ). 10 ≤ j) (sym row-is) (judge-high (s .counts) (wordsIn s) e (λ y. z (row-is ∙ y)))
 
-          high : _≡_ {A = Ran} (record { verdict = said.Broken rule line; state = s }) (record { verdict = caseOf 0 (refused rule line); state = s })
+          high : _≡_ {A = Ran} (record { verdict = said.Broken rule line; state = s; row = row }) (record { verdict = caseOf 0 (refused rule line); state = s; row = row })
           high = rw (le-leb 10 rule ten)
 
-      pub turn-more : (s′ : State) → rule ≡ 0 → s′ ≡ stepState s e → Turn h bytes s′ (l .next)
-      turn-more s′ z es = record {
+      pub turn-more : (s′ : State) (record′ : ℕ) → rule ≡ 0 → s′ ≡ stepState s e → record′ ≡ packed e → Turn h bytes s′ (set row (s .events) record′) (l .next)
+      turn-more s′ record′ z es ew = record {
         past = e ∷ t .past;
         state = es ∙ ap (λ (x : State). stepState x e) (t .state) ∙ (unfold stateAfter in refl);
+        kept = (λ i. set (t .kept i) (events-are i) (ew i)) ∙ (unfold rowOf in refl);
         clean = accepted-cons full h e (t .past) passes (t .clean);
         head = t .head;
         same =
@@ -251,6 +258,6 @@ ran-allowed h bytes a = rw a
 pub ran-from : (h : Counts) (s : State) (bytes : List ℕ) → s ≡ start h → allowed full h ≡ true → ranLines (s .counts) [] (partLines bytes) ≡ ranOf h bytes
 ran-from h s bytes e a = ap (λ (c : Counts). ranLines c [] (partLines bytes)) (counts-start h s e) ∙ ran-allowed h bytes a
 
-pub ran-head : (h : Counts) (bytes : List ℕ) (s : State) → allowed full h ≡ false → s ≡ start h → _≡_ {A = Ran} (record { verdict = said.WrongHead; state = s }) (ranOf h bytes)
+pub ran-head : (h : Counts) (bytes : List ℕ) (s : State) → allowed full h ≡ false → s ≡ start h → _≡_ {A = Ran} (record { verdict = said.WrongHead; state = s; row = rowOf [] }) (ranOf h bytes)
 unfolding ranOf stateAfter
 ran-head h bytes s a e = rw (a, e)

@@ -18,6 +18,7 @@ use Rattle.rules.proofs.Laws.{accepted-cons}
 use Rattle.rules.proofs.Marking.{accepts-mark}
 use Rattle.machine.specs.State.{wordsIn, start}
 use Rattle.machine.specs.Step.{stateAfter}
+use Rattle.records.specs.Records.{rowOf}
 use Rattle.machine.proofs.Joined.{up-to-full}
 use Rattle.machine.proofs.Whole.{stands}
 use Rattle.lines.specs.Lines.{choose, before, splitOn, ended, letter, linesOf}
@@ -127,13 +128,13 @@ mark-found s f = ⊎-elim
 
 -- what finding refuses
 pub mark-unfound : (s : List ℕ) (v : Finding) → traceOf s .verdict ≡ v → Bad v
-    → _≡_ {A = Ran} (record { verdict = caseOf 0 (behind v accepted); state = start (traceOf s .head) }) (markedRan s)
+    → _≡_ {A = Ran} (record { verdict = caseOf 0 (behind v accepted); state = start (traceOf s .head); row = rowOf [] }) (markedRan s)
 mark-unfound s v f b = ⊎-elim
     (λ w. absurd (subst Bad (sym f ∙ w .0) b))
-    (λ w. ap (λ (x : Finding). record { verdict = caseOf 0 (behind x accepted); state = start (traceOf s .head) }) (sym f ∙ ap (λ (t : Trace). t .verdict) (w .1)) ∙ none (w .0) (w .1) (w .2))
+    (λ w. ap (λ (x : Finding). record { verdict = caseOf 0 (behind x accepted); state = start (traceOf s .head); row = rowOf [] }) (sym f ∙ ap (λ (t : Trace). t .verdict) (w .1)) ∙ none (w .0) (w .1) (w .2))
     (sound s)
   where
-    by : (v : Finding) → Bad v → _≡_ {A = Ran} (record { verdict = caseOf 0 (behind v accepted); state = start (unfound v .head) })
+    by : (v : Finding) → Bad v → _≡_ {A = Ran} (record { verdict = caseOf 0 (behind v accepted); state = start (unfound v .head); row = rowOf [] })
         (ranWith (unfound v .head) (readLines full (unfound v .head) [] (linesOf (eventsOf s (unfound v)))) (behind v (markLines full (unfound v .head) [] (linesOf (eventsOf s (unfound v))))))
     by finding.Found b = absurd b
     by finding.TooLong b = unfold eventsOf linesOf splitOn ended readLines stateAfter in refl
@@ -141,7 +142,7 @@ mark-unfound s v f b = ⊎-elim
     by finding.WrongHead b = unfold eventsOf linesOf splitOn ended readLines stateAfter in refl
     by finding.WrongGuards b = unfold eventsOf linesOf splitOn ended readLines stateAfter in refl
 
-    none : (v : Finding) → traceOf s ≡ unfound v → Bad v → _≡_ {A = Ran} (record { verdict = caseOf 0 (behind v accepted); state = start (traceOf s .head) }) (markedRan s)
+    none : (v : Finding) → traceOf s ≡ unfound v → Bad v → _≡_ {A = Ran} (record { verdict = caseOf 0 (behind v accepted); state = start (traceOf s .head); row = rowOf [] }) (markedRan s)
     none v e b = unfold markedRan pastOf markedOf linesIn in rw e (by v b)
 
 -- ---- the case says the number and the line of the definition
@@ -212,13 +213,13 @@ past-clean s = clean-lines (traceOf s .head) [] (linesIn s) tt
 -- ---- the answer of the code
 
 abbrev startAt : Finding → Counts → Ran
-startAt v h = record { verdict = caseOf 0 (behind v accepted); state = start h }
+startAt v h = record { verdict = caseOf 0 (behind v accepted); state = start h; row = rowOf [] }
 
 module _ (s : List ℕ) (t : Trace) (e : t ≡ traceOf s) where
   pub found-answer : (part : List ℕ) (r : Ran) → part ≡ eventsOf s (traceOf s) → t .verdict ≡ finding.Found → r ≡ ranOf (t .head) part → Marks s r
   found-answer part r p f q = marks s r (q ∙ (λ i. ranOf (e i .head) (p i)) ∙ mark-found s (sym (ap (λ (x : Trace). x .verdict) e) ∙ f))
 
-  pub unfound-answer : (v : Finding) (r : Ran) → t .verdict ≡ v → Bad v → r ≡ record { verdict = caseOf 0 (behind v accepted); state = start (t .head) } → Marks s r
+  pub unfound-answer : (v : Finding) (r : Ran) → t .verdict ≡ v → Bad v → r ≡ record { verdict = caseOf 0 (behind v accepted); state = start (t .head); row = rowOf [] } → Marks s r
   unfound-answer v r f b q = marks s r (q ∙ ap (λ (x : Trace). startAt v (x .head)) e ∙ mark-unfound s v (sym (ap (λ (x : Trace). x .verdict) e) ∙ f) b)
 
 -- ---- the memories

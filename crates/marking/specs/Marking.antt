@@ -9,6 +9,7 @@ use Rattle.rules.specs.declared.Counts.{Counts}
 use Rattle.rules.specs.Limits.{Limits, full, lineAfter, allowed}
 use Rattle.rules.specs.Rules.{verdict, Marked, accepted, refused, unless}
 use Rattle.machine.specs.Step.{stateAfter}
+use Rattle.records.specs.Records.{rowOf}
 use Rattle.lines.specs.Lines.{choose, splitOn, linesOf}
 use Rattle.events.specs.declared.Reading.{Reading}
 use Rattle.events.specs.declared.Reading.the-variants as reading
@@ -97,9 +98,9 @@ caseOf n (refused k line) =
     (choose (eqb k 2) WrongTrailer
     TooLong))))))
 
--- what is said after the events es, the latest first, and the state that they leave
+-- what is said after the events es, the latest first, the state that they leave, and their records
 abbrev pub ranWith : Counts → List Event → Marked → Ran
-ranWith h es k = record { verdict = caseOf (length es) k; state = stateAfter h es }
+ranWith h es k = record { verdict = caseOf (length es) k; state = stateAfter h es; row = rowOf es }
 
 -- what stands behind the last byte 10 of a part is no event line, and the empty line stands for it
 abbrev pub unended : List ℕ → List (List ℕ)

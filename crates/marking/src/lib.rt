@@ -4,7 +4,9 @@ ghost use mathlib.Core.Path.{_≡_};
 ghost use mathlib.Core.Bool.{cond};
 ghost use Prim.Native.Nat.{_≤_};
 ghost use Rattle.rules.specs.Limits.{lineAfter};
+ghost use mathlib.Core.List.{[]};
 ghost use Rattle.machine.specs.State.{start};
+ghost use Rattle.records.specs.Records.{rowOf};
 ghost use Rattle.marking.specs.Marking.{ranOf, Marks};
 use events::Reading;
 use machine::OnSome;
@@ -29,10 +31,11 @@ pub enum Verdict {
     Broken(u8, usize),
 }
 
-// The verdict, and the state after the events before the first refusal.
+// The verdict, and of the events before the first refusal: the state after them, and their records, with zeros behind them.
 pub struct Ran {
     pub verdict: Verdict,
     pub state: State,
+    pub row: [u64; 2000],
 }
 
 // The line of the event after n events.
@@ -54,11 +57,13 @@ pub fn mark_part(h: Counts, part: &[u8]) -> Ran
     ensures { λ r. ⌜ r ≡ ranOf h (now (part .entry)) ⌝ }
 {
     let mut s = machine::initial(h);
+    let mut row: [u64; 2000] = [0; 2000];
     if !rules::is_allowed(h) {
         let wrong = Verdict::WrongHead;
         return Ran {
             verdict: wrong,
             state: s,
+            row: row,
         };
     }
     let mut at: usize = 0;
@@ -72,6 +77,7 @@ pub fn mark_part(h: Counts, part: &[u8]) -> Ran
             return Ran {
                 verdict: no_event,
                 state: s,
+                row: row,
             };
         };
         if 2000 <= n {
@@ -79,6 +85,7 @@ pub fn mark_part(h: Counts, part: &[u8]) -> Ran
             return Ran {
                 verdict: limit,
                 state: s,
+                row: row,
             };
         }
         if !rules::is_declared(counts, e) {
@@ -86,6 +93,7 @@ pub fn mark_part(h: Counts, part: &[u8]) -> Ran
             return Ran {
                 verdict: undeclared,
                 state: s,
+                row: row,
             };
         }
         let t = e.thread;
@@ -143,6 +151,7 @@ pub fn mark_part(h: Counts, part: &[u8]) -> Ran
             return Ran {
                 verdict: broken,
                 state: s,
+                row: row,
             };
         }
         // What it leaves.
@@ -164,23 +173,27 @@ pub fn mark_part(h: Counts, part: &[u8]) -> Ran
         s.locked[t] = locked_left;
         s.holds[lock] = hold_left;
         s.memory[v] = main_left;
+        let record = records::pack(e);
+        row[n as usize] = record;
         at = l.next;
     }
     let all = Verdict::Accepted(s.events as usize);
     Ran {
         verdict: all,
         state: s,
+        row: row,
     }
 }
 
 // The verdict on a trace of which no event is read.
 fn refuse(h: Counts, v: Verdict) -> Ran
-    ensures { λ r. ⌜ r ≡ record { verdict = v; state = start h } ⌝ }
+    ensures { λ r. ⌜ r ≡ record { verdict = v; state = start h; row = rowOf [] } ⌝ }
 {
     let s = machine::initial(h);
     Ran {
         verdict: v,
         state: s,
+        row: [0; 2000],
     }
 }
 

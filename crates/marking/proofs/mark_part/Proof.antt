@@ -8,6 +8,7 @@ use borrow.Author.Tests.{not-true, not-false}
 use lib.ListN.{length, getD}
 use Rattle.rules.specs.Limits.{full, allowed, declared}
 use Rattle.machine.specs.State.{blank}
+use Rattle.records.specs.Records.{rowOf}
 use Rattle.machine.proofs.LeafLaws.{cell-in}
 use Rattle.machine.proofs.RangeLaws.{slot-in}
 use Rattle.machine.proofs.Joined.{lock-in, var-in, span-in, seen-is, put-is}
@@ -15,23 +16,23 @@ use Rattle.events.specs.declared.Reading.the-variants as reading
 use Rattle.events.specs.Events.{eventFrom}
 use Rattle.marking.proofs.Tags.{not-event}
 use Rattle.marking.proofs.Scanning.{Scan, scan-start, scan-more, scan-end}
-use Rattle.marking.proofs.Turns.{Turn, turn-first, few, shaped, may, shallow, goes-on, turn-no, turn-limit, turn-undeclared, turn-broken, turn-more, turn-end, ran-from, ran-head}
+use Rattle.marking.proofs.Turns.{Turn, turn-first, few, wide, shaped, may, shallow, goes-on, turn-no, turn-limit, turn-undeclared, turn-broken, turn-more, turn-end, ran-from, ran-head}
 use Rattle.marking.proofs.mark_part.Statement.{statement}
 use Rattle.marking.proofs.mark_part.Tie as tie
 
 abbrev Inv-loop2 : tie.InvT-loop2
-Inv-loop2 part s at n counts line l t k v lock i c q o front-read front-store read store hold main locked pending₀ fresh₀ stored₀ end j₀ pending fresh stored j =
+Inv-loop2 part s row at n counts line l e t k v lock i c q o front-read front-store read store hold main locked pending₀ fresh₀ stored₀ end j₀ pending fresh stored j =
     Scan s t end j pending fresh stored
 
 abbrev μ-loop2 : tie.MeasureT-loop2
-μ-loop2 part s at n counts line l t k v lock i c q o front-read front-store read store hold main locked pending₀ fresh₀ stored₀ end j₀ pending fresh stored j =
+μ-loop2 part s row at n counts line l e t k v lock i c q o front-read front-store read store hold main locked pending₀ fresh₀ stored₀ end j₀ pending fresh stored j =
     end - j
 
 abbrev Inv-loop : tie.InvT-loop
-Inv-loop part s₀ at₀ s at = Turn (s₀ .counts) part s at
+Inv-loop part s₀ row₀ at₀ s row at = Turn (s₀ .counts) part s row at
 
 abbrev μ-loop : tie.MeasureT-loop
-μ-loop part s₀ at₀ s at = length part - at
+μ-loop part s₀ row₀ at₀ s row at = length part - at
 
 initial-requires : tie.Need-initial-requires Inv-loop2 μ-loop2 Inv-loop μ-loop
 initial-requires c κs = search needs
@@ -40,11 +41,13 @@ is-allowed-requires : tie.Need-is-allowed-requires Inv-loop2 μ-loop2 Inv-loop �
 is-allowed-requires c κs = search needs
 
 returns : tie.Need-returns Inv-loop2 μ-loop2 Inv-loop μ-loop
+unfolding rowOf
 returns c =
     let bad : allowed full (c .before .before .before .before .args .h) ≡ false = sym (c .before .is-allowed .ensures) ∙ not-true _ (c .if1 .taken) in
     ran-head (c .before .before .before .before .args .h) (c .before .before .before .before .args .part .now) (c .before .before .initial .result) bad (c .before .before .initial .ensures)
 
 loop-holds : tie.Need-loop-holds Inv-loop2 μ-loop2 Inv-loop μ-loop
+unfolding rowOf
 loop-holds c =
     let good : allowed full (c .before .before .before .before .args .h) ≡ true = sym (c .before .is-allowed .ensures) ∙ not-false _ (c .if1 .left) in
     turn-first (c .before .before .before .before .args .h) (c .before .before .initial .result) (c .before .before .before .before .args .part .now) (c .before .before .initial .ensures) good
@@ -54,9 +57,10 @@ line-after-requires c κs =
     let h = c .before .before .before .before .before .initial .result .counts in
     let bytes = c .before .before .before .before .before .before .before .args .part .now in
     let s = c .before .before .loop .s in
+    let row = c .before .before .loop .row in
     let at = c .before .before .loop .at in
     let tn = c .before .before .loop .inv in
-    few h bytes s at tn
+    few h bytes s row at tn
 
 line-at-requires : tie.Need-line-at-requires Inv-loop2 μ-loop2 Inv-loop μ-loop
 line-at-requires c κs = search needs
@@ -72,10 +76,11 @@ returns-2 c =
     let h = c .before .before .before .before .before .before .before .before .before .initial .result .counts in
     let bytes = c .before .before .before .before .before .before .before .before .before .before .before .args .part .now in
     let s = c .before .before .before .before .before .before .loop .s in
+    let row = c .before .before .before .before .before .before .loop .row in
     let at = c .before .before .before .before .before .before .loop .at in
     let tn = c .before .before .before .before .before .before .loop .inv in
     let good : allowed full (c .before .before .before .before .before .before .before .before .before .before .before .args .h) ≡ true = sym (c .before .before .before .before .before .before .before .before .is-allowed .ensures) ∙ not-false _ (c .before .before .before .before .before .before .before .if1 .left) in
-    turn-no h bytes s at tn (c .before .before .before .line-after .result) (c .before .before .line-at .result) (c .before .event-of .result) (c .before .before .before .before .before .loop-test .taken) (c .before .before .before .line-after .ensures) (c .before .before .line-at .ensures) (c .before .event-of .ensures) (not-event (c .before .event-of .result) (c .match .keys2))
+    turn-no h bytes s row at tn (c .before .before .before .line-after .result) (c .before .before .line-at .result) (c .before .event-of .result) (c .before .before .before .before .before .loop-test .taken) (c .before .before .before .line-after .ensures) (c .before .before .line-at .ensures) (c .before .event-of .ensures) (not-event (c .before .event-of .result) (c .match .keys2))
     ∙ ran-from (c .before .before .before .before .before .before .before .before .before .before .before .args .h) (c .before .before .before .before .before .before .before .before .before .initial .result) bytes (c .before .before .before .before .before .before .before .before .before .initial .ensures) good
 
 returns-3 : tie.Need-returns-3 Inv-loop2 μ-loop2 Inv-loop μ-loop
@@ -83,6 +88,7 @@ returns-3 c =
     let h = c .before .before .before .before .before .before .before .before .before .before .before .before .initial .result .counts in
     let bytes = c .before .before .before .before .before .before .before .before .before .before .before .before .before .before .args .part .now in
     let s = c .before .before .before .before .before .before .before .before .before .loop .s in
+    let row = c .before .before .before .before .before .before .before .before .before .loop .row in
     let at = c .before .before .before .before .before .before .before .before .before .loop .at in
     let tn = c .before .before .before .before .before .before .before .before .before .loop .inv in
     let e = c .before .before .e .given .0 .0 in
@@ -90,7 +96,7 @@ returns-3 c =
     let l = c .before .before .before .before .before .line-at .result in
     let er : reading.Of e ≡ eventFrom line l = sym (c .before .before .e .given .1) ∙ c .before .before .before .before .event-of .ensures in
     let good : allowed full (c .before .before .before .before .before .before .before .before .before .before .before .before .before .before .args .h) ≡ true = sym (c .before .before .before .before .before .before .before .before .before .before .before .is-allowed .ensures) ∙ not-false _ (c .before .before .before .before .before .before .before .before .before .before .if1 .left) in
-    turn-limit h bytes s at tn line l e (c .before .before .before .before .before .before .line-after .ensures) (c .before .before .before .before .before .line-at .ensures) er (c .if2 .taken) ∙ ran-from (c .before .before .before .before .before .before .before .before .before .before .before .before .before .before .args .h) (c .before .before .before .before .before .before .before .before .before .before .before .before .initial .result) bytes (c .before .before .before .before .before .before .before .before .before .before .before .before .initial .ensures) good
+    turn-limit h bytes s row at tn line l e (c .before .before .before .before .before .before .line-after .ensures) (c .before .before .before .before .before .line-at .ensures) er (c .if2 .taken) ∙ ran-from (c .before .before .before .before .before .before .before .before .before .before .before .before .before .before .args .h) (c .before .before .before .before .before .before .before .before .before .before .before .before .initial .result) bytes (c .before .before .before .before .before .before .before .before .before .before .before .before .initial .ensures) good
 
 is-declared-requires : tie.Need-is-declared-requires Inv-loop2 μ-loop2 Inv-loop μ-loop
 is-declared-requires c κs = search needs
@@ -100,6 +106,7 @@ returns-4 c =
     let h = c .before .before .before .before .before .before .before .before .before .before .before .before .before .before .initial .result .counts in
     let bytes = c .before .before .before .before .before .before .before .before .before .before .before .before .before .before .before .before .args .part .now in
     let s = c .before .before .before .before .before .before .before .before .before .before .before .loop .s in
+    let row = c .before .before .before .before .before .before .before .before .before .before .before .loop .row in
     let at = c .before .before .before .before .before .before .before .before .before .before .before .loop .at in
     let tn = c .before .before .before .before .before .before .before .before .before .before .before .loop .inv in
     let e = c .before .before .before .before .e .given .0 .0 in
@@ -108,7 +115,7 @@ returns-4 c =
     let er : reading.Of e ≡ eventFrom line l = sym (c .before .before .before .before .e .given .1) ∙ c .before .before .before .before .before .before .event-of .ensures in
     let good : allowed full (c .before .before .before .before .before .before .before .before .before .before .before .before .before .before .before .before .args .h) ≡ true = sym (c .before .before .before .before .before .before .before .before .before .before .before .before .before .is-allowed .ensures) ∙ not-false _ (c .before .before .before .before .before .before .before .before .before .before .before .before .if1 .left) in
     let d : declared (s .counts) e ≡ false = sym (c .before .is-declared .ensures) ∙ not-true _ (c .if3 .taken) in
-    turn-undeclared h bytes s at tn line l e (c .before .before .before .before .before .before .before .before .line-after .ensures) (c .before .before .before .before .before .before .before .line-at .ensures) er (c .before .before .if2 .left) d ∙ ran-from (c .before .before .before .before .before .before .before .before .before .before .before .before .before .before .before .before .args .h) (c .before .before .before .before .before .before .before .before .before .before .before .before .before .before .initial .result) bytes (c .before .before .before .before .before .before .before .before .before .before .before .before .before .before .initial .ensures) good
+    turn-undeclared h bytes s row at tn line l e (c .before .before .before .before .before .before .before .before .line-after .ensures) (c .before .before .before .before .before .before .before .line-at .ensures) er (c .before .before .if2 .left) d ∙ ran-from (c .before .before .before .before .before .before .before .before .before .before .before .before .before .before .before .before .args .h) (c .before .before .before .before .before .before .before .before .before .before .before .before .before .before .initial .result) bytes (c .before .before .before .before .before .before .before .before .before .before .before .before .before .before .initial .ensures) good
 
 places-of-requires : tie.Need-places-of-requires Inv-loop2 μ-loop2 Inv-loop μ-loop
 places-of-requires c κs = search needs
@@ -121,20 +128,22 @@ mul-c c =
     let h = c .before .before .before .before .before .before .before .before .before .before .before .before .before .before .before .before .initial .result .counts in
     let bytes = c .before .before .before .before .before .before .before .before .before .before .before .before .before .before .before .before .before .before .args .part .now in
     let s = c .before .before .before .before .before .before .before .before .before .before .before .before .before .loop .s in
+    let row = c .before .before .before .before .before .before .before .before .before .before .before .before .before .loop .row in
     let at = c .before .before .before .before .before .before .before .before .before .before .before .before .before .loop .at in
     let tn = c .before .before .before .before .before .before .before .before .before .before .before .before .before .loop .inv in
     let b : c .cell-place .result < 128 = cell-in _ _ (c .cell-place .ensures) in
-    omega (arith, b, shaped h bytes s at tn .cells)
+    omega (arith, b, shaped h bytes s row at tn .cells)
 
 element-copy-out-c : tie.Need-element-copy-out-c Inv-loop2 μ-loop2 Inv-loop μ-loop
 element-copy-out-c c =
     let h = c .before .before .before .before .before .before .before .before .before .before .before .before .before .before .before .before .initial .result .counts in
     let bytes = c .before .before .before .before .before .before .before .before .before .before .before .before .before .before .before .before .before .before .args .part .now in
     let s = c .before .before .before .before .before .before .before .before .before .before .before .before .before .loop .s in
+    let row = c .before .before .before .before .before .before .before .before .before .before .before .before .before .loop .row in
     let at = c .before .before .before .before .before .before .before .before .before .before .before .before .before .loop .at in
     let tn = c .before .before .before .before .before .before .before .before .before .before .before .before .before .loop .inv in
     let b : c .cell-place .result < 128 = cell-in _ _ (c .cell-place .ensures) in
-    omega (arith, b, shaped h bytes s at tn .cells)
+    omega (arith, b, shaped h bytes s row at tn .cells)
 
 slot-place-requires : tie.Need-slot-place-requires Inv-loop2 μ-loop2 Inv-loop μ-loop
 slot-place-requires c κs = search needs
@@ -147,40 +156,44 @@ mul-r0 c =
     let h = c .before .before .before .before .before .before .before .before .before .before .before .before .before .before .before .before .before .before .before .before .before .initial .result .counts in
     let bytes = c .before .before .before .before .before .before .before .before .before .before .before .before .before .before .before .before .before .before .before .before .before .before .before .args .part .now in
     let s = c .before .before .before .before .before .before .before .before .before .before .before .before .before .before .before .before .before .before .loop .s in
+    let row = c .before .before .before .before .before .before .before .before .before .before .before .before .before .before .before .before .before .before .loop .row in
     let at = c .before .before .before .before .before .before .before .before .before .before .before .before .before .before .before .before .before .before .loop .at in
     let tn = c .before .before .before .before .before .before .before .before .before .before .before .before .before .before .before .before .before .before .loop .inv in
     let b : c .before .slot-place .result < 1024 = slot-in _ _ _ (c .before .slot-place .ensures) in
-    omega (arith, b, shaped h bytes s at tn .reads, shaped h bytes s at tn .stores)
+    omega (arith, b, shaped h bytes s row at tn .reads, shaped h bytes s row at tn .stores)
 
 element-copy-out-r0 : tie.Need-element-copy-out-r0 Inv-loop2 μ-loop2 Inv-loop μ-loop
 element-copy-out-r0 c =
     let h = c .before .before .before .before .before .before .before .before .before .before .before .before .before .before .before .before .before .before .before .before .before .initial .result .counts in
     let bytes = c .before .before .before .before .before .before .before .before .before .before .before .before .before .before .before .before .before .before .before .before .before .before .before .args .part .now in
     let s = c .before .before .before .before .before .before .before .before .before .before .before .before .before .before .before .before .before .before .loop .s in
+    let row = c .before .before .before .before .before .before .before .before .before .before .before .before .before .before .before .before .before .before .loop .row in
     let at = c .before .before .before .before .before .before .before .before .before .before .before .before .before .before .before .before .before .before .loop .at in
     let tn = c .before .before .before .before .before .before .before .before .before .before .before .before .before .before .before .before .before .before .loop .inv in
     let b : c .before .slot-place .result < 1024 = slot-in _ _ _ (c .before .slot-place .ensures) in
-    omega (arith, b, shaped h bytes s at tn .reads, shaped h bytes s at tn .stores)
+    omega (arith, b, shaped h bytes s row at tn .reads, shaped h bytes s row at tn .stores)
 
 mul-s0 : tie.Need-mul-s0 Inv-loop2 μ-loop2 Inv-loop μ-loop
 mul-s0 c =
     let h = c .before .before .before .before .before .before .before .before .before .before .before .before .before .before .before .before .before .before .before .before .before .before .initial .result .counts in
     let bytes = c .before .before .before .before .before .before .before .before .before .before .before .before .before .before .before .before .before .before .before .before .before .before .before .before .args .part .now in
     let s = c .before .before .before .before .before .before .before .before .before .before .before .before .before .before .before .before .before .before .before .loop .s in
+    let row = c .before .before .before .before .before .before .before .before .before .before .before .before .before .before .before .before .before .before .before .loop .row in
     let at = c .before .before .before .before .before .before .before .before .before .before .before .before .before .before .before .before .before .before .before .loop .at in
     let tn = c .before .before .before .before .before .before .before .before .before .before .before .before .before .before .before .before .before .before .before .loop .inv in
     let b : c .before .slot-place2 .result < 1024 = slot-in _ _ _ (c .before .slot-place2 .ensures) in
-    omega (arith, b, shaped h bytes s at tn .reads, shaped h bytes s at tn .stores)
+    omega (arith, b, shaped h bytes s row at tn .reads, shaped h bytes s row at tn .stores)
 
 element-copy-out-s0 : tie.Need-element-copy-out-s0 Inv-loop2 μ-loop2 Inv-loop μ-loop
 element-copy-out-s0 c =
     let h = c .before .before .before .before .before .before .before .before .before .before .before .before .before .before .before .before .before .before .before .before .before .before .initial .result .counts in
     let bytes = c .before .before .before .before .before .before .before .before .before .before .before .before .before .before .before .before .before .before .before .before .before .before .before .before .args .part .now in
     let s = c .before .before .before .before .before .before .before .before .before .before .before .before .before .before .before .before .before .before .before .loop .s in
+    let row = c .before .before .before .before .before .before .before .before .before .before .before .before .before .before .before .before .before .before .before .loop .row in
     let at = c .before .before .before .before .before .before .before .before .before .before .before .before .before .before .before .before .before .before .before .loop .at in
     let tn = c .before .before .before .before .before .before .before .before .before .before .before .before .before .before .before .before .before .before .before .loop .inv in
     let b : c .before .slot-place2 .result < 1024 = slot-in _ _ _ (c .before .slot-place2 .ensures) in
-    omega (arith, b, shaped h bytes s at tn .reads, shaped h bytes s at tn .stores)
+    omega (arith, b, shaped h bytes s row at tn .reads, shaped h bytes s row at tn .stores)
 
 oldest-requires : tie.Need-oldest-requires Inv-loop2 μ-loop2 Inv-loop μ-loop
 oldest-requires c κs = search needs
@@ -193,6 +206,7 @@ mul-hold c =
     let h = c .before .before .before .before .before .before .before .before .before .before .before .before .before .before .before .before .before .before .before .before .before .before .before .before .before .initial .result .counts in
     let bytes = c .before .before .before .before .before .before .before .before .before .before .before .before .before .before .before .before .before .before .before .before .before .before .before .before .before .before .before .args .part .now in
     let s = c .before .before .before .before .before .before .before .before .before .before .before .before .before .before .before .before .before .before .before .before .before .before .loop .s in
+    let row = c .before .before .before .before .before .before .before .before .before .before .before .before .before .before .before .before .before .before .before .before .before .before .loop .row in
     let at = c .before .before .before .before .before .before .before .before .before .before .before .before .before .before .before .before .before .before .before .before .before .before .loop .at in
     let tn = c .before .before .before .before .before .before .before .before .before .before .before .before .before .before .before .before .before .before .before .before .before .before .loop .inv in
     let e = c .before .before .before .before .before .before .before .before .before .before .before .before .before .before .before .e .given .0 .0 in
@@ -200,15 +214,16 @@ mul-hold c =
     let l = c .before .before .before .before .before .before .before .before .before .before .before .before .before .before .before .before .before .before .line-at .result in
     let er : reading.Of e ≡ eventFrom line l = sym (c .before .before .before .before .before .before .before .before .before .before .before .before .before .before .before .e .given .1) ∙ c .before .before .before .before .before .before .before .before .before .before .before .before .before .before .before .before .before .event-of .ensures in
     let d : declared (s .counts) e ≡ true = sym (c .before .before .before .before .before .before .before .before .before .before .before .before .is-declared .ensures) ∙ not-false _ (c .before .before .before .before .before .before .before .before .before .before .before .if3 .left) in
-    let w = may h bytes s at tn e d in
+    let w = may h bytes s row at tn e d in
     let b : c .before .before .before .before .before .before .before .before .before .before .places-of .result .lock < 8 = lock-in _ _ _ (w .within) (c .before .before .before .before .before .before .before .before .before .before .places-of .ensures) in
-    omega (arith, b, shaped h bytes s at tn .holds)
+    omega (arith, b, shaped h bytes s row at tn .holds)
 
 element-copy-out-hold : tie.Need-element-copy-out-hold Inv-loop2 μ-loop2 Inv-loop μ-loop
 element-copy-out-hold c =
     let h = c .before .before .before .before .before .before .before .before .before .before .before .before .before .before .before .before .before .before .before .before .before .before .before .before .before .initial .result .counts in
     let bytes = c .before .before .before .before .before .before .before .before .before .before .before .before .before .before .before .before .before .before .before .before .before .before .before .before .before .before .before .args .part .now in
     let s = c .before .before .before .before .before .before .before .before .before .before .before .before .before .before .before .before .before .before .before .before .before .before .loop .s in
+    let row = c .before .before .before .before .before .before .before .before .before .before .before .before .before .before .before .before .before .before .before .before .before .before .loop .row in
     let at = c .before .before .before .before .before .before .before .before .before .before .before .before .before .before .before .before .before .before .before .before .before .before .loop .at in
     let tn = c .before .before .before .before .before .before .before .before .before .before .before .before .before .before .before .before .before .before .before .before .before .before .loop .inv in
     let e = c .before .before .before .before .before .before .before .before .before .before .before .before .before .before .before .e .given .0 .0 in
@@ -216,15 +231,16 @@ element-copy-out-hold c =
     let l = c .before .before .before .before .before .before .before .before .before .before .before .before .before .before .before .before .before .before .line-at .result in
     let er : reading.Of e ≡ eventFrom line l = sym (c .before .before .before .before .before .before .before .before .before .before .before .before .before .before .before .e .given .1) ∙ c .before .before .before .before .before .before .before .before .before .before .before .before .before .before .before .before .before .event-of .ensures in
     let d : declared (s .counts) e ≡ true = sym (c .before .before .before .before .before .before .before .before .before .before .before .before .is-declared .ensures) ∙ not-false _ (c .before .before .before .before .before .before .before .before .before .before .before .if3 .left) in
-    let w = may h bytes s at tn e d in
+    let w = may h bytes s row at tn e d in
     let b : c .before .before .before .before .before .before .before .before .before .before .places-of .result .lock < 8 = lock-in _ _ _ (w .within) (c .before .before .before .before .before .before .before .before .before .before .places-of .ensures) in
-    omega (arith, b, shaped h bytes s at tn .holds)
+    omega (arith, b, shaped h bytes s row at tn .holds)
 
 mul-main : tie.Need-mul-main Inv-loop2 μ-loop2 Inv-loop μ-loop
 mul-main c =
     let h = c .before .before .before .before .before .before .before .before .before .before .before .before .before .before .before .before .before .before .before .before .before .before .before .before .before .before .initial .result .counts in
     let bytes = c .before .before .before .before .before .before .before .before .before .before .before .before .before .before .before .before .before .before .before .before .before .before .before .before .before .before .before .before .args .part .now in
     let s = c .before .before .before .before .before .before .before .before .before .before .before .before .before .before .before .before .before .before .before .before .before .before .before .loop .s in
+    let row = c .before .before .before .before .before .before .before .before .before .before .before .before .before .before .before .before .before .before .before .before .before .before .before .loop .row in
     let at = c .before .before .before .before .before .before .before .before .before .before .before .before .before .before .before .before .before .before .before .before .before .before .before .loop .at in
     let tn = c .before .before .before .before .before .before .before .before .before .before .before .before .before .before .before .before .before .before .before .before .before .before .before .loop .inv in
     let e = c .before .before .before .before .before .before .before .before .before .before .before .before .before .before .before .before .e .given .0 .0 in
@@ -232,15 +248,16 @@ mul-main c =
     let l = c .before .before .before .before .before .before .before .before .before .before .before .before .before .before .before .before .before .before .before .line-at .result in
     let er : reading.Of e ≡ eventFrom line l = sym (c .before .before .before .before .before .before .before .before .before .before .before .before .before .before .before .before .e .given .1) ∙ c .before .before .before .before .before .before .before .before .before .before .before .before .before .before .before .before .before .before .event-of .ensures in
     let d : declared (s .counts) e ≡ true = sym (c .before .before .before .before .before .before .before .before .before .before .before .before .before .is-declared .ensures) ∙ not-false _ (c .before .before .before .before .before .before .before .before .before .before .before .before .if3 .left) in
-    let w = may h bytes s at tn e d in
+    let w = may h bytes s row at tn e d in
     let b : c .before .before .before .before .before .before .before .before .before .before .before .places-of .result .variable < 16 = var-in _ _ _ (w .within) (c .before .before .before .before .before .before .before .before .before .before .before .places-of .ensures) in
-    omega (arith, b, shaped h bytes s at tn .memory)
+    omega (arith, b, shaped h bytes s row at tn .memory)
 
 element-copy-out-main : tie.Need-element-copy-out-main Inv-loop2 μ-loop2 Inv-loop μ-loop
 element-copy-out-main c =
     let h = c .before .before .before .before .before .before .before .before .before .before .before .before .before .before .before .before .before .before .before .before .before .before .before .before .before .before .initial .result .counts in
     let bytes = c .before .before .before .before .before .before .before .before .before .before .before .before .before .before .before .before .before .before .before .before .before .before .before .before .before .before .before .before .args .part .now in
     let s = c .before .before .before .before .before .before .before .before .before .before .before .before .before .before .before .before .before .before .before .before .before .before .before .loop .s in
+    let row = c .before .before .before .before .before .before .before .before .before .before .before .before .before .before .before .before .before .before .before .before .before .before .before .loop .row in
     let at = c .before .before .before .before .before .before .before .before .before .before .before .before .before .before .before .before .before .before .before .before .before .before .before .loop .at in
     let tn = c .before .before .before .before .before .before .before .before .before .before .before .before .before .before .before .before .before .before .before .before .before .before .before .loop .inv in
     let e = c .before .before .before .before .before .before .before .before .before .before .before .before .before .before .before .before .e .given .0 .0 in
@@ -248,15 +265,16 @@ element-copy-out-main c =
     let l = c .before .before .before .before .before .before .before .before .before .before .before .before .before .before .before .before .before .before .before .line-at .result in
     let er : reading.Of e ≡ eventFrom line l = sym (c .before .before .before .before .before .before .before .before .before .before .before .before .before .before .before .before .e .given .1) ∙ c .before .before .before .before .before .before .before .before .before .before .before .before .before .before .before .before .before .before .event-of .ensures in
     let d : declared (s .counts) e ≡ true = sym (c .before .before .before .before .before .before .before .before .before .before .before .before .before .is-declared .ensures) ∙ not-false _ (c .before .before .before .before .before .before .before .before .before .before .before .before .if3 .left) in
-    let w = may h bytes s at tn e d in
+    let w = may h bytes s row at tn e d in
     let b : c .before .before .before .before .before .before .before .before .before .before .before .places-of .result .variable < 16 = var-in _ _ _ (w .within) (c .before .before .before .before .before .before .before .before .before .before .before .places-of .ensures) in
-    omega (arith, b, shaped h bytes s at tn .memory)
+    omega (arith, b, shaped h bytes s row at tn .memory)
 
 mul-locked : tie.Need-mul-locked Inv-loop2 μ-loop2 Inv-loop μ-loop
 mul-locked c =
     let h = c .before .before .before .before .before .before .before .before .before .before .before .before .before .before .before .before .before .before .before .before .before .before .before .before .before .before .before .initial .result .counts in
     let bytes = c .before .before .before .before .before .before .before .before .before .before .before .before .before .before .before .before .before .before .before .before .before .before .before .before .before .before .before .before .before .args .part .now in
     let s = c .before .before .before .before .before .before .before .before .before .before .before .before .before .before .before .before .before .before .before .before .before .before .before .before .loop .s in
+    let row = c .before .before .before .before .before .before .before .before .before .before .before .before .before .before .before .before .before .before .before .before .before .before .before .before .loop .row in
     let at = c .before .before .before .before .before .before .before .before .before .before .before .before .before .before .before .before .before .before .before .before .before .before .before .before .loop .at in
     let tn = c .before .before .before .before .before .before .before .before .before .before .before .before .before .before .before .before .before .before .before .before .before .before .before .before .loop .inv in
     let e = c .before .before .before .before .before .before .before .before .before .before .before .before .before .before .before .before .before .e .given .0 .0 in
@@ -264,15 +282,16 @@ mul-locked c =
     let l = c .before .before .before .before .before .before .before .before .before .before .before .before .before .before .before .before .before .before .before .before .line-at .result in
     let er : reading.Of e ≡ eventFrom line l = sym (c .before .before .before .before .before .before .before .before .before .before .before .before .before .before .before .before .before .e .given .1) ∙ c .before .before .before .before .before .before .before .before .before .before .before .before .before .before .before .before .before .before .before .event-of .ensures in
     let d : declared (s .counts) e ≡ true = sym (c .before .before .before .before .before .before .before .before .before .before .before .before .before .before .is-declared .ensures) ∙ not-false _ (c .before .before .before .before .before .before .before .before .before .before .before .before .before .if3 .left) in
-    let w = may h bytes s at tn e d in
+    let w = may h bytes s row at tn e d in
     let b : e .thread < 8 = w .within .thread in
-    omega (arith, b, shaped h bytes s at tn .locked)
+    omega (arith, b, shaped h bytes s row at tn .locked)
 
 element-copy-out-locked : tie.Need-element-copy-out-locked Inv-loop2 μ-loop2 Inv-loop μ-loop
 element-copy-out-locked c =
     let h = c .before .before .before .before .before .before .before .before .before .before .before .before .before .before .before .before .before .before .before .before .before .before .before .before .before .before .before .initial .result .counts in
     let bytes = c .before .before .before .before .before .before .before .before .before .before .before .before .before .before .before .before .before .before .before .before .before .before .before .before .before .before .before .before .before .args .part .now in
     let s = c .before .before .before .before .before .before .before .before .before .before .before .before .before .before .before .before .before .before .before .before .before .before .before .before .loop .s in
+    let row = c .before .before .before .before .before .before .before .before .before .before .before .before .before .before .before .before .before .before .before .before .before .before .before .before .loop .row in
     let at = c .before .before .before .before .before .before .before .before .before .before .before .before .before .before .before .before .before .before .before .before .before .before .before .before .loop .at in
     let tn = c .before .before .before .before .before .before .before .before .before .before .before .before .before .before .before .before .before .before .before .before .before .before .before .before .loop .inv in
     let e = c .before .before .before .before .before .before .before .before .before .before .before .before .before .before .before .before .before .e .given .0 .0 in
@@ -280,9 +299,9 @@ element-copy-out-locked c =
     let l = c .before .before .before .before .before .before .before .before .before .before .before .before .before .before .before .before .before .before .before .before .line-at .result in
     let er : reading.Of e ≡ eventFrom line l = sym (c .before .before .before .before .before .before .before .before .before .before .before .before .before .before .before .before .before .e .given .1) ∙ c .before .before .before .before .before .before .before .before .before .before .before .before .before .before .before .before .before .before .before .event-of .ensures in
     let d : declared (s .counts) e ≡ true = sym (c .before .before .before .before .before .before .before .before .before .before .before .before .before .before .is-declared .ensures) ∙ not-false _ (c .before .before .before .before .before .before .before .before .before .before .before .before .before .if3 .left) in
-    let w = may h bytes s at tn e d in
+    let w = may h bytes s row at tn e d in
     let b : e .thread < 8 = w .within .thread in
-    omega (arith, b, shaped h bytes s at tn .locked)
+    omega (arith, b, shaped h bytes s row at tn .locked)
 
 span-requires : tie.Need-span-requires Inv-loop2 μ-loop2 Inv-loop μ-loop
 span-requires c κs = search needs
@@ -292,6 +311,7 @@ loop2-holds c =
     let h = c .before .before .before .before .before .before .before .before .before .before .before .before .before .before .before .before .before .before .before .before .before .before .before .before .before .before .before .before .before .initial .result .counts in
     let bytes = c .before .before .before .before .before .before .before .before .before .before .before .before .before .before .before .before .before .before .before .before .before .before .before .before .before .before .before .before .before .before .before .args .part .now in
     let s = c .before .before .before .before .before .before .before .before .before .before .before .before .before .before .before .before .before .before .before .before .before .before .before .before .before .before .loop .s in
+    let row = c .before .before .before .before .before .before .before .before .before .before .before .before .before .before .before .before .before .before .before .before .before .before .before .before .before .before .loop .row in
     let at = c .before .before .before .before .before .before .before .before .before .before .before .before .before .before .before .before .before .before .before .before .before .before .before .before .before .before .loop .at in
     let tn = c .before .before .before .before .before .before .before .before .before .before .before .before .before .before .before .before .before .before .before .before .before .before .before .before .before .before .loop .inv in
     let e = c .before .before .before .before .before .before .before .before .before .before .before .before .before .before .before .before .before .before .before .e .given .0 .0 in
@@ -308,26 +328,29 @@ mul-d c =
     let h = c .before .before .before .before .before .before .before .before .before .before .before .before .before .before .before .before .before .before .before .before .before .before .before .before .before .before .before .before .before .before .before .before .initial .result .counts in
     let bytes = c .before .before .before .before .before .before .before .before .before .before .before .before .before .before .before .before .before .before .before .before .before .before .before .before .before .before .before .before .before .before .before .before .before .before .args .part .now in
     let s = c .before .before .before .before .before .before .before .before .before .before .before .before .before .before .before .before .before .before .before .before .before .before .before .before .before .before .before .before .before .loop .s in
+    let row = c .before .before .before .before .before .before .before .before .before .before .before .before .before .before .before .before .before .before .before .before .before .before .before .before .before .before .before .before .before .loop .row in
     let at = c .before .before .before .before .before .before .before .before .before .before .before .before .before .before .before .before .before .before .before .before .before .before .before .before .before .before .before .before .before .loop .at in
     let tn = c .before .before .before .before .before .before .before .before .before .before .before .before .before .before .before .before .before .before .before .before .before .before .before .before .before .before .before .before .before .loop .inv in
     let b : c .cell-place2 .result < 128 = cell-in _ _ (c .cell-place2 .ensures) in
-    omega (arith, b, shaped h bytes s at tn .cells)
+    omega (arith, b, shaped h bytes s row at tn .cells)
 
 element-copy-out-d : tie.Need-element-copy-out-d Inv-loop2 μ-loop2 Inv-loop μ-loop
 element-copy-out-d c =
     let h = c .before .before .before .before .before .before .before .before .before .before .before .before .before .before .before .before .before .before .before .before .before .before .before .before .before .before .before .before .before .before .before .before .initial .result .counts in
     let bytes = c .before .before .before .before .before .before .before .before .before .before .before .before .before .before .before .before .before .before .before .before .before .before .before .before .before .before .before .before .before .before .before .before .before .before .args .part .now in
     let s = c .before .before .before .before .before .before .before .before .before .before .before .before .before .before .before .before .before .before .before .before .before .before .before .before .before .before .before .before .before .loop .s in
+    let row = c .before .before .before .before .before .before .before .before .before .before .before .before .before .before .before .before .before .before .before .before .before .before .before .before .before .before .before .before .before .loop .row in
     let at = c .before .before .before .before .before .before .before .before .before .before .before .before .before .before .before .before .before .before .before .before .before .before .before .before .before .before .before .before .before .loop .at in
     let tn = c .before .before .before .before .before .before .before .before .before .before .before .before .before .before .before .before .before .before .before .before .before .before .before .before .before .before .before .before .before .loop .inv in
     let b : c .cell-place2 .result < 128 = cell-in _ _ (c .cell-place2 .ensures) in
-    omega (arith, b, shaped h bytes s at tn .cells)
+    omega (arith, b, shaped h bytes s row at tn .cells)
 
 add-j : tie.Need-add-j Inv-loop2 μ-loop2 Inv-loop μ-loop
 add-j c =
     let h = c .before .before .before .before .before .before .before .before .before .before .before .before .before .before .before .before .before .before .before .before .before .before .before .before .before .before .before .before .before .before .before .before .before .before .before .before .before .initial .result .counts in
     let bytes = c .before .before .before .before .before .before .before .before .before .before .before .before .before .before .before .before .before .before .before .before .before .before .before .before .before .before .before .before .before .before .before .before .before .before .before .before .before .before .before .args .part .now in
     let s = c .before .before .before .before .before .before .before .before .before .before .before .before .before .before .before .before .before .before .before .before .before .before .before .before .before .before .before .before .before .before .before .before .before .before .loop .s in
+    let row = c .before .before .before .before .before .before .before .before .before .before .before .before .before .before .before .before .before .before .before .before .before .before .before .before .before .before .before .before .before .before .before .before .before .before .loop .row in
     let at = c .before .before .before .before .before .before .before .before .before .before .before .before .before .before .before .before .before .before .before .before .before .before .before .before .before .before .before .before .before .before .before .before .before .before .loop .at in
     let tn = c .before .before .before .before .before .before .before .before .before .before .before .before .before .before .before .before .before .before .before .before .before .before .before .before .before .before .before .before .before .before .before .before .before .before .loop .inv in
     let e = c .before .before .before .before .before .before .before .before .before .before .before .before .before .before .before .before .before .before .before .before .before .before .before .before .before .before .before .e .given .0 .0 in
@@ -335,7 +358,7 @@ add-j c =
     let l = c .before .before .before .before .before .before .before .before .before .before .before .before .before .before .before .before .before .before .before .before .before .before .before .before .before .before .before .before .before .before .line-at .result in
     let er : reading.Of e ≡ eventFrom line l = sym (c .before .before .before .before .before .before .before .before .before .before .before .before .before .before .before .before .before .before .before .before .before .before .before .before .before .before .before .e .given .1) ∙ c .before .before .before .before .before .before .before .before .before .before .before .before .before .before .before .before .before .before .before .before .before .before .before .before .before .before .before .before .before .event-of .ensures in
     let d : declared (s .counts) e ≡ true = sym (c .before .before .before .before .before .before .before .before .before .before .before .before .before .before .before .before .before .before .before .before .before .before .before .before .is-declared .ensures) ∙ not-false _ (c .before .before .before .before .before .before .before .before .before .before .before .before .before .before .before .before .before .before .before .before .before .before .before .if3 .left) in
-    let w = may h bytes s at tn e d in
+    let w = may h bytes s row at tn e d in
     let end = c .before .before .before .before .before .before .before .before .span .result in
     let b : end ≤ 16 = span-in (c .before .before .before .before .before .before .before .before .before .before .before .before .before .before .before .before .before .before .before .before .before .before .places-of .result .all) _ _ (c .before .before .before .before .before .before .before .before .span .ensures) (w .variables) in
     omega (arith, b, c .before .before .before .before .before .before .loop2-test .taken)
@@ -348,6 +371,7 @@ loop2-again c =
     let h = c .before .before .before .before .before .before .before .before .before .before .before .before .before .before .before .before .before .before .before .before .before .before .before .before .before .before .before .before .before .before .before .before .before .before .before .before .before .initial .result .counts in
     let bytes = c .before .before .before .before .before .before .before .before .before .before .before .before .before .before .before .before .before .before .before .before .before .before .before .before .before .before .before .before .before .before .before .before .before .before .before .before .before .before .before .args .part .now in
     let s = c .before .before .before .before .before .before .before .before .before .before .before .before .before .before .before .before .before .before .before .before .before .before .before .before .before .before .before .before .before .before .before .before .before .before .loop .s in
+    let row = c .before .before .before .before .before .before .before .before .before .before .before .before .before .before .before .before .before .before .before .before .before .before .before .before .before .before .before .before .before .before .before .before .before .before .loop .row in
     let at = c .before .before .before .before .before .before .before .before .before .before .before .before .before .before .before .before .before .before .before .before .before .before .before .before .before .before .before .before .before .before .before .before .before .before .loop .at in
     let tn = c .before .before .before .before .before .before .before .before .before .before .before .before .before .before .before .before .before .before .before .before .before .before .before .before .before .before .before .before .before .before .before .before .before .before .loop .inv in
     let e = c .before .before .before .before .before .before .before .before .before .before .before .before .before .before .before .before .before .before .before .before .before .before .before .before .before .before .before .e .given .0 .0 in
@@ -355,7 +379,7 @@ loop2-again c =
     let l = c .before .before .before .before .before .before .before .before .before .before .before .before .before .before .before .before .before .before .before .before .before .before .before .before .before .before .before .before .before .before .line-at .result in
     let er : reading.Of e ≡ eventFrom line l = sym (c .before .before .before .before .before .before .before .before .before .before .before .before .before .before .before .before .before .before .before .before .before .before .before .before .before .before .before .e .given .1) ∙ c .before .before .before .before .before .before .before .before .before .before .before .before .before .before .before .before .before .before .before .before .before .before .before .before .before .before .before .before .before .event-of .ensures in
     let d : declared (s .counts) e ≡ true = sym (c .before .before .before .before .before .before .before .before .before .before .before .before .before .before .before .before .before .before .before .before .before .before .before .before .is-declared .ensures) ∙ not-false _ (c .before .before .before .before .before .before .before .before .before .before .before .before .before .before .before .before .before .before .before .before .before .before .before .if3 .left) in
-    let w = may h bytes s at tn e d in
+    let w = may h bytes s row at tn e d in
     let end = c .before .before .before .before .before .before .before .before .span .result in
     let b : end ≤ 16 = span-in (c .before .before .before .before .before .before .before .before .before .before .before .before .before .before .before .before .before .before .before .before .before .before .places-of .result .all) _ _ (c .before .before .before .before .before .before .before .before .span .ensures) (w .variables) in
     let m = c .before .before .before .before .before .before .before .loop2 in
@@ -369,6 +393,7 @@ returns-5 c =
     let h = c .before .before .before .before .before .before .before .before .before .before .before .before .before .before .before .before .before .before .before .before .before .before .before .before .before .before .before .before .before .before .before .before .before .initial .result .counts in
     let bytes = c .before .before .before .before .before .before .before .before .before .before .before .before .before .before .before .before .before .before .before .before .before .before .before .before .before .before .before .before .before .before .before .before .before .before .before .args .part .now in
     let s = c .before .before .before .before .before .before .before .before .before .before .before .before .before .before .before .before .before .before .before .before .before .before .before .before .before .before .before .before .before .before .loop .s in
+    let row = c .before .before .before .before .before .before .before .before .before .before .before .before .before .before .before .before .before .before .before .before .before .before .before .before .before .before .before .before .before .before .loop .row in
     let at = c .before .before .before .before .before .before .before .before .before .before .before .before .before .before .before .before .before .before .before .before .before .before .before .before .before .before .before .before .before .before .loop .at in
     let tn = c .before .before .before .before .before .before .before .before .before .before .before .before .before .before .before .before .before .before .before .before .before .before .before .before .before .before .before .before .before .before .loop .inv in
     let e = c .before .before .before .before .before .before .before .before .before .before .before .before .before .before .before .before .before .before .before .before .before .before .before .e .given .0 .0 in
@@ -376,7 +401,7 @@ returns-5 c =
     let l = c .before .before .before .before .before .before .before .before .before .before .before .before .before .before .before .before .before .before .before .before .before .before .before .before .before .before .line-at .result in
     let er : reading.Of e ≡ eventFrom line l = sym (c .before .before .before .before .before .before .before .before .before .before .before .before .before .before .before .before .before .before .before .before .before .before .before .e .given .1) ∙ c .before .before .before .before .before .before .before .before .before .before .before .before .before .before .before .before .before .before .before .before .before .before .before .before .before .event-of .ensures in
     let d : declared (s .counts) e ≡ true = sym (c .before .before .before .before .before .before .before .before .before .before .before .before .before .before .before .before .before .before .before .before .is-declared .ensures) ∙ not-false _ (c .before .before .before .before .before .before .before .before .before .before .before .before .before .before .before .before .before .before .before .if3 .left) in
-    let w = may h bytes s at tn e d in
+    let w = may h bytes s row at tn e d in
     let i = c .before .before .before .before .before .before .before .before .before .before .before .before .before .before .before .before .before .cell-place .result in
     let end = c .before .before .before .before .span .result in
     let m = c .before .before .before .loop2 in
@@ -386,7 +411,7 @@ returns-5 c =
     (record { pending = m .pending; fresh = m .fresh; stored = m .stored })
     (c .before .before .before .before .before .before .before .before .before .before .before .before .before .before .before .before .before .before .places-of .ensures) (c .before .before .before .before .before .before .before .before .before .before .before .before .before .before .before .before .before .cell-place .ensures) refl (c .before .before .before .before .before .before .before .before .before .before .before .before .before .slot-place .ensures) (c .before .before .before .before .before .before .before .before .before .before .before .before .slot-place2 .ensures) (c .before .before .before .before .before .before .before .before .before .oldest .ensures) (c .before .before .before .before .before .before .before .before .oldest2 .ensures) (c .before .before .before .before .span .ensures) any in
     let good : allowed full (c .before .before .before .before .before .before .before .before .before .before .before .before .before .before .before .before .before .before .before .before .before .before .before .before .before .before .before .before .before .before .before .before .before .before .before .args .h) ≡ true = sym (c .before .before .before .before .before .before .before .before .before .before .before .before .before .before .before .before .before .before .before .before .before .before .before .before .before .before .before .before .before .before .before .before .is-allowed .ensures) ∙ not-false _ (c .before .before .before .before .before .before .before .before .before .before .before .before .before .before .before .before .before .before .before .before .before .before .before .before .before .before .before .before .before .before .before .if1 .left) in
-    turn-broken h bytes s at tn line l e (c .before .before .before .before .before .before .before .before .before .before .before .before .before .before .before .before .before .before .before .before .before .before .before .before .before .before .before .line-after .ensures) (c .before .before .before .before .before .before .before .before .before .before .before .before .before .before .before .before .before .before .before .before .before .before .before .before .before .before .line-at .ensures) er (c .before .before .before .before .before .before .before .before .before .before .before .before .before .before .before .before .before .before .before .before .before .if2 .left) d _ en (c .before .rule-for .result) (c .before .rule-for .ensures) (c .if4 .taken) ∙ ran-from (c .before .before .before .before .before .before .before .before .before .before .before .before .before .before .before .before .before .before .before .before .before .before .before .before .before .before .before .before .before .before .before .before .before .before .before .args .h) (c .before .before .before .before .before .before .before .before .before .before .before .before .before .before .before .before .before .before .before .before .before .before .before .before .before .before .before .before .before .before .before .before .before .initial .result) bytes (c .before .before .before .before .before .before .before .before .before .before .before .before .before .before .before .before .before .before .before .before .before .before .before .before .before .before .before .before .before .before .before .before .before .initial .ensures) good
+    turn-broken h bytes s row at tn line l e (c .before .before .before .before .before .before .before .before .before .before .before .before .before .before .before .before .before .before .before .before .before .before .before .before .before .before .before .line-after .ensures) (c .before .before .before .before .before .before .before .before .before .before .before .before .before .before .before .before .before .before .before .before .before .before .before .before .before .before .line-at .ensures) er (c .before .before .before .before .before .before .before .before .before .before .before .before .before .before .before .before .before .before .before .before .before .if2 .left) d _ en (c .before .rule-for .result) (c .before .rule-for .ensures) (c .if4 .taken) ∙ ran-from (c .before .before .before .before .before .before .before .before .before .before .before .before .before .before .before .before .before .before .before .before .before .before .before .before .before .before .before .before .before .before .before .before .before .before .before .args .h) (c .before .before .before .before .before .before .before .before .before .before .before .before .before .before .before .before .before .before .before .before .before .before .before .before .before .before .before .before .before .before .before .before .before .initial .result) bytes (c .before .before .before .before .before .before .before .before .before .before .before .before .before .before .before .before .before .before .before .before .before .before .before .before .before .before .before .before .before .before .before .before .before .initial .ensures) good
 
 add-p : tie.Need-add-p Inv-loop2 μ-loop2 Inv-loop μ-loop
 add-p c = omega (arith, c .before .before .before .before .before .before .before .before .before .before .before .before .before .before .before .before .before .before .before .before .before .if2 .left)
@@ -402,40 +427,44 @@ mul-r1 c =
     let h = c .before .before .before .before .before .before .before .before .before .before .before .before .before .before .before .before .before .before .before .before .before .before .before .before .before .before .before .before .before .before .before .before .before .before .before .initial .result .counts in
     let bytes = c .before .before .before .before .before .before .before .before .before .before .before .before .before .before .before .before .before .before .before .before .before .before .before .before .before .before .before .before .before .before .before .before .before .before .before .before .before .args .part .now in
     let s = c .before .before .before .before .before .before .before .before .before .before .before .before .before .before .before .before .before .before .before .before .before .before .before .before .before .before .before .before .before .before .before .before .loop .s in
+    let row = c .before .before .before .before .before .before .before .before .before .before .before .before .before .before .before .before .before .before .before .before .before .before .before .before .before .before .before .before .before .before .before .before .loop .row in
     let at = c .before .before .before .before .before .before .before .before .before .before .before .before .before .before .before .before .before .before .before .before .before .before .before .before .before .before .before .before .before .before .before .before .loop .at in
     let tn = c .before .before .before .before .before .before .before .before .before .before .before .before .before .before .before .before .before .before .before .before .before .before .before .before .before .before .before .before .before .before .before .before .loop .inv in
     let b : c .before .slot-place3 .result < 1024 = slot-in _ _ _ (c .before .slot-place3 .ensures) in
-    omega (arith, b, shaped h bytes s at tn .reads, shaped h bytes s at tn .stores)
+    omega (arith, b, shaped h bytes s row at tn .reads, shaped h bytes s row at tn .stores)
 
 element-copy-out-r1 : tie.Need-element-copy-out-r1 Inv-loop2 μ-loop2 Inv-loop μ-loop
 element-copy-out-r1 c =
     let h = c .before .before .before .before .before .before .before .before .before .before .before .before .before .before .before .before .before .before .before .before .before .before .before .before .before .before .before .before .before .before .before .before .before .before .before .initial .result .counts in
     let bytes = c .before .before .before .before .before .before .before .before .before .before .before .before .before .before .before .before .before .before .before .before .before .before .before .before .before .before .before .before .before .before .before .before .before .before .before .before .before .args .part .now in
     let s = c .before .before .before .before .before .before .before .before .before .before .before .before .before .before .before .before .before .before .before .before .before .before .before .before .before .before .before .before .before .before .before .before .loop .s in
+    let row = c .before .before .before .before .before .before .before .before .before .before .before .before .before .before .before .before .before .before .before .before .before .before .before .before .before .before .before .before .before .before .before .before .loop .row in
     let at = c .before .before .before .before .before .before .before .before .before .before .before .before .before .before .before .before .before .before .before .before .before .before .before .before .before .before .before .before .before .before .before .before .loop .at in
     let tn = c .before .before .before .before .before .before .before .before .before .before .before .before .before .before .before .before .before .before .before .before .before .before .before .before .before .before .before .before .before .before .before .before .loop .inv in
     let b : c .before .slot-place3 .result < 1024 = slot-in _ _ _ (c .before .slot-place3 .ensures) in
-    omega (arith, b, shaped h bytes s at tn .reads, shaped h bytes s at tn .stores)
+    omega (arith, b, shaped h bytes s row at tn .reads, shaped h bytes s row at tn .stores)
 
 mul-s1 : tie.Need-mul-s1 Inv-loop2 μ-loop2 Inv-loop μ-loop
 mul-s1 c =
     let h = c .before .before .before .before .before .before .before .before .before .before .before .before .before .before .before .before .before .before .before .before .before .before .before .before .before .before .before .before .before .before .before .before .before .before .before .before .initial .result .counts in
     let bytes = c .before .before .before .before .before .before .before .before .before .before .before .before .before .before .before .before .before .before .before .before .before .before .before .before .before .before .before .before .before .before .before .before .before .before .before .before .before .before .args .part .now in
     let s = c .before .before .before .before .before .before .before .before .before .before .before .before .before .before .before .before .before .before .before .before .before .before .before .before .before .before .before .before .before .before .before .before .before .loop .s in
+    let row = c .before .before .before .before .before .before .before .before .before .before .before .before .before .before .before .before .before .before .before .before .before .before .before .before .before .before .before .before .before .before .before .before .before .loop .row in
     let at = c .before .before .before .before .before .before .before .before .before .before .before .before .before .before .before .before .before .before .before .before .before .before .before .before .before .before .before .before .before .before .before .before .before .loop .at in
     let tn = c .before .before .before .before .before .before .before .before .before .before .before .before .before .before .before .before .before .before .before .before .before .before .before .before .before .before .before .before .before .before .before .before .before .loop .inv in
     let b : c .before .slot-place4 .result < 1024 = slot-in _ _ _ (c .before .slot-place4 .ensures) in
-    omega (arith, b, shaped h bytes s at tn .reads, shaped h bytes s at tn .stores)
+    omega (arith, b, shaped h bytes s row at tn .reads, shaped h bytes s row at tn .stores)
 
 element-copy-out-s1 : tie.Need-element-copy-out-s1 Inv-loop2 μ-loop2 Inv-loop μ-loop
 element-copy-out-s1 c =
     let h = c .before .before .before .before .before .before .before .before .before .before .before .before .before .before .before .before .before .before .before .before .before .before .before .before .before .before .before .before .before .before .before .before .before .before .before .before .initial .result .counts in
     let bytes = c .before .before .before .before .before .before .before .before .before .before .before .before .before .before .before .before .before .before .before .before .before .before .before .before .before .before .before .before .before .before .before .before .before .before .before .before .before .before .args .part .now in
     let s = c .before .before .before .before .before .before .before .before .before .before .before .before .before .before .before .before .before .before .before .before .before .before .before .before .before .before .before .before .before .before .before .before .before .loop .s in
+    let row = c .before .before .before .before .before .before .before .before .before .before .before .before .before .before .before .before .before .before .before .before .before .before .before .before .before .before .before .before .before .before .before .before .before .loop .row in
     let at = c .before .before .before .before .before .before .before .before .before .before .before .before .before .before .before .before .before .before .before .before .before .before .before .before .before .before .before .before .before .before .before .before .before .loop .at in
     let tn = c .before .before .before .before .before .before .before .before .before .before .before .before .before .before .before .before .before .before .before .before .before .before .before .before .before .before .before .before .before .before .before .before .before .loop .inv in
     let b : c .before .slot-place4 .result < 1024 = slot-in _ _ _ (c .before .slot-place4 .ensures) in
-    omega (arith, b, shaped h bytes s at tn .reads, shaped h bytes s at tn .stores)
+    omega (arith, b, shaped h bytes s row at tn .reads, shaped h bytes s row at tn .stores)
 
 cell-after-requires : tie.Need-cell-after-requires Inv-loop2 μ-loop2 Inv-loop μ-loop
 cell-after-requires c κs = search needs
@@ -460,50 +489,55 @@ mul-cell-left c =
     let h = c .before .before .before .before .before .before .before .before .before .before .before .before .before .before .before .before .before .before .before .before .before .before .before .before .before .before .before .before .before .before .before .before .before .before .before .before .before .before .before .before .before .before .before .initial .result .counts in
     let bytes = c .before .before .before .before .before .before .before .before .before .before .before .before .before .before .before .before .before .before .before .before .before .before .before .before .before .before .before .before .before .before .before .before .before .before .before .before .before .before .before .before .before .before .before .before .before .args .part .now in
     let s = c .before .before .before .before .before .before .before .before .before .before .before .before .before .before .before .before .before .before .before .before .before .before .before .before .before .before .before .before .before .before .before .before .before .before .before .before .before .before .before .before .loop .s in
+    let row = c .before .before .before .before .before .before .before .before .before .before .before .before .before .before .before .before .before .before .before .before .before .before .before .before .before .before .before .before .before .before .before .before .before .before .before .before .before .before .before .before .loop .row in
     let at = c .before .before .before .before .before .before .before .before .before .before .before .before .before .before .before .before .before .before .before .before .before .before .before .before .before .before .before .before .before .before .before .before .before .before .before .before .before .before .before .before .loop .at in
     let tn = c .before .before .before .before .before .before .before .before .before .before .before .before .before .before .before .before .before .before .before .before .before .before .before .before .before .before .before .before .before .before .before .before .before .before .before .before .before .before .before .before .loop .inv in
     let b : c .before .before .before .before .before .before .before .before .before .before .before .before .before .before .before .before .before .before .before .before .before .before .before .before .before .before .before .cell-place .result < 128 = cell-in _ _ (c .before .before .before .before .before .before .before .before .before .before .before .before .before .before .before .before .before .before .before .before .before .before .before .before .before .before .before .cell-place .ensures) in
-    omega (arith, b, shaped h bytes s at tn .cells)
+    omega (arith, b, shaped h bytes s row at tn .cells)
 
 element-set-from-cell-left : tie.Need-element-set-from-cell-left Inv-loop2 μ-loop2 Inv-loop μ-loop
 element-set-from-cell-left c =
     let h = c .before .before .before .before .before .before .before .before .before .before .before .before .before .before .before .before .before .before .before .before .before .before .before .before .before .before .before .before .before .before .before .before .before .before .before .before .before .before .before .before .before .before .before .initial .result .counts in
     let bytes = c .before .before .before .before .before .before .before .before .before .before .before .before .before .before .before .before .before .before .before .before .before .before .before .before .before .before .before .before .before .before .before .before .before .before .before .before .before .before .before .before .before .before .before .before .before .args .part .now in
     let s = c .before .before .before .before .before .before .before .before .before .before .before .before .before .before .before .before .before .before .before .before .before .before .before .before .before .before .before .before .before .before .before .before .before .before .before .before .before .before .before .before .loop .s in
+    let row = c .before .before .before .before .before .before .before .before .before .before .before .before .before .before .before .before .before .before .before .before .before .before .before .before .before .before .before .before .before .before .before .before .before .before .before .before .before .before .before .before .loop .row in
     let at = c .before .before .before .before .before .before .before .before .before .before .before .before .before .before .before .before .before .before .before .before .before .before .before .before .before .before .before .before .before .before .before .before .before .before .before .before .before .before .before .before .loop .at in
     let tn = c .before .before .before .before .before .before .before .before .before .before .before .before .before .before .before .before .before .before .before .before .before .before .before .before .before .before .before .before .before .before .before .before .before .before .before .before .before .before .before .before .loop .inv in
     let b : c .before .before .before .before .before .before .before .before .before .before .before .before .before .before .before .before .before .before .before .before .before .before .before .before .before .before .before .cell-place .result < 128 = cell-in _ _ (c .before .before .before .before .before .before .before .before .before .before .before .before .before .before .before .before .before .before .before .before .before .before .before .before .before .before .before .cell-place .ensures) in
-    omega (arith, b, shaped h bytes s at tn .cells)
+    omega (arith, b, shaped h bytes s row at tn .cells)
 
 mul-read-left : tie.Need-mul-read-left Inv-loop2 μ-loop2 Inv-loop μ-loop
 mul-read-left c =
     let h = c .before .before .before .before .before .before .before .before .before .before .before .before .before .before .before .before .before .before .before .before .before .before .before .before .before .before .before .before .before .before .before .before .before .before .before .before .before .before .before .before .before .before .before .initial .result .counts in
     let bytes = c .before .before .before .before .before .before .before .before .before .before .before .before .before .before .before .before .before .before .before .before .before .before .before .before .before .before .before .before .before .before .before .before .before .before .before .before .before .before .before .before .before .before .before .before .before .args .part .now in
     let s = c .before .before .before .before .before .before .before .before .before .before .before .before .before .before .before .before .before .before .before .before .before .before .before .before .before .before .before .before .before .before .before .before .before .before .before .before .before .before .before .before .loop .s in
+    let row = c .before .before .before .before .before .before .before .before .before .before .before .before .before .before .before .before .before .before .before .before .before .before .before .before .before .before .before .before .before .before .before .before .before .before .before .before .before .before .before .before .loop .row in
     let at = c .before .before .before .before .before .before .before .before .before .before .before .before .before .before .before .before .before .before .before .before .before .before .before .before .before .before .before .before .before .before .before .before .before .before .before .before .before .before .before .before .loop .at in
     let tn = c .before .before .before .before .before .before .before .before .before .before .before .before .before .before .before .before .before .before .before .before .before .before .before .before .before .before .before .before .before .before .before .before .before .before .before .before .before .before .before .before .loop .inv in
     let b : c .before .before .before .before .before .before .before .before .before .slot-place3 .result < 1024 = slot-in _ _ _ (c .before .before .before .before .before .before .before .before .before .slot-place3 .ensures) in
-    omega (arith, b, shaped h bytes s at tn .reads, shaped h bytes s at tn .stores)
+    omega (arith, b, shaped h bytes s row at tn .reads, shaped h bytes s row at tn .stores)
 
 element-set-from-read-left : tie.Need-element-set-from-read-left Inv-loop2 μ-loop2 Inv-loop μ-loop
 element-set-from-read-left c =
     let h = c .before .before .before .before .before .before .before .before .before .before .before .before .before .before .before .before .before .before .before .before .before .before .before .before .before .before .before .before .before .before .before .before .before .before .before .before .before .before .before .before .before .before .before .initial .result .counts in
     let bytes = c .before .before .before .before .before .before .before .before .before .before .before .before .before .before .before .before .before .before .before .before .before .before .before .before .before .before .before .before .before .before .before .before .before .before .before .before .before .before .before .before .before .before .before .before .before .args .part .now in
     let s = c .before .before .before .before .before .before .before .before .before .before .before .before .before .before .before .before .before .before .before .before .before .before .before .before .before .before .before .before .before .before .before .before .before .before .before .before .before .before .before .before .loop .s in
+    let row = c .before .before .before .before .before .before .before .before .before .before .before .before .before .before .before .before .before .before .before .before .before .before .before .before .before .before .before .before .before .before .before .before .before .before .before .before .before .before .before .before .loop .row in
     let at = c .before .before .before .before .before .before .before .before .before .before .before .before .before .before .before .before .before .before .before .before .before .before .before .before .before .before .before .before .before .before .before .before .before .before .before .before .before .before .before .before .loop .at in
     let tn = c .before .before .before .before .before .before .before .before .before .before .before .before .before .before .before .before .before .before .before .before .before .before .before .before .before .before .before .before .before .before .before .before .before .before .before .before .before .before .before .before .loop .inv in
     let b : c .before .before .before .before .before .before .before .before .before .slot-place3 .result < 1024 = slot-in _ _ _ (c .before .before .before .before .before .before .before .before .before .slot-place3 .ensures) in
-    omega (arith, b, shaped h bytes s at tn .reads, shaped h bytes s at tn .stores)
+    omega (arith, b, shaped h bytes s row at tn .reads, shaped h bytes s row at tn .stores)
 
 mul-store-left : tie.Need-mul-store-left Inv-loop2 μ-loop2 Inv-loop μ-loop
 mul-store-left c =
     let h = c .before .before .before .before .before .before .before .before .before .before .before .before .before .before .before .before .before .before .before .before .before .before .before .before .before .before .before .before .before .before .before .before .before .before .before .before .before .before .before .before .before .before .before .initial .result .counts in
     let bytes = c .before .before .before .before .before .before .before .before .before .before .before .before .before .before .before .before .before .before .before .before .before .before .before .before .before .before .before .before .before .before .before .before .before .before .before .before .before .before .before .before .before .before .before .before .before .args .part .now in
     let s = c .before .before .before .before .before .before .before .before .before .before .before .before .before .before .before .before .before .before .before .before .before .before .before .before .before .before .before .before .before .before .before .before .before .before .before .before .before .before .before .before .loop .s in
+    let row = c .before .before .before .before .before .before .before .before .before .before .before .before .before .before .before .before .before .before .before .before .before .before .before .before .before .before .before .before .before .before .before .before .before .before .before .before .before .before .before .before .loop .row in
     let at = c .before .before .before .before .before .before .before .before .before .before .before .before .before .before .before .before .before .before .before .before .before .before .before .before .before .before .before .before .before .before .before .before .before .before .before .before .before .before .before .before .loop .at in
     let tn = c .before .before .before .before .before .before .before .before .before .before .before .before .before .before .before .before .before .before .before .before .before .before .before .before .before .before .before .before .before .before .before .before .before .before .before .before .before .before .before .before .loop .inv in
     let b : c .before .before .before .before .before .before .before .before .slot-place4 .result < 1024 = slot-in _ _ _ (c .before .before .before .before .before .before .before .before .slot-place4 .ensures) in
-    omega (arith, b, shaped h bytes s at tn .reads, shaped h bytes s at tn .stores)
+    omega (arith, b, shaped h bytes s row at tn .reads, shaped h bytes s row at tn .stores)
 
 element-set-from-store-left :
     tie.Need-element-set-from-store-left Inv-loop2 μ-loop2 Inv-loop μ-loop
@@ -511,16 +545,18 @@ element-set-from-store-left c =
     let h = c .before .before .before .before .before .before .before .before .before .before .before .before .before .before .before .before .before .before .before .before .before .before .before .before .before .before .before .before .before .before .before .before .before .before .before .before .before .before .before .before .before .before .before .initial .result .counts in
     let bytes = c .before .before .before .before .before .before .before .before .before .before .before .before .before .before .before .before .before .before .before .before .before .before .before .before .before .before .before .before .before .before .before .before .before .before .before .before .before .before .before .before .before .before .before .before .before .args .part .now in
     let s = c .before .before .before .before .before .before .before .before .before .before .before .before .before .before .before .before .before .before .before .before .before .before .before .before .before .before .before .before .before .before .before .before .before .before .before .before .before .before .before .before .loop .s in
+    let row = c .before .before .before .before .before .before .before .before .before .before .before .before .before .before .before .before .before .before .before .before .before .before .before .before .before .before .before .before .before .before .before .before .before .before .before .before .before .before .before .before .loop .row in
     let at = c .before .before .before .before .before .before .before .before .before .before .before .before .before .before .before .before .before .before .before .before .before .before .before .before .before .before .before .before .before .before .before .before .before .before .before .before .before .before .before .before .loop .at in
     let tn = c .before .before .before .before .before .before .before .before .before .before .before .before .before .before .before .before .before .before .before .before .before .before .before .before .before .before .before .before .before .before .before .before .before .before .before .before .before .before .before .before .loop .inv in
     let b : c .before .before .before .before .before .before .before .before .slot-place4 .result < 1024 = slot-in _ _ _ (c .before .before .before .before .before .before .before .before .slot-place4 .ensures) in
-    omega (arith, b, shaped h bytes s at tn .reads, shaped h bytes s at tn .stores)
+    omega (arith, b, shaped h bytes s row at tn .reads, shaped h bytes s row at tn .stores)
 
 mul-s : tie.Need-mul-s Inv-loop2 μ-loop2 Inv-loop μ-loop
 mul-s c =
     let h = c .before .before .before .before .before .before .before .before .before .before .before .before .before .before .before .before .before .before .before .before .before .before .before .before .before .before .before .before .before .before .before .before .before .before .before .before .before .before .before .before .before .before .before .initial .result .counts in
     let bytes = c .before .before .before .before .before .before .before .before .before .before .before .before .before .before .before .before .before .before .before .before .before .before .before .before .before .before .before .before .before .before .before .before .before .before .before .before .before .before .before .before .before .before .before .before .before .args .part .now in
     let s = c .before .before .before .before .before .before .before .before .before .before .before .before .before .before .before .before .before .before .before .before .before .before .before .before .before .before .before .before .before .before .before .before .before .before .before .before .before .before .before .before .loop .s in
+    let row = c .before .before .before .before .before .before .before .before .before .before .before .before .before .before .before .before .before .before .before .before .before .before .before .before .before .before .before .before .before .before .before .before .before .before .before .before .before .before .before .before .loop .row in
     let at = c .before .before .before .before .before .before .before .before .before .before .before .before .before .before .before .before .before .before .before .before .before .before .before .before .before .before .before .before .before .before .before .before .before .before .before .before .before .before .before .before .loop .at in
     let tn = c .before .before .before .before .before .before .before .before .before .before .before .before .before .before .before .before .before .before .before .before .before .before .before .before .before .before .before .before .before .before .before .before .before .before .before .before .before .before .before .before .loop .inv in
     let e = c .before .before .before .before .before .before .before .before .before .before .before .before .before .before .before .before .before .before .before .before .before .before .before .before .before .before .before .before .before .before .before .before .before .e .given .0 .0 in
@@ -528,15 +564,16 @@ mul-s c =
     let l = c .before .before .before .before .before .before .before .before .before .before .before .before .before .before .before .before .before .before .before .before .before .before .before .before .before .before .before .before .before .before .before .before .before .before .before .before .line-at .result in
     let er : reading.Of e ≡ eventFrom line l = sym (c .before .before .before .before .before .before .before .before .before .before .before .before .before .before .before .before .before .before .before .before .before .before .before .before .before .before .before .before .before .before .before .before .before .e .given .1) ∙ c .before .before .before .before .before .before .before .before .before .before .before .before .before .before .before .before .before .before .before .before .before .before .before .before .before .before .before .before .before .before .before .before .before .before .before .event-of .ensures in
     let d : declared (s .counts) e ≡ true = sym (c .before .before .before .before .before .before .before .before .before .before .before .before .before .before .before .before .before .before .before .before .before .before .before .before .before .before .before .before .before .before .is-declared .ensures) ∙ not-false _ (c .before .before .before .before .before .before .before .before .before .before .before .before .before .before .before .before .before .before .before .before .before .before .before .before .before .before .before .before .before .if3 .left) in
-    let w = may h bytes s at tn e d in
+    let w = may h bytes s row at tn e d in
     let b : e .thread < 8 = w .within .thread in
-    omega (arith, b, shaped h bytes s at tn .locked)
+    omega (arith, b, shaped h bytes s row at tn .locked)
 
 element-write-s : tie.Need-element-write-s Inv-loop2 μ-loop2 Inv-loop μ-loop
 element-write-s c =
     let h = c .before .before .before .before .before .before .before .before .before .before .before .before .before .before .before .before .before .before .before .before .before .before .before .before .before .before .before .before .before .before .before .before .before .before .before .before .before .before .before .before .before .before .before .initial .result .counts in
     let bytes = c .before .before .before .before .before .before .before .before .before .before .before .before .before .before .before .before .before .before .before .before .before .before .before .before .before .before .before .before .before .before .before .before .before .before .before .before .before .before .before .before .before .before .before .before .before .args .part .now in
     let s = c .before .before .before .before .before .before .before .before .before .before .before .before .before .before .before .before .before .before .before .before .before .before .before .before .before .before .before .before .before .before .before .before .before .before .before .before .before .before .before .before .loop .s in
+    let row = c .before .before .before .before .before .before .before .before .before .before .before .before .before .before .before .before .before .before .before .before .before .before .before .before .before .before .before .before .before .before .before .before .before .before .before .before .before .before .before .before .loop .row in
     let at = c .before .before .before .before .before .before .before .before .before .before .before .before .before .before .before .before .before .before .before .before .before .before .before .before .before .before .before .before .before .before .before .before .before .before .before .before .before .before .before .before .loop .at in
     let tn = c .before .before .before .before .before .before .before .before .before .before .before .before .before .before .before .before .before .before .before .before .before .before .before .before .before .before .before .before .before .before .before .before .before .before .before .before .before .before .before .before .loop .inv in
     let e = c .before .before .before .before .before .before .before .before .before .before .before .before .before .before .before .before .before .before .before .before .before .before .before .before .before .before .before .before .before .before .before .before .before .e .given .0 .0 in
@@ -544,15 +581,16 @@ element-write-s c =
     let l = c .before .before .before .before .before .before .before .before .before .before .before .before .before .before .before .before .before .before .before .before .before .before .before .before .before .before .before .before .before .before .before .before .before .before .before .before .line-at .result in
     let er : reading.Of e ≡ eventFrom line l = sym (c .before .before .before .before .before .before .before .before .before .before .before .before .before .before .before .before .before .before .before .before .before .before .before .before .before .before .before .before .before .before .before .before .before .e .given .1) ∙ c .before .before .before .before .before .before .before .before .before .before .before .before .before .before .before .before .before .before .before .before .before .before .before .before .before .before .before .before .before .before .before .before .before .before .before .event-of .ensures in
     let d : declared (s .counts) e ≡ true = sym (c .before .before .before .before .before .before .before .before .before .before .before .before .before .before .before .before .before .before .before .before .before .before .before .before .before .before .before .before .before .before .is-declared .ensures) ∙ not-false _ (c .before .before .before .before .before .before .before .before .before .before .before .before .before .before .before .before .before .before .before .before .before .before .before .before .before .before .before .before .before .if3 .left) in
-    let w = may h bytes s at tn e d in
+    let w = may h bytes s row at tn e d in
     let b : e .thread < 8 = w .within .thread in
-    omega (arith, b, shaped h bytes s at tn .locked)
+    omega (arith, b, shaped h bytes s row at tn .locked)
 
 mul-hold-left : tie.Need-mul-hold-left Inv-loop2 μ-loop2 Inv-loop μ-loop
 mul-hold-left c =
     let h = c .before .before .before .before .before .before .before .before .before .before .before .before .before .before .before .before .before .before .before .before .before .before .before .before .before .before .before .before .before .before .before .before .before .before .before .before .before .before .before .before .before .before .before .initial .result .counts in
     let bytes = c .before .before .before .before .before .before .before .before .before .before .before .before .before .before .before .before .before .before .before .before .before .before .before .before .before .before .before .before .before .before .before .before .before .before .before .before .before .before .before .before .before .before .before .before .before .args .part .now in
     let s = c .before .before .before .before .before .before .before .before .before .before .before .before .before .before .before .before .before .before .before .before .before .before .before .before .before .before .before .before .before .before .before .before .before .before .before .before .before .before .before .before .loop .s in
+    let row = c .before .before .before .before .before .before .before .before .before .before .before .before .before .before .before .before .before .before .before .before .before .before .before .before .before .before .before .before .before .before .before .before .before .before .before .before .before .before .before .before .loop .row in
     let at = c .before .before .before .before .before .before .before .before .before .before .before .before .before .before .before .before .before .before .before .before .before .before .before .before .before .before .before .before .before .before .before .before .before .before .before .before .before .before .before .before .loop .at in
     let tn = c .before .before .before .before .before .before .before .before .before .before .before .before .before .before .before .before .before .before .before .before .before .before .before .before .before .before .before .before .before .before .before .before .before .before .before .before .before .before .before .before .loop .inv in
     let e = c .before .before .before .before .before .before .before .before .before .before .before .before .before .before .before .before .before .before .before .before .before .before .before .before .before .before .before .before .before .before .before .before .before .e .given .0 .0 in
@@ -560,15 +598,16 @@ mul-hold-left c =
     let l = c .before .before .before .before .before .before .before .before .before .before .before .before .before .before .before .before .before .before .before .before .before .before .before .before .before .before .before .before .before .before .before .before .before .before .before .before .line-at .result in
     let er : reading.Of e ≡ eventFrom line l = sym (c .before .before .before .before .before .before .before .before .before .before .before .before .before .before .before .before .before .before .before .before .before .before .before .before .before .before .before .before .before .before .before .before .before .e .given .1) ∙ c .before .before .before .before .before .before .before .before .before .before .before .before .before .before .before .before .before .before .before .before .before .before .before .before .before .before .before .before .before .before .before .before .before .before .before .event-of .ensures in
     let d : declared (s .counts) e ≡ true = sym (c .before .before .before .before .before .before .before .before .before .before .before .before .before .before .before .before .before .before .before .before .before .before .before .before .before .before .before .before .before .before .is-declared .ensures) ∙ not-false _ (c .before .before .before .before .before .before .before .before .before .before .before .before .before .before .before .before .before .before .before .before .before .before .before .before .before .before .before .before .before .if3 .left) in
-    let w = may h bytes s at tn e d in
+    let w = may h bytes s row at tn e d in
     let b : c .before .before .before .before .before .before .before .before .before .before .before .before .before .before .before .before .before .before .before .before .before .before .before .before .before .before .before .before .places-of .result .lock < 8 = lock-in _ _ _ (w .within) (c .before .before .before .before .before .before .before .before .before .before .before .before .before .before .before .before .before .before .before .before .before .before .before .before .before .before .before .before .places-of .ensures) in
-    omega (arith, b, shaped h bytes s at tn .holds)
+    omega (arith, b, shaped h bytes s row at tn .holds)
 
 element-set-from-hold-left : tie.Need-element-set-from-hold-left Inv-loop2 μ-loop2 Inv-loop μ-loop
 element-set-from-hold-left c =
     let h = c .before .before .before .before .before .before .before .before .before .before .before .before .before .before .before .before .before .before .before .before .before .before .before .before .before .before .before .before .before .before .before .before .before .before .before .before .before .before .before .before .before .before .before .initial .result .counts in
     let bytes = c .before .before .before .before .before .before .before .before .before .before .before .before .before .before .before .before .before .before .before .before .before .before .before .before .before .before .before .before .before .before .before .before .before .before .before .before .before .before .before .before .before .before .before .before .before .args .part .now in
     let s = c .before .before .before .before .before .before .before .before .before .before .before .before .before .before .before .before .before .before .before .before .before .before .before .before .before .before .before .before .before .before .before .before .before .before .before .before .before .before .before .before .loop .s in
+    let row = c .before .before .before .before .before .before .before .before .before .before .before .before .before .before .before .before .before .before .before .before .before .before .before .before .before .before .before .before .before .before .before .before .before .before .before .before .before .before .before .before .loop .row in
     let at = c .before .before .before .before .before .before .before .before .before .before .before .before .before .before .before .before .before .before .before .before .before .before .before .before .before .before .before .before .before .before .before .before .before .before .before .before .before .before .before .before .loop .at in
     let tn = c .before .before .before .before .before .before .before .before .before .before .before .before .before .before .before .before .before .before .before .before .before .before .before .before .before .before .before .before .before .before .before .before .before .before .before .before .before .before .before .before .loop .inv in
     let e = c .before .before .before .before .before .before .before .before .before .before .before .before .before .before .before .before .before .before .before .before .before .before .before .before .before .before .before .before .before .before .before .before .before .e .given .0 .0 in
@@ -576,15 +615,16 @@ element-set-from-hold-left c =
     let l = c .before .before .before .before .before .before .before .before .before .before .before .before .before .before .before .before .before .before .before .before .before .before .before .before .before .before .before .before .before .before .before .before .before .before .before .before .line-at .result in
     let er : reading.Of e ≡ eventFrom line l = sym (c .before .before .before .before .before .before .before .before .before .before .before .before .before .before .before .before .before .before .before .before .before .before .before .before .before .before .before .before .before .before .before .before .before .e .given .1) ∙ c .before .before .before .before .before .before .before .before .before .before .before .before .before .before .before .before .before .before .before .before .before .before .before .before .before .before .before .before .before .before .before .before .before .before .before .event-of .ensures in
     let d : declared (s .counts) e ≡ true = sym (c .before .before .before .before .before .before .before .before .before .before .before .before .before .before .before .before .before .before .before .before .before .before .before .before .before .before .before .before .before .before .is-declared .ensures) ∙ not-false _ (c .before .before .before .before .before .before .before .before .before .before .before .before .before .before .before .before .before .before .before .before .before .before .before .before .before .before .before .before .before .if3 .left) in
-    let w = may h bytes s at tn e d in
+    let w = may h bytes s row at tn e d in
     let b : c .before .before .before .before .before .before .before .before .before .before .before .before .before .before .before .before .before .before .before .before .before .before .before .before .before .before .before .before .places-of .result .lock < 8 = lock-in _ _ _ (w .within) (c .before .before .before .before .before .before .before .before .before .before .before .before .before .before .before .before .before .before .before .before .before .before .before .before .before .before .before .before .places-of .ensures) in
-    omega (arith, b, shaped h bytes s at tn .holds)
+    omega (arith, b, shaped h bytes s row at tn .holds)
 
 mul-main-left : tie.Need-mul-main-left Inv-loop2 μ-loop2 Inv-loop μ-loop
 mul-main-left c =
     let h = c .before .before .before .before .before .before .before .before .before .before .before .before .before .before .before .before .before .before .before .before .before .before .before .before .before .before .before .before .before .before .before .before .before .before .before .before .before .before .before .before .before .before .before .initial .result .counts in
     let bytes = c .before .before .before .before .before .before .before .before .before .before .before .before .before .before .before .before .before .before .before .before .before .before .before .before .before .before .before .before .before .before .before .before .before .before .before .before .before .before .before .before .before .before .before .before .before .args .part .now in
     let s = c .before .before .before .before .before .before .before .before .before .before .before .before .before .before .before .before .before .before .before .before .before .before .before .before .before .before .before .before .before .before .before .before .before .before .before .before .before .before .before .before .loop .s in
+    let row = c .before .before .before .before .before .before .before .before .before .before .before .before .before .before .before .before .before .before .before .before .before .before .before .before .before .before .before .before .before .before .before .before .before .before .before .before .before .before .before .before .loop .row in
     let at = c .before .before .before .before .before .before .before .before .before .before .before .before .before .before .before .before .before .before .before .before .before .before .before .before .before .before .before .before .before .before .before .before .before .before .before .before .before .before .before .before .loop .at in
     let tn = c .before .before .before .before .before .before .before .before .before .before .before .before .before .before .before .before .before .before .before .before .before .before .before .before .before .before .before .before .before .before .before .before .before .before .before .before .before .before .before .before .loop .inv in
     let e = c .before .before .before .before .before .before .before .before .before .before .before .before .before .before .before .before .before .before .before .before .before .before .before .before .before .before .before .before .before .before .before .before .before .e .given .0 .0 in
@@ -592,15 +632,16 @@ mul-main-left c =
     let l = c .before .before .before .before .before .before .before .before .before .before .before .before .before .before .before .before .before .before .before .before .before .before .before .before .before .before .before .before .before .before .before .before .before .before .before .before .line-at .result in
     let er : reading.Of e ≡ eventFrom line l = sym (c .before .before .before .before .before .before .before .before .before .before .before .before .before .before .before .before .before .before .before .before .before .before .before .before .before .before .before .before .before .before .before .before .before .e .given .1) ∙ c .before .before .before .before .before .before .before .before .before .before .before .before .before .before .before .before .before .before .before .before .before .before .before .before .before .before .before .before .before .before .before .before .before .before .before .event-of .ensures in
     let d : declared (s .counts) e ≡ true = sym (c .before .before .before .before .before .before .before .before .before .before .before .before .before .before .before .before .before .before .before .before .before .before .before .before .before .before .before .before .before .before .is-declared .ensures) ∙ not-false _ (c .before .before .before .before .before .before .before .before .before .before .before .before .before .before .before .before .before .before .before .before .before .before .before .before .before .before .before .before .before .if3 .left) in
-    let w = may h bytes s at tn e d in
+    let w = may h bytes s row at tn e d in
     let b : c .before .before .before .before .before .before .before .before .before .before .before .before .before .before .before .before .before .before .before .before .before .before .before .before .before .before .before .before .places-of .result .variable < 16 = var-in _ _ _ (w .within) (c .before .before .before .before .before .before .before .before .before .before .before .before .before .before .before .before .before .before .before .before .before .before .before .before .before .before .before .before .places-of .ensures) in
-    omega (arith, b, shaped h bytes s at tn .memory)
+    omega (arith, b, shaped h bytes s row at tn .memory)
 
 element-set-from-main-left : tie.Need-element-set-from-main-left Inv-loop2 μ-loop2 Inv-loop μ-loop
 element-set-from-main-left c =
     let h = c .before .before .before .before .before .before .before .before .before .before .before .before .before .before .before .before .before .before .before .before .before .before .before .before .before .before .before .before .before .before .before .before .before .before .before .before .before .before .before .before .before .before .before .initial .result .counts in
     let bytes = c .before .before .before .before .before .before .before .before .before .before .before .before .before .before .before .before .before .before .before .before .before .before .before .before .before .before .before .before .before .before .before .before .before .before .before .before .before .before .before .before .before .before .before .before .before .args .part .now in
     let s = c .before .before .before .before .before .before .before .before .before .before .before .before .before .before .before .before .before .before .before .before .before .before .before .before .before .before .before .before .before .before .before .before .before .before .before .before .before .before .before .before .loop .s in
+    let row = c .before .before .before .before .before .before .before .before .before .before .before .before .before .before .before .before .before .before .before .before .before .before .before .before .before .before .before .before .before .before .before .before .before .before .before .before .before .before .before .before .loop .row in
     let at = c .before .before .before .before .before .before .before .before .before .before .before .before .before .before .before .before .before .before .before .before .before .before .before .before .before .before .before .before .before .before .before .before .before .before .before .before .before .before .before .before .loop .at in
     let tn = c .before .before .before .before .before .before .before .before .before .before .before .before .before .before .before .before .before .before .before .before .before .before .before .before .before .before .before .before .before .before .before .before .before .before .before .before .before .before .before .before .loop .inv in
     let e = c .before .before .before .before .before .before .before .before .before .before .before .before .before .before .before .before .before .before .before .before .before .before .before .before .before .before .before .before .before .before .before .before .before .e .given .0 .0 in
@@ -608,68 +649,105 @@ element-set-from-main-left c =
     let l = c .before .before .before .before .before .before .before .before .before .before .before .before .before .before .before .before .before .before .before .before .before .before .before .before .before .before .before .before .before .before .before .before .before .before .before .before .line-at .result in
     let er : reading.Of e ≡ eventFrom line l = sym (c .before .before .before .before .before .before .before .before .before .before .before .before .before .before .before .before .before .before .before .before .before .before .before .before .before .before .before .before .before .before .before .before .before .e .given .1) ∙ c .before .before .before .before .before .before .before .before .before .before .before .before .before .before .before .before .before .before .before .before .before .before .before .before .before .before .before .before .before .before .before .before .before .before .before .event-of .ensures in
     let d : declared (s .counts) e ≡ true = sym (c .before .before .before .before .before .before .before .before .before .before .before .before .before .before .before .before .before .before .before .before .before .before .before .before .before .before .before .before .before .before .is-declared .ensures) ∙ not-false _ (c .before .before .before .before .before .before .before .before .before .before .before .before .before .before .before .before .before .before .before .before .before .before .before .before .before .before .before .before .before .if3 .left) in
-    let w = may h bytes s at tn e d in
+    let w = may h bytes s row at tn e d in
     let b : c .before .before .before .before .before .before .before .before .before .before .before .before .before .before .before .before .before .before .before .before .before .before .before .before .before .before .before .before .places-of .result .variable < 16 = var-in _ _ _ (w .within) (c .before .before .before .before .before .before .before .before .before .before .before .before .before .before .before .before .before .before .before .before .before .before .before .before .before .before .before .before .places-of .ensures) in
-    omega (arith, b, shaped h bytes s at tn .memory)
+    omega (arith, b, shaped h bytes s row at tn .memory)
+
+pack-requires : tie.Need-pack-requires Inv-loop2 μ-loop2 Inv-loop μ-loop
+pack-requires c κs = search needs
+
+cast-row : tie.Need-cast-row Inv-loop2 μ-loop2 Inv-loop μ-loop
+cast-row c =
+    let h = c .before .before .before .before .before .before .before .before .before .before .before .before .before .before .before .before .before .before .before .before .before .before .before .before .before .before .before .before .before .before .before .before .before .before .before .before .before .before .before .before .before .before .before .before .initial .result .counts in
+    let bytes = c .before .before .before .before .before .before .before .before .before .before .before .before .before .before .before .before .before .before .before .before .before .before .before .before .before .before .before .before .before .before .before .before .before .before .before .before .before .before .before .before .before .before .before .before .before .before .args .part .now in
+    let s = c .before .before .before .before .before .before .before .before .before .before .before .before .before .before .before .before .before .before .before .before .before .before .before .before .before .before .before .before .before .before .before .before .before .before .before .before .before .before .before .before .before .loop .s in
+    let row = c .before .before .before .before .before .before .before .before .before .before .before .before .before .before .before .before .before .before .before .before .before .before .before .before .before .before .before .before .before .before .before .before .before .before .before .before .before .before .before .before .before .loop .row in
+    let at = c .before .before .before .before .before .before .before .before .before .before .before .before .before .before .before .before .before .before .before .before .before .before .before .before .before .before .before .before .before .before .before .before .before .before .before .before .before .before .before .before .before .loop .at in
+    let tn = c .before .before .before .before .before .before .before .before .before .before .before .before .before .before .before .before .before .before .before .before .before .before .before .before .before .before .before .before .before .before .before .before .before .before .before .before .before .before .before .before .before .loop .inv in
+    omega (arith, c .before .before .before .before .before .before .before .before .before .before .before .before .before .before .before .before .before .before .before .before .before .before .before .before .before .before .before .before .before .before .before .before .if2 .left)
+
+mul-row : tie.Need-mul-row Inv-loop2 μ-loop2 Inv-loop μ-loop
+mul-row c =
+    let h = c .before .before .before .before .before .before .before .before .before .before .before .before .before .before .before .before .before .before .before .before .before .before .before .before .before .before .before .before .before .before .before .before .before .before .before .before .before .before .before .before .before .before .before .before .initial .result .counts in
+    let bytes = c .before .before .before .before .before .before .before .before .before .before .before .before .before .before .before .before .before .before .before .before .before .before .before .before .before .before .before .before .before .before .before .before .before .before .before .before .before .before .before .before .before .before .before .before .before .before .args .part .now in
+    let s = c .before .before .before .before .before .before .before .before .before .before .before .before .before .before .before .before .before .before .before .before .before .before .before .before .before .before .before .before .before .before .before .before .before .before .before .before .before .before .before .before .before .loop .s in
+    let row = c .before .before .before .before .before .before .before .before .before .before .before .before .before .before .before .before .before .before .before .before .before .before .before .before .before .before .before .before .before .before .before .before .before .before .before .before .before .before .before .before .before .loop .row in
+    let at = c .before .before .before .before .before .before .before .before .before .before .before .before .before .before .before .before .before .before .before .before .before .before .before .before .before .before .before .before .before .before .before .before .before .before .before .before .before .before .before .before .before .loop .at in
+    let tn = c .before .before .before .before .before .before .before .before .before .before .before .before .before .before .before .before .before .before .before .before .before .before .before .before .before .before .before .before .before .before .before .before .before .before .before .before .before .before .before .before .before .loop .inv in
+    omega (arith, c .before .before .before .before .before .before .before .before .before .before .before .before .before .before .before .before .before .before .before .before .before .before .before .before .before .before .before .before .before .before .before .before .if2 .left, wide h bytes s row at tn)
+
+array-write-row : tie.Need-array-write-row Inv-loop2 μ-loop2 Inv-loop μ-loop
+array-write-row c =
+    let h = c .before .before .before .before .before .before .before .before .before .before .before .before .before .before .before .before .before .before .before .before .before .before .before .before .before .before .before .before .before .before .before .before .before .before .before .before .before .before .before .before .before .before .before .before .initial .result .counts in
+    let bytes = c .before .before .before .before .before .before .before .before .before .before .before .before .before .before .before .before .before .before .before .before .before .before .before .before .before .before .before .before .before .before .before .before .before .before .before .before .before .before .before .before .before .before .before .before .before .before .args .part .now in
+    let s = c .before .before .before .before .before .before .before .before .before .before .before .before .before .before .before .before .before .before .before .before .before .before .before .before .before .before .before .before .before .before .before .before .before .before .before .before .before .before .before .before .before .loop .s in
+    let row = c .before .before .before .before .before .before .before .before .before .before .before .before .before .before .before .before .before .before .before .before .before .before .before .before .before .before .before .before .before .before .before .before .before .before .before .before .before .before .before .before .before .loop .row in
+    let at = c .before .before .before .before .before .before .before .before .before .before .before .before .before .before .before .before .before .before .before .before .before .before .before .before .before .before .before .before .before .before .before .before .before .before .before .before .before .before .before .before .before .loop .at in
+    let tn = c .before .before .before .before .before .before .before .before .before .before .before .before .before .before .before .before .before .before .before .before .before .before .before .before .before .before .before .before .before .before .before .before .before .before .before .before .before .before .before .before .before .loop .inv in
+    omega (arith, c .before .before .before .before .before .before .before .before .before .before .before .before .before .before .before .before .before .before .before .before .before .before .before .before .before .before .before .before .before .before .before .before .if2 .left, wide h bytes s row at tn)
 
 loop-less : tie.Need-loop-less Inv-loop2 μ-loop2 Inv-loop μ-loop
 loop-less c =
-    let h = c .before .before .before .before .before .before .before .before .before .before .before .before .before .before .before .before .before .before .before .before .before .before .before .before .before .before .before .before .before .before .before .before .before .before .before .before .before .before .before .before .before .before .before .initial .result .counts in
-    let bytes = c .before .before .before .before .before .before .before .before .before .before .before .before .before .before .before .before .before .before .before .before .before .before .before .before .before .before .before .before .before .before .before .before .before .before .before .before .before .before .before .before .before .before .before .before .before .args .part .now in
-    let s = c .before .before .before .before .before .before .before .before .before .before .before .before .before .before .before .before .before .before .before .before .before .before .before .before .before .before .before .before .before .before .before .before .before .before .before .before .before .before .before .before .loop .s in
-    let at = c .before .before .before .before .before .before .before .before .before .before .before .before .before .before .before .before .before .before .before .before .before .before .before .before .before .before .before .before .before .before .before .before .before .before .before .before .before .before .before .before .loop .at in
-    let tn = c .before .before .before .before .before .before .before .before .before .before .before .before .before .before .before .before .before .before .before .before .before .before .before .before .before .before .before .before .before .before .before .before .before .before .before .before .before .before .before .before .loop .inv in
-    let e = c .before .before .before .before .before .before .before .before .before .before .before .before .before .before .before .before .before .before .before .before .before .before .before .before .before .before .before .before .before .before .before .before .before .e .given .0 .0 in
-    let line = c .before .before .before .before .before .before .before .before .before .before .before .before .before .before .before .before .before .before .before .before .before .before .before .before .before .before .before .before .before .before .before .before .before .before .before .before .before .line-after .result in
-    let l = c .before .before .before .before .before .before .before .before .before .before .before .before .before .before .before .before .before .before .before .before .before .before .before .before .before .before .before .before .before .before .before .before .before .before .before .before .line-at .result in
-    let er : reading.Of e ≡ eventFrom line l = sym (c .before .before .before .before .before .before .before .before .before .before .before .before .before .before .before .before .before .before .before .before .before .before .before .before .before .before .before .before .before .before .before .before .before .e .given .1) ∙ c .before .before .before .before .before .before .before .before .before .before .before .before .before .before .before .before .before .before .before .before .before .before .before .before .before .before .before .before .before .before .before .before .before .before .before .event-of .ensures in
-    let g = goes-on h bytes s at tn line l e (c .before .before .before .before .before .before .before .before .before .before .before .before .before .before .before .before .before .before .before .before .before .before .before .before .before .before .before .before .before .before .before .before .before .before .before .before .before .line-after .ensures) (c .before .before .before .before .before .before .before .before .before .before .before .before .before .before .before .before .before .before .before .before .before .before .before .before .before .before .before .before .before .before .before .before .before .before .before .before .line-at .ensures) er in
-    omega (arith, g, c .before .before .before .before .before .before .before .before .before .before .before .before .before .before .before .before .before .before .before .before .before .before .before .before .before .before .before .before .before .before .before .before .before .before .before .before .before .before .before .loop-test .taken)
+    let h = c .before .before .before .before .before .before .before .before .before .before .before .before .before .before .before .before .before .before .before .before .before .before .before .before .before .before .before .before .before .before .before .before .before .before .before .before .before .before .before .before .before .before .before .before .initial .result .counts in
+    let bytes = c .before .before .before .before .before .before .before .before .before .before .before .before .before .before .before .before .before .before .before .before .before .before .before .before .before .before .before .before .before .before .before .before .before .before .before .before .before .before .before .before .before .before .before .before .before .before .args .part .now in
+    let s = c .before .before .before .before .before .before .before .before .before .before .before .before .before .before .before .before .before .before .before .before .before .before .before .before .before .before .before .before .before .before .before .before .before .before .before .before .before .before .before .before .before .loop .s in
+    let row = c .before .before .before .before .before .before .before .before .before .before .before .before .before .before .before .before .before .before .before .before .before .before .before .before .before .before .before .before .before .before .before .before .before .before .before .before .before .before .before .before .before .loop .row in
+    let at = c .before .before .before .before .before .before .before .before .before .before .before .before .before .before .before .before .before .before .before .before .before .before .before .before .before .before .before .before .before .before .before .before .before .before .before .before .before .before .before .before .before .loop .at in
+    let tn = c .before .before .before .before .before .before .before .before .before .before .before .before .before .before .before .before .before .before .before .before .before .before .before .before .before .before .before .before .before .before .before .before .before .before .before .before .before .before .before .before .before .loop .inv in
+    let e = c .before .before .before .before .before .before .before .before .before .before .before .before .before .before .before .before .before .before .before .before .before .before .before .before .before .before .before .before .before .before .before .before .before .before .e .given .0 .0 in
+    let line = c .before .before .before .before .before .before .before .before .before .before .before .before .before .before .before .before .before .before .before .before .before .before .before .before .before .before .before .before .before .before .before .before .before .before .before .before .before .before .line-after .result in
+    let l = c .before .before .before .before .before .before .before .before .before .before .before .before .before .before .before .before .before .before .before .before .before .before .before .before .before .before .before .before .before .before .before .before .before .before .before .before .before .line-at .result in
+    let er : reading.Of e ≡ eventFrom line l = sym (c .before .before .before .before .before .before .before .before .before .before .before .before .before .before .before .before .before .before .before .before .before .before .before .before .before .before .before .before .before .before .before .before .before .before .e .given .1) ∙ c .before .before .before .before .before .before .before .before .before .before .before .before .before .before .before .before .before .before .before .before .before .before .before .before .before .before .before .before .before .before .before .before .before .before .before .before .event-of .ensures in
+    let g = goes-on h bytes s row at tn line l e (c .before .before .before .before .before .before .before .before .before .before .before .before .before .before .before .before .before .before .before .before .before .before .before .before .before .before .before .before .before .before .before .before .before .before .before .before .before .before .line-after .ensures) (c .before .before .before .before .before .before .before .before .before .before .before .before .before .before .before .before .before .before .before .before .before .before .before .before .before .before .before .before .before .before .before .before .before .before .before .before .before .line-at .ensures) er in
+    omega (arith, g, c .before .before .before .before .before .before .before .before .before .before .before .before .before .before .before .before .before .before .before .before .before .before .before .before .before .before .before .before .before .before .before .before .before .before .before .before .before .before .before .before .loop-test .taken)
 
 loop-again : tie.Need-loop-again Inv-loop2 μ-loop2 Inv-loop μ-loop
 loop-again c =
-    let h = c .before .before .before .before .before .before .before .before .before .before .before .before .before .before .before .before .before .before .before .before .before .before .before .before .before .before .before .before .before .before .before .before .before .before .before .before .before .before .before .before .before .before .before .initial .result .counts in
-    let bytes = c .before .before .before .before .before .before .before .before .before .before .before .before .before .before .before .before .before .before .before .before .before .before .before .before .before .before .before .before .before .before .before .before .before .before .before .before .before .before .before .before .before .before .before .before .before .args .part .now in
-    let s = c .before .before .before .before .before .before .before .before .before .before .before .before .before .before .before .before .before .before .before .before .before .before .before .before .before .before .before .before .before .before .before .before .before .before .before .before .before .before .before .before .loop .s in
-    let at = c .before .before .before .before .before .before .before .before .before .before .before .before .before .before .before .before .before .before .before .before .before .before .before .before .before .before .before .before .before .before .before .before .before .before .before .before .before .before .before .before .loop .at in
-    let tn = c .before .before .before .before .before .before .before .before .before .before .before .before .before .before .before .before .before .before .before .before .before .before .before .before .before .before .before .before .before .before .before .before .before .before .before .before .before .before .before .before .loop .inv in
-    let e = c .before .before .before .before .before .before .before .before .before .before .before .before .before .before .before .before .before .before .before .before .before .before .before .before .before .before .before .before .before .before .before .before .before .e .given .0 .0 in
-    let line = c .before .before .before .before .before .before .before .before .before .before .before .before .before .before .before .before .before .before .before .before .before .before .before .before .before .before .before .before .before .before .before .before .before .before .before .before .before .line-after .result in
-    let l = c .before .before .before .before .before .before .before .before .before .before .before .before .before .before .before .before .before .before .before .before .before .before .before .before .before .before .before .before .before .before .before .before .before .before .before .before .line-at .result in
-    let er : reading.Of e ≡ eventFrom line l = sym (c .before .before .before .before .before .before .before .before .before .before .before .before .before .before .before .before .before .before .before .before .before .before .before .before .before .before .before .before .before .before .before .before .before .e .given .1) ∙ c .before .before .before .before .before .before .before .before .before .before .before .before .before .before .before .before .before .before .before .before .before .before .before .before .before .before .before .before .before .before .before .before .before .before .before .event-of .ensures in
-    let d : declared (s .counts) e ≡ true = sym (c .before .before .before .before .before .before .before .before .before .before .before .before .before .before .before .before .before .before .before .before .before .before .before .before .before .before .before .before .before .before .is-declared .ensures) ∙ not-false _ (c .before .before .before .before .before .before .before .before .before .before .before .before .before .before .before .before .before .before .before .before .before .before .before .before .before .before .before .before .before .if3 .left) in
-    let w = may h bytes s at tn e d in
-    let i = c .before .before .before .before .before .before .before .before .before .before .before .before .before .before .before .before .before .before .before .before .before .before .before .before .before .before .before .cell-place .result in
-    let end = c .before .before .before .before .before .before .before .before .before .before .before .before .before .before .span .result in
-    let m = c .before .before .before .before .before .before .before .before .before .before .before .before .before .loop2 in
-    let any = scan-end s (e .thread) end (m .j) (m .pending) (m .fresh) (m .stored) (m .inv) (c .before .before .before .before .before .before .before .before .before .before .before .before .loop2-test .left) in
+    let h = c .before .before .before .before .before .before .before .before .before .before .before .before .before .before .before .before .before .before .before .before .before .before .before .before .before .before .before .before .before .before .before .before .before .before .before .before .before .before .before .before .before .before .before .before .initial .result .counts in
+    let bytes = c .before .before .before .before .before .before .before .before .before .before .before .before .before .before .before .before .before .before .before .before .before .before .before .before .before .before .before .before .before .before .before .before .before .before .before .before .before .before .before .before .before .before .before .before .before .before .args .part .now in
+    let s = c .before .before .before .before .before .before .before .before .before .before .before .before .before .before .before .before .before .before .before .before .before .before .before .before .before .before .before .before .before .before .before .before .before .before .before .before .before .before .before .before .before .loop .s in
+    let row = c .before .before .before .before .before .before .before .before .before .before .before .before .before .before .before .before .before .before .before .before .before .before .before .before .before .before .before .before .before .before .before .before .before .before .before .before .before .before .before .before .before .loop .row in
+    let at = c .before .before .before .before .before .before .before .before .before .before .before .before .before .before .before .before .before .before .before .before .before .before .before .before .before .before .before .before .before .before .before .before .before .before .before .before .before .before .before .before .before .loop .at in
+    let tn = c .before .before .before .before .before .before .before .before .before .before .before .before .before .before .before .before .before .before .before .before .before .before .before .before .before .before .before .before .before .before .before .before .before .before .before .before .before .before .before .before .before .loop .inv in
+    let e = c .before .before .before .before .before .before .before .before .before .before .before .before .before .before .before .before .before .before .before .before .before .before .before .before .before .before .before .before .before .before .before .before .before .before .e .given .0 .0 in
+    let line = c .before .before .before .before .before .before .before .before .before .before .before .before .before .before .before .before .before .before .before .before .before .before .before .before .before .before .before .before .before .before .before .before .before .before .before .before .before .before .line-after .result in
+    let l = c .before .before .before .before .before .before .before .before .before .before .before .before .before .before .before .before .before .before .before .before .before .before .before .before .before .before .before .before .before .before .before .before .before .before .before .before .before .line-at .result in
+    let er : reading.Of e ≡ eventFrom line l = sym (c .before .before .before .before .before .before .before .before .before .before .before .before .before .before .before .before .before .before .before .before .before .before .before .before .before .before .before .before .before .before .before .before .before .before .e .given .1) ∙ c .before .before .before .before .before .before .before .before .before .before .before .before .before .before .before .before .before .before .before .before .before .before .before .before .before .before .before .before .before .before .before .before .before .before .before .before .event-of .ensures in
+    let d : declared (s .counts) e ≡ true = sym (c .before .before .before .before .before .before .before .before .before .before .before .before .before .before .before .before .before .before .before .before .before .before .before .before .before .before .before .before .before .before .before .is-declared .ensures) ∙ not-false _ (c .before .before .before .before .before .before .before .before .before .before .before .before .before .before .before .before .before .before .before .before .before .before .before .before .before .before .before .before .before .before .if3 .left) in
+    let w = may h bytes s row at tn e d in
+    let i = c .before .before .before .before .before .before .before .before .before .before .before .before .before .before .before .before .before .before .before .before .before .before .before .before .before .before .before .before .cell-place .result in
+    let end = c .before .before .before .before .before .before .before .before .before .before .before .before .before .before .before .span .result in
+    let m = c .before .before .before .before .before .before .before .before .before .before .before .before .before .before .loop2 in
+    let any = scan-end s (e .thread) end (m .j) (m .pending) (m .fresh) (m .stored) (m .inv) (c .before .before .before .before .before .before .before .before .before .before .before .before .before .loop2-test .left) in
     let en =
-    seen-is s (e .thread) (e .kind) (w .within) (c .before .before .before .before .before .before .before .before .before .before .before .before .before .before .before .before .before .before .before .before .before .before .before .before .before .before .before .before .places-of .result) i (getD (s .cells) i blank) (c .before .before .before .before .before .before .before .before .before .before .before .before .before .before .before .before .before .before .before .before .before .before .before .slot-place .result) (c .before .before .before .before .before .before .before .before .before .before .before .before .before .before .before .before .before .before .before .before .before .before .slot-place2 .result) (c .before .before .before .before .before .before .before .before .before .before .before .before .before .before .before .before .before .before .before .oldest .result) (c .before .before .before .before .before .before .before .before .before .before .before .before .before .before .before .before .before .before .oldest2 .result) end
+    seen-is s (e .thread) (e .kind) (w .within) (c .before .before .before .before .before .before .before .before .before .before .before .before .before .before .before .before .before .before .before .before .before .before .before .before .before .before .before .before .before .places-of .result) i (getD (s .cells) i blank) (c .before .before .before .before .before .before .before .before .before .before .before .before .before .before .before .before .before .before .before .before .before .before .before .before .slot-place .result) (c .before .before .before .before .before .before .before .before .before .before .before .before .before .before .before .before .before .before .before .before .before .before .before .slot-place2 .result) (c .before .before .before .before .before .before .before .before .before .before .before .before .before .before .before .before .before .before .before .before .oldest .result) (c .before .before .before .before .before .before .before .before .before .before .before .before .before .before .before .before .before .before .before .oldest2 .result) end
     (record { pending = m .pending; fresh = m .fresh; stored = m .stored })
-    (c .before .before .before .before .before .before .before .before .before .before .before .before .before .before .before .before .before .before .before .before .before .before .before .before .before .before .before .before .places-of .ensures) (c .before .before .before .before .before .before .before .before .before .before .before .before .before .before .before .before .before .before .before .before .before .before .before .before .before .before .before .cell-place .ensures) refl (c .before .before .before .before .before .before .before .before .before .before .before .before .before .before .before .before .before .before .before .before .before .before .before .slot-place .ensures) (c .before .before .before .before .before .before .before .before .before .before .before .before .before .before .before .before .before .before .before .before .before .before .slot-place2 .ensures) (c .before .before .before .before .before .before .before .before .before .before .before .before .before .before .before .before .before .before .before .oldest .ensures) (c .before .before .before .before .before .before .before .before .before .before .before .before .before .before .before .before .before .before .oldest2 .ensures) (c .before .before .before .before .before .before .before .before .before .before .before .before .before .before .span .ensures) any in
+    (c .before .before .before .before .before .before .before .before .before .before .before .before .before .before .before .before .before .before .before .before .before .before .before .before .before .before .before .before .before .places-of .ensures) (c .before .before .before .before .before .before .before .before .before .before .before .before .before .before .before .before .before .before .before .before .before .before .before .before .before .before .before .before .cell-place .ensures) refl (c .before .before .before .before .before .before .before .before .before .before .before .before .before .before .before .before .before .before .before .before .before .before .before .before .slot-place .ensures) (c .before .before .before .before .before .before .before .before .before .before .before .before .before .before .before .before .before .before .before .before .before .before .before .slot-place2 .ensures) (c .before .before .before .before .before .before .before .before .before .before .before .before .before .before .before .before .before .before .before .before .oldest .ensures) (c .before .before .before .before .before .before .before .before .before .before .before .before .before .before .before .before .before .before .before .oldest2 .ensures) (c .before .before .before .before .before .before .before .before .before .before .before .before .before .before .before .span .ensures) any in
     let next =
-    put-is s e (w .within) (shallow h bytes s at tn e d (c .before .before .before .before .before .before .before .before .before .before .before .before .before .before .before .before .before .before .before .before .before .before .before .before .before .before .before .before .before .before .before .if2 .left)) _ en (c .before .before .before .before .before .before .before .before .before .before .before .before .before .before .before .before .before .before .before .before .before .before .before .before .before .before .before .before .places-of .result) i (c .before .before .before .before .before .before .before .before .before .slot-place3 .result) (c .before .before .before .before .before .before .before .before .slot-place4 .result) (c .before .before .before .before .before .cell-after .result) (c .before .before .before .before .read-after .result) (c .before .before .before .store-after .result) (c .before .before .locked-after .result) (c .before .hold-after .result) (c .main-after .result)
-    (c .before .before .before .before .before .before .before .before .before .before .before .before .before .before .before .before .before .before .before .before .before .before .before .before .before .before .before .before .places-of .ensures) (c .before .before .before .before .before .before .before .before .before .before .before .before .before .before .before .before .before .before .before .before .before .before .before .before .before .before .before .cell-place .ensures) (c .before .before .before .before .before .before .before .before .before .slot-place3 .ensures) (c .before .before .before .before .before .before .before .before .slot-place4 .ensures) (c .before .before .before .before .before .cell-after .ensures) (c .before .before .before .before .read-after .ensures) (c .before .before .before .store-after .ensures) (c .before .before .locked-after .ensures) (c .before .hold-after .ensures) (c .main-after .ensures) in
-    turn-more h bytes s at tn line l e (c .before .before .before .before .before .before .before .before .before .before .before .before .before .before .before .before .before .before .before .before .before .before .before .before .before .before .before .before .before .before .before .before .before .before .before .before .before .line-after .ensures) (c .before .before .before .before .before .before .before .before .before .before .before .before .before .before .before .before .before .before .before .before .before .before .before .before .before .before .before .before .before .before .before .before .before .before .before .before .line-at .ensures) er (c .before .before .before .before .before .before .before .before .before .before .before .before .before .before .before .before .before .before .before .before .before .before .before .before .before .before .before .before .before .before .before .if2 .left) d _ en (c .before .before .before .before .before .before .before .before .before .before .before .rule-for .result) (c .before .before .before .before .before .before .before .before .before .before .before .rule-for .ensures) _ (c .before .before .before .before .before .before .before .before .before .before .if4 .left) next
+    put-is s e (w .within) (shallow h bytes s row at tn e d (c .before .before .before .before .before .before .before .before .before .before .before .before .before .before .before .before .before .before .before .before .before .before .before .before .before .before .before .before .before .before .before .before .if2 .left)) _ en (c .before .before .before .before .before .before .before .before .before .before .before .before .before .before .before .before .before .before .before .before .before .before .before .before .before .before .before .before .before .places-of .result) i (c .before .before .before .before .before .before .before .before .before .before .slot-place3 .result) (c .before .before .before .before .before .before .before .before .before .slot-place4 .result) (c .before .before .before .before .before .before .cell-after .result) (c .before .before .before .before .before .read-after .result) (c .before .before .before .before .store-after .result) (c .before .before .before .locked-after .result) (c .before .before .hold-after .result) (c .before .main-after .result)
+    (c .before .before .before .before .before .before .before .before .before .before .before .before .before .before .before .before .before .before .before .before .before .before .before .before .before .before .before .before .before .places-of .ensures) (c .before .before .before .before .before .before .before .before .before .before .before .before .before .before .before .before .before .before .before .before .before .before .before .before .before .before .before .before .cell-place .ensures) (c .before .before .before .before .before .before .before .before .before .before .slot-place3 .ensures) (c .before .before .before .before .before .before .before .before .before .slot-place4 .ensures) (c .before .before .before .before .before .before .cell-after .ensures) (c .before .before .before .before .before .read-after .ensures) (c .before .before .before .before .store-after .ensures) (c .before .before .before .locked-after .ensures) (c .before .before .hold-after .ensures) (c .before .main-after .ensures) in
+    turn-more h bytes s row at tn line l e (c .before .before .before .before .before .before .before .before .before .before .before .before .before .before .before .before .before .before .before .before .before .before .before .before .before .before .before .before .before .before .before .before .before .before .before .before .before .before .line-after .ensures) (c .before .before .before .before .before .before .before .before .before .before .before .before .before .before .before .before .before .before .before .before .before .before .before .before .before .before .before .before .before .before .before .before .before .before .before .before .before .line-at .ensures) er (c .before .before .before .before .before .before .before .before .before .before .before .before .before .before .before .before .before .before .before .before .before .before .before .before .before .before .before .before .before .before .before .before .if2 .left) d _ en (c .before .before .before .before .before .before .before .before .before .before .before .before .rule-for .result) (c .before .before .before .before .before .before .before .before .before .before .before .before .rule-for .ensures) _ (c .pack .result) (c .before .before .before .before .before .before .before .before .before .before .before .if4 .left) next (c .pack .ensures)
 
-cast-t107 : tie.Need-cast-t107 Inv-loop2 μ-loop2 Inv-loop μ-loop
-cast-t107 c =
+cast-t117 : tie.Need-cast-t117 Inv-loop2 μ-loop2 Inv-loop μ-loop
+cast-t117 c =
     let h = c .before .before .before .before .initial .result .counts in
     let bytes = c .before .before .before .before .before .before .args .part .now in
     let s = c .before .loop .s in
+    let row = c .before .loop .row in
     let at = c .before .loop .at in
     let tn = c .before .loop .inv in
-    omega (arith, few h bytes s at tn)
+    omega (arith, few h bytes s row at tn)
 
 returns-6 : tie.Need-returns-6 Inv-loop2 μ-loop2 Inv-loop μ-loop
 returns-6 c =
     let h = c .before .before .before .before .initial .result .counts in
     let bytes = c .before .before .before .before .before .before .args .part .now in
     let s = c .before .loop .s in
+    let row = c .before .loop .row in
     let at = c .before .loop .at in
     let tn = c .before .loop .inv in
     let good : allowed full (c .before .before .before .before .before .before .args .h) ≡ true = sym (c .before .before .before .is-allowed .ensures) ∙ not-false _ (c .before .before .if1 .left) in
-    turn-end h bytes s at tn (c .loop-test .left) ∙ ran-from (c .before .before .before .before .before .before .args .h) (c .before .before .before .before .initial .result) bytes (c .before .before .before .before .initial .ensures) good
+    turn-end h bytes s row at tn (c .loop-test .left) ∙ ran-from (c .before .before .before .before .before .before .args .h) (c .before .before .before .before .initial .result) bytes (c .before .before .before .before .initial .ensures) good
 
 pub mark-part-spec : {M : Type 1} → statement M
 mark-part-spec =
@@ -744,7 +822,11 @@ mark-part-spec =
     element-set-from-hold-left
     mul-main-left
     element-set-from-main-left
+    pack-requires
+    cast-row
+    mul-row
+    array-write-row
     loop-less
     loop-again
-    cast-t107
+    cast-t117
     returns-6)

@@ -1,4 +1,5 @@
 -- `marking::refuse` meets its contract. Assumes nothing.
+use Rattle.records.specs.Records.{rowOf}
 use borrow.Author.Needs.{needs}
 use Rattle.marking.proofs.refuse.Statement.{statement}
 use Rattle.marking.proofs.refuse.Tie as tie
@@ -12,6 +13,7 @@ initial-requires c κs = search needs
 
 -- src/lib.rt:155:1
 returns : tie.Need-returns
+unfolding rowOf
 returns c = rw (c .initial .ensures)
 
 pub refuse-spec : {M : Type 1} → statement M
