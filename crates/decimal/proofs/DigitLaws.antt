@@ -1,7 +1,7 @@
 -- Laws of `digitsFrom`: what one byte more does.
 -- Assumes nothing.
 use mathlib.Core.Path.{_≡_, refl, sym, ap, _∙_}
-use mathlib.Core.Bool.{Bool, true, false}
+use mathlib.Core.Bool.{Bool, true, false, cond}
 use mathlib.Core.List.{List, [], _∷_}
 use Prim.Native.Nat.{ℕ, suc, _≤_, _<_, _+_, _-_, _*_, min}
 use native.Mathlib.Omega.{arith}
@@ -11,7 +11,6 @@ use lib.ListN.{length, getD, drop, drop-of-length-le}
 use lib.Seq.{drop-cons}
 use Rattle.decimal.specs.declared.Natural.{Natural}
 use Rattle.decimal.specs.declared.Natural.the-variants as natural
-use Rattle.lines.specs.Lines.{choose}
 use Rattle.decimal.specs.Decimal.{cap, isDigit, digitsFrom}
 
 -- the cap may be taken at any place
@@ -20,7 +19,7 @@ unfolding digitsFrom
 capped n [] = ap natural.Of (omega arith)
 capped n (b ∷ bs) =
     let e : min cap (min cap n * 10 + (b - 48)) ≡ min cap (n * 10 + (b - 48)) = omega arith in
-    ap (λ (z : Natural). choose (isDigit b) z natural.Bad)
+    ap (λ (z : Natural). cond (isDigit b) z natural.Bad)
     (sym (capped (min cap n * 10 + (b - 48)) bs) ∙ ap (λ (m : ℕ). digitsFrom m bs) e ∙ capped (n * 10 + (b - 48)) bs)
 
 pub digits-end : (n i : ℕ) (f : List ℕ) → length f ≤ i → n ≤ cap → digitsFrom n (drop i f) ≡ natural.Of n

@@ -1,7 +1,7 @@
 -- Laws of a number up to a byte: the scan of its digits, and what a leading zero and an empty field do.
 -- Assumes nothing.
 use mathlib.Core.Path.{_≡_, refl, sym, ap, _∙_}
-use mathlib.Core.Bool.{Bool, true, false}
+use mathlib.Core.Bool.{Bool, true, false, cond}
 use mathlib.Core.List.{List, [], _∷_}
 use Prim.Native.Nat.{ℕ, zero, suc, _≤_, _<_, _+_, _-_, _*_, min}
 use native.Mathlib.Omega.{arith}
@@ -12,7 +12,7 @@ use lib.Seq.{getD-take, getD-drop, length-take-le}
 use Rattle.decimal.specs.declared.Natural.{Natural}
 use Rattle.decimal.specs.declared.Natural.the-variants as natural
 use Rattle.decimal.specs.Decimal.{isDigit, digitsFrom, naturalOf}
-use Rattle.lines.specs.Lines.{choose, before}
+use Rattle.lines.specs.Lines.{before}
 use Rattle.lines.proofs.FieldLaws.{before-le}
 use Rattle.decimal.specs.declared.Reached.{Reached}
 use Rattle.decimal.specs.Decimal.{scan, nowhere, reached, numberUntil}
@@ -25,18 +25,18 @@ digits-bad n i [] h e = absurd (omega arith)
 digits-bad n zero (x ∷ xs) h e = rw (e)
 digits-bad n (suc i) (x ∷ xs) h e = by (isDigit x) (digits-bad (n * 10 + (x - 48)) i xs (omega arith) e)
   where
-    by : (q : Bool) → digitsFrom (n * 10 + (x - 48)) xs ≡ natural.Bad → choose q (digitsFrom (n * 10 + (x - 48)) xs) natural.Bad ≡ natural.Bad
+    by : (q : Bool) → digitsFrom (n * 10 + (x - 48)) xs ≡ natural.Bad → cond q (digitsFrom (n * 10 + (x - 48)) xs) natural.Bad ≡ natural.Bad
     by true r = r
     by false r = refl
 
-pub bad-either : (p q : Bool) (n : Natural) → n ≡ natural.Bad → choose p natural.Bad (choose q natural.Bad n) ≡ natural.Bad
+pub bad-either : (p q : Bool) (n : Natural) → n ≡ natural.Bad → cond p natural.Bad (cond q natural.Bad n) ≡ natural.Bad
 bad-either true q n e = refl
 bad-either false true n e = refl
 bad-either false false n e = e
 
 pub natural-bad : (i : ℕ) (f : List ℕ) → i < length f → isDigit (getD f i 0) ≡ false → naturalOf f ≡ natural.Bad
 unfolding naturalOf
-natural-bad i f h e = bad-either (eqb (length f) 0) (choose (eqb (getD f 0 0) 48) (ltb 1 (length f)) false) (digitsFrom 0 f) (digits-bad 0 i f h e)
+natural-bad i f h e = bad-either (eqb (length f) 0) (cond (eqb (getD f 0 0) 48) (ltb 1 (length f)) false) (digitsFrom 0 f) (digits-bad 0 i f h e)
 
 pub bad-not : (n : ℕ) → natural.Bad ≡ natural.Of n → ⊥
 bad-not n e = let z : _≡_ {A = ℕ} 0 1 = ap (λ (m : Natural). tag m) e in omega arith
@@ -63,7 +63,7 @@ unfolding numberUntil
 got d at t n h = by (ltb (before d t) (length t)) refl h
   where
     by : (q : Bool) → ltb (before d t) (length t) ≡ q
-        → (choose q (reached (at + before d t + 1) (naturalOf (take (before d t) t))) nowhere) .number ≡ natural.Of n → Got d at t n
+        → (cond q (reached (at + before d t + 1) (naturalOf (take (before d t) t))) nowhere) .number ≡ natural.Of n → Got d at t n
     by false e r = absurd (bad-not n r)
     by true e r =
         let m = sym (reached-number (at + before d t + 1) (naturalOf (take (before d t) t))) ∙ r in
@@ -85,13 +85,13 @@ natural-one : (f : List ℕ) → length f ≡ 1 → naturalOf f ≡ digitsFrom 0
 unfolding naturalOf
 natural-one f h = rw (ne-eqb (length f) 0 (λ e. omega arith), le-ltb 1 (length f) (omega arith)) (by (eqb (getD f 0 0) 48))
   where
-    by : (q : Bool) → choose (choose q false false) natural.Bad (digitsFrom 0 f) ≡ digitsFrom 0 f
+    by : (q : Bool) → cond (cond q false false) natural.Bad (digitsFrom 0 f) ≡ digitsFrom 0 f
     by true = refl
     by false = refl
 
 natural-from-bad : (f : List ℕ) → digitsFrom 0 f ≡ natural.Bad → naturalOf f ≡ natural.Bad
 unfolding naturalOf
-natural-from-bad f h = bad-either (eqb (length f) 0) (choose (eqb (getD f 0 0) 48) (ltb 1 (length f)) false) (digitsFrom 0 f) h
+natural-from-bad f h = bad-either (eqb (length f) 0) (cond (eqb (getD f 0 0) 48) (ltb 1 (length f)) false) (digitsFrom 0 f) h
 
 -- the field's first byte
 first : (k at : ℕ) (s : List ℕ) → 0 < k → getD (take k (drop at s)) 0 0 ≡ getD s at 0
@@ -100,13 +100,13 @@ first k at s h =
     getD-take k (drop at s) 0 0 h ∙ getD-drop at s 0 0 ∙ ap (λ (i : ℕ). getD s i 0) e
 
 none : (q : Bool) (e : ℕ) (m m' : Natural) → ((n : ℕ) → q ≡ true → m ≡ natural.Of n → m' ≡ natural.Bad) → (m ≡ natural.Bad → m' ≡ natural.Bad)
-    → nowhere ≡ choose q (reached e m') nowhere
+    → nowhere ≡ cond q (reached e m') nowhere
 none false e m m' h b = refl
 none true e natural.Bad m' h b = rw (b refl)
 none true e (natural.Of n) m' h b = rw (h n refl refl)
 
 same : (q : Bool) (e : ℕ) (m m' : Natural) → ((n : ℕ) → q ≡ true → m ≡ natural.Of n → m' ≡ m) → (m ≡ natural.Bad → m' ≡ natural.Bad)
-    → choose q (reached e m) nowhere ≡ choose q (reached e m') nowhere
+    → cond q (reached e m) nowhere ≡ cond q (reached e m') nowhere
 same false e m m' h b = refl
 same true e natural.Bad m' h b = rw (b refl)
 same true e (natural.Of n) m' h b = rw (h n refl refl)

@@ -1,7 +1,7 @@
 -- Laws of `scan`: what one byte more does, and that it reads the field up to d.
 -- Assumes nothing.
 use mathlib.Core.Path.{_≡_, refl, sym, ap, _∙_}
-use mathlib.Core.Bool.{Bool, true, false}
+use mathlib.Core.Bool.{Bool, true, false, cond}
 use mathlib.Core.List.{List, [], _∷_}
 use Prim.Native.Nat.{ℕ, suc, _≤_, _<_, _+_, _-_, _*_, min}
 use native.Mathlib.Omega.{arith}
@@ -15,7 +15,7 @@ use Rattle.lines.proofs.PartLaws.{lt-or-le}
 use Rattle.decimal.specs.declared.Natural.{Natural}
 use Rattle.decimal.specs.declared.Natural.the-variants as natural
 use Rattle.decimal.specs.Decimal.{cap, isDigit, digitsFrom}
-use Rattle.lines.specs.Lines.{choose, before}
+use Rattle.lines.specs.Lines.{before}
 use Rattle.decimal.specs.declared.Reached.{Reached}
 use Rattle.decimal.specs.Decimal.{scan, nowhere, reached}
 
@@ -28,8 +28,8 @@ capped d n i (b ∷ bs) =
     let m : min cap (min cap n) ≡ min cap n = omega arith in
     let r : scan d (min cap n * 10 + (b - 48)) (i + 1) bs ≡ scan d (n * 10 + (b - 48)) (i + 1) bs =
     sym (capped d (min cap n * 10 + (b - 48)) (i + 1) bs) ∙ ap (λ (m : ℕ). scan d m (i + 1) bs) e ∙ capped d (n * 10 + (b - 48)) (i + 1) bs in
-    ap (λ (z : ℕ). choose (eqb b d) (record { number = natural.Of z; next = i + 1 }) (choose (isDigit b) (scan d (min cap n * 10 + (b - 48)) (i + 1) bs) nowhere)) m
-    ∙ ap (λ (z : Reached). choose (eqb b d) (record { number = natural.Of (min cap n); next = i + 1 }) (choose (isDigit b) z nowhere)) r
+    ap (λ (z : ℕ). cond (eqb b d) (record { number = natural.Of z; next = i + 1 }) (cond (isDigit b) (scan d (min cap n * 10 + (b - 48)) (i + 1) bs) nowhere)) m
+    ∙ ap (λ (z : Reached). cond (eqb b d) (record { number = natural.Of (min cap n); next = i + 1 }) (cond (isDigit b) z nowhere)) r
 
 pub scan-end : (d n i : ℕ) (f : List ℕ) → length f ≤ i → scan d n i (drop i f) ≡ nowhere
 unfolding scan
@@ -63,21 +63,21 @@ ltb-suc a b = ⊎-elim (λ h. lt-ltb (suc a) (suc b) (omega arith) ∙ sym (lt-l
 
 -- it is the field up to d
 pub scan-field : (d n i : ℕ) (t : List ℕ)
-    → scan d n i t ≡ choose (ltb (before d t) (length t)) (reached (i + before d t + 1) (digitsFrom n (take (before d t) t))) nowhere
+    → scan d n i t ≡ cond (ltb (before d t) (length t)) (reached (i + before d t + 1) (digitsFrom n (take (before d t) t))) nowhere
 unfolding scan before digitsFrom
 scan-field d n i [] = refl
 scan-field d n i (b ∷ bs) = by (eqb b d) (isDigit b) refl (scan-field d (n * 10 + (b - 48)) (i + 1) bs)
   where
-    same : (t : Bool) → nowhere ≡ choose t nowhere nowhere
+    same : (t : Bool) → nowhere ≡ cond t nowhere nowhere
     same true = refl
     same false = refl
 
     by : (x y : Bool) → isDigit b ≡ y
         → scan d (n * 10 + (b - 48)) (i + 1) bs
-        ≡ choose (ltb (before d bs) (length bs)) (reached (i + 1 + before d bs + 1) (digitsFrom (n * 10 + (b - 48)) (take (before d bs) bs))) nowhere
-        → choose x (record { number = natural.Of (min cap n); next = i + 1 }) (choose y (scan d (n * 10 + (b - 48)) (i + 1) bs) nowhere)
-        ≡ choose (ltb (choose x 0 (suc (before d bs))) (suc (length bs)))
-        (reached (i + choose x 0 (suc (before d bs)) + 1) (digitsFrom n (take (choose x 0 (suc (before d bs))) (b ∷ bs)))) nowhere
+        ≡ cond (ltb (before d bs) (length bs)) (reached (i + 1 + before d bs + 1) (digitsFrom (n * 10 + (b - 48)) (take (before d bs) bs))) nowhere
+        → cond x (record { number = natural.Of (min cap n); next = i + 1 }) (cond y (scan d (n * 10 + (b - 48)) (i + 1) bs) nowhere)
+        ≡ cond (ltb (cond x 0 (suc (before d bs))) (suc (length bs)))
+        (reached (i + cond x 0 (suc (before d bs)) + 1) (digitsFrom n (take (cond x 0 (suc (before d bs))) (b ∷ bs)))) nowhere
     by true y q r =
         let e : i + 0 + 1 ≡ i + 1 = omega arith in
         rw (lt-ltb 0 (suc (length bs)) (omega arith), e)

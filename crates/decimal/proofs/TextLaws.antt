@@ -15,7 +15,6 @@ use lib.ListN.{length, getD, take, drop, set, length-append, length-drop, length
 use lib.Seq.{take-suc, length-take-le, drop-cons, set-at, drop-drop, take-at, drop-at, drop-append-add}
 use borrow.Rule.Slice.PartMut.{putMid}
 use Rattle.lines.proofs.PartLaws.{rest, lt-or-le}
-use Rattle.lines.specs.Lines.{choose}
 use Rattle.decimal.specs.Text.{digitsIn, naturalText, integerText, isNegative, room, Wrote, andThen, over}
 
 digits-small : (k n : ℕ) → n < 10 → digitsIn (suc k) n ≡ (48 + n) ∷ []

@@ -1,13 +1,13 @@
 -- Numbers are base ten, no leading zeros, no plus sign, no `-0`; only a value may have a minus.
 use Prim.Native.Nat.{ℕ, suc, _+_, _*_, _-_, _^_, min}
 use mathlib.Core.List.{List, [], _∷_}
-use mathlib.Core.Bool.{Bool, true, false}
+use mathlib.Core.Bool.{Bool, true, false, cond}
 use lib.Dec.{ltb, leb, eqb}
 use lib.ListN.{length, getD, take, drop}
 use lib.IntN.{ℤ, pos, negsuc}
 use mir.Val.{hbits}
 use Rattle.rules.specs.Limits.{valueWidth}
-use Rattle.lines.specs.Lines.{choose, before}
+use Rattle.lines.specs.Lines.{before}
 use Rattle.decimal.specs.declared.Reached.{Reached}
 use Rattle.decimal.specs.declared.Natural.{Natural}
 use Rattle.decimal.specs.declared.Natural.the-variants as natural
@@ -23,31 +23,31 @@ abbrev pub limit : ℕ
 limit = 2 ^ hbits valueWidth
 
 abbrev pub isDigit : ℕ → Bool
-isDigit b = choose (leb 48 b) (leb b 57) false
+isDigit b = cond (leb 48 b) (leb b 57) false
 
 -- n, and then the digits of the list after it
 unfoldable pub digitsFrom : ℕ → List ℕ → Natural
 digitsFrom n [] = natural.Of (min cap n)
-digitsFrom n (b ∷ bs) = choose (isDigit b) (digitsFrom (n * 10 + (b - 48)) bs) natural.Bad
+digitsFrom n (b ∷ bs) = cond (isDigit b) (digitsFrom (n * 10 + (b - 48)) bs) natural.Bad
 
 -- digits alone, at least one; a 0 in front of others is refused
 unfoldable pub naturalOf : List ℕ → Natural
 naturalOf f =
-    choose (eqb (length f) 0) natural.Bad
-    (choose (choose (eqb (getD f 0 0) 48) (ltb 1 (length f)) false) natural.Bad (digitsFrom 0 f))
+    cond (eqb (length f) 0) natural.Bad
+    (cond (cond (eqb (getD f 0 0) 48) (ltb 1 (length f)) false) natural.Bad (digitsFrom 0 f))
 
 abbrev pub positiveOf : Natural → Integer
 positiveOf natural.Bad = integer.Bad
-positiveOf (natural.Of n) = choose (ltb n limit) (integer.Of (pos n)) integer.Outside
+positiveOf (natural.Of n) = cond (ltb n limit) (integer.Of (pos n)) integer.Outside
 
 -- n with a minus before it; `negsuc m` is -1 - m
 abbrev pub negativeOf : Natural → Integer
 negativeOf natural.Bad = integer.Bad
-negativeOf (natural.Of n) = choose (eqb n 0) integer.Bad (choose (leb n limit) (integer.Of (negsuc (n - 1))) integer.Outside)
+negativeOf (natural.Of n) = cond (eqb n 0) integer.Bad (cond (leb n limit) (integer.Of (negsuc (n - 1))) integer.Outside)
 
 -- with or without a minus
 unfoldable pub integerOf : List ℕ → Integer
-integerOf f = choose (eqb (getD f 0 0) 45) (negativeOf (naturalOf (drop 1 f))) (positiveOf (naturalOf f))
+integerOf f = cond (eqb (getD f 0 0) 45) (negativeOf (naturalOf (drop 1 f))) (positiveOf (naturalOf f))
 
 -- no number, and nothing behind it
 abbrev pub nowhere : Reached
@@ -59,11 +59,11 @@ reached e (natural.Of n) = record { number = natural.Of n; next = e }
 
 -- the number from the front of t, which starts at `at`, up to the byte d, and the place behind this byte
 unfoldable pub numberUntil : ℕ → ℕ → List ℕ → Reached
-numberUntil d at t = choose (ltb (before d t) (length t)) (reached (at + before d t + 1) (naturalOf (take (before d t) t))) nowhere
+numberUntil d at t = cond (ltb (before d t) (length t)) (reached (at + before d t + 1) (naturalOf (take (before d t) t))) nowhere
 
 -- the same without a look at a leading zero or an empty field, byte after byte, with n before the byte at i
 unfoldable pub scan : ℕ → ℕ → ℕ → List ℕ → Reached
 scan d n i [] = nowhere
 scan d n i (b ∷ bs) =
-    choose (eqb b d) (record { number = natural.Of (min cap n); next = i + 1 })
-    (choose (isDigit b) (scan d (n * 10 + (b - 48)) (i + 1) bs) nowhere)
+    cond (eqb b d) (record { number = natural.Of (min cap n); next = i + 1 })
+    (cond (isDigit b) (scan d (n * 10 + (b - 48)) (i + 1) bs) nowhere)

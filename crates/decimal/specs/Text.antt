@@ -2,16 +2,15 @@
 use Prim.Native.Nat.{ℕ, zero, suc, _+_, _/_, _%_}
 use mathlib.Core.Path.{_≡_}
 use mathlib.Core.List.{List, [], _∷_, _++_}
-use mathlib.Core.Bool.{Bool, true, false}
+use mathlib.Core.Bool.{Bool, true, false, cond}
 use lib.Dec.{ltb, leb}
 use lib.ListN.{length, drop}
 use lib.IntN.{ℤ, pos, negsuc, natAbs}
-use Rattle.lines.specs.Lines.{choose}
 
 -- the last k digits of n at most, none in front of its first
 unfoldable pub digitsIn : ℕ → ℕ → List ℕ
 digitsIn zero n = []
-digitsIn (suc k) n = choose (ltb n 10) ((48 + n) ∷ []) (digitsIn k (n / 10) ++ ((48 + n % 10) ∷ []))
+digitsIn (suc k) n = cond (ltb n 10) ((48 + n) ∷ []) (digitsIn k (n / 10) ++ ((48 + n % 10) ∷ []))
 
 -- n in base ten; twenty digits are enough for 64 bits
 unfoldable pub naturalText : ℕ → List ℕ
@@ -24,7 +23,7 @@ isNegative (negsuc n) = true
 
 -- the size of x in base ten, after a minus where x is negative
 unfoldable pub integerText : ℤ → List ℕ
-integerText x = choose (isNegative x) (45 ∷ naturalText (natAbs x)) (naturalText (natAbs x))
+integerText x = cond (isNegative x) (45 ∷ naturalText (natAbs x)) (naturalText (natAbs x))
 
 -- a space and a number for each of the list
 unfoldable pub rowText : List ℕ → List ℕ
@@ -37,7 +36,7 @@ over t o = t ++ drop (length t) o
 
 -- a text that is written only where n bytes remain
 abbrev pub room : ℕ → List ℕ → List ℕ → List ℕ
-room n t o = choose (leb n (length o)) t []
+room n t o = cond (leb n (length o)) t []
 
 -- A writer's text is a function of what remains of the output. Of a writer of the text f that was lent o: r is the number of bytes that it
 -- wrote, and p is what the lent bytes hold then.

@@ -1,7 +1,7 @@
 -- Laws of an event line: its last field, and its letter.
 -- Assumes nothing.
 use mathlib.Core.Path.{_≡_, refl, sym, ap, _∙_}
-use mathlib.Core.Bool.{Bool, true, false}
+use mathlib.Core.Bool.{Bool, true, false, cond}
 use mathlib.Core.List.{List, [], _∷_}
 use mathlib.Core.Logic.{⊎-elim}
 use Prim.Native.Nat.{ℕ, zero, suc, _≤_, _<_, _+_, _-_, _*_, min}
@@ -16,7 +16,6 @@ use Rattle.decimal.specs.declared.Natural.{Natural}
 use Rattle.decimal.specs.declared.Natural.the-variants as natural
 use Rattle.decimal.specs.declared.Integer.{Integer}
 use Rattle.decimal.specs.declared.Integer.the-variants as integer
-use Rattle.lines.specs.Lines.{choose}
 use Rattle.decimal.specs.Decimal.{isDigit, naturalOf, integerOf, positiveOf, negativeOf}
 use Rattle.lines.specs.Lines.{before, splitOn, onFirst, letter}
 use Rattle.lines.proofs.FieldLaws.{split-some}
@@ -36,7 +35,7 @@ integer-bad i [] h e = absurd (omega arith)
 integer-bad zero (y ∷ ys) h e = rw (ne-eqb y 45 (λ q. omega (arith, e, q)), space-bad 0 (y ∷ ys) h e)
 integer-bad (suc i) (y ∷ ys) h e = rw (space-bad i ys (omega arith) e, space-bad (suc i) (y ∷ ys) h e) (by (eqb y 45))
   where
-    by : (q : Bool) → choose q integer.Bad integer.Bad ≡ integer.Bad
+    by : (q : Bool) → cond q integer.Bad integer.Bad ≡ integer.Bad
     by true = refl
     by false = refl
 
@@ -49,8 +48,8 @@ lock-line k t at u =
     ∙ by (ltb (before 10 u) (length u)) (naturalOf (take (before 10 u) u))
   where
     by : (q : Bool) (m : Natural)
-        → choose q (placed (at + before 10 u + 1) (onNumber m (λ n. right k t n (pos 0)))) noLine
-        ≡ placed (choose q (reached (at + before 10 u + 1) m) nowhere .next) (onNumber (choose q (reached (at + before 10 u + 1) m) nowhere .number) (λ n. right k t n (pos 0)))
+        → cond q (placed (at + before 10 u + 1) (onNumber m (λ n. right k t n (pos 0)))) noLine
+        ≡ placed (cond q (reached (at + before 10 u + 1) m) nowhere .next) (onNumber (cond q (reached (at + before 10 u + 1) m) nowhere .number) (λ n. right k t n (pos 0)))
     by false m = refl
     by true natural.Bad = refl
     by true (natural.Of n) = refl
@@ -60,7 +59,7 @@ first-not : (s : List ℕ) (at : ℕ) → (getD s at 0 ≡ 45 → ⊥) → at < 
 unfolding front before
 first-not s at z h = rw (drop-cons s at 0 h) (by (eqb (getD s at 0) 10))
   where
-    by : (q : Bool) → getD (take (choose q 0 (suc (before 10 (drop (suc at) s)))) (getD s at 0 ∷ drop (suc at) s)) 0 0 ≡ 45 → ⊥
+    by : (q : Bool) → getD (take (cond q 0 (suc (before 10 (drop (suc at) s)))) (getD s at 0 ∷ drop (suc at) s)) 0 0 ≡ 45 → ⊥
     by true e = omega arith
     by false e = z e
 
@@ -74,8 +73,8 @@ plain-line k t v at s h z =
     ∙ rw (ne-eqb _ _ (first-not s at z h)) (by (ltb (before 10 u) (length u)) (naturalOf (take (before 10 u) u)) (at + before 10 u + 1))
   where
     by : (q : Bool) (m : Natural) (e : ℕ)
-        → choose q (placed e (onInteger (positiveOf m) (λ z. right k t v z))) noLine
-        ≡ placed (choose q (reached e m) nowhere .next) (onInteger (positiveOf (choose q (reached e m) nowhere .number)) (λ z. right k t v z))
+        → cond q (placed e (onInteger (positiveOf m) (λ z. right k t v z))) noLine
+        ≡ placed (cond q (reached e m) nowhere .next) (onInteger (positiveOf (cond q (reached e m) nowhere .number)) (λ z. right k t v z))
     by false m e = refl
     by true natural.Bad e = refl
     by true (natural.Of n) e = refl
@@ -92,17 +91,17 @@ minus-line k t v at s h z =
     ∙ rw (ltb-suc (before 10 u) (length u), e) (by (ltb (before 10 u) (length u)) (naturalOf (take (before 10 u) u)) (suc at + before 10 u + 1)))
   where
     by : (q : Bool) (m : Natural) (e : ℕ)
-        → choose q (placed e (onInteger (negativeOf m) (λ z. right k t v z))) noLine
-        ≡ placed (choose q (reached e m) nowhere .next) (onInteger (negativeOf (choose q (reached e m) nowhere .number)) (λ z. right k t v z))
+        → cond q (placed e (onInteger (negativeOf m) (λ z. right k t v z))) noLine
+        ≡ placed (cond q (reached e m) nowhere .next) (onInteger (negativeOf (cond q (reached e m) nowhere .number)) (λ z. right k t v z))
     by false m e = refl
     by true natural.Bad e = refl
     by true (natural.Of n) e = refl
 
-none-either : (q : Bool) (e : ℕ) (f : Fields) → f ≡ wrong → choose q (placed e f) noLine ≡ noLine
+none-either : (q : Bool) (e : ℕ) (f : Fields) → f ≡ wrong → cond q (placed e f) noLine ≡ noLine
 none-either true e f h = rw (h)
 none-either false e f h = refl
 
-either-none : (q : Bool) → choose q wrong wrong ≡ wrong
+either-none : (q : Bool) → cond q wrong wrong ≡ wrong
 either-none true = refl
 either-none false = refl
 
@@ -116,7 +115,7 @@ none-letter : (at x : ℕ) (xs : List ℕ) → kindOf x ≡ 0 → stage fromFiel
 unfolding stage front before splitOn letter
 none-letter at x xs h = none-either (ltb (before 10 (x ∷ xs)) (suc (length xs))) (at + before 10 (x ∷ xs) + 1) _ (by (eqb x 10) (eqb x 32) refl)
   where
-    by : (q p : Bool) → eqb x 32 ≡ p → fromFields (splitOn 32 (take (choose q 0 (suc (before 10 xs))) (x ∷ xs))) ≡ wrong
+    by : (q p : Bool) → eqb x 32 ≡ p → fromFields (splitOn 32 (take (cond q 0 (suc (before 10 xs))) (x ∷ xs))) ≡ wrong
     by true p r = refl
     by false true r = rw (r)
     by false false r =
@@ -138,7 +137,7 @@ none-space at x y ys k n =
     rw (ne-eqb x 10 (kind-not x 10 k refl), ne-eqb x 32 (kind-not x 32 k refl))
     (none-either (ltb (suc (before 10 (y ∷ ys))) (suc (suc (length ys)))) (at + suc (before 10 (y ∷ ys)) + 1) _ (by (eqb y 10)))
   where
-    by : (q : Bool) → fromFields (onFirst x (splitOn 32 (take (choose q 0 (suc (before 10 ys))) (y ∷ ys)))) ≡ wrong
+    by : (q : Bool) → fromFields (onFirst x (splitOn 32 (take (cond q 0 (suc (before 10 ys))) (y ∷ ys)))) ≡ wrong
     by true = either-none (eqb (kindOf x) 0)
     by false =
         let w = split-some 32 (take (before 10 ys) ys) in

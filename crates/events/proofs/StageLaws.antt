@@ -1,7 +1,7 @@
 -- Laws of a line's fields at the front of what remains of the part.
 -- Assumes nothing.
 use mathlib.Core.Path.{_≡_, refl, sym, ap, _∙_}
-use mathlib.Core.Bool.{Bool, true, false}
+use mathlib.Core.Bool.{Bool, true, false, cond}
 use mathlib.Core.List.{List, [], _∷_}
 use mathlib.Core.Logic.{⊎-elim}
 use Prim.Native.Nat.{ℕ, zero, suc, _≤_, _<_, _+_, _-_, _*_, min}
@@ -13,7 +13,6 @@ use lib.ListN.{length, getD, take, drop, drop-of-length-le, length-drop}
 use lib.Seq.{drop-cons, drop-drop, getD-take, length-take-le}
 use Rattle.decimal.specs.declared.Natural.{Natural}
 use Rattle.decimal.specs.declared.Natural.the-variants as natural
-use Rattle.lines.specs.Lines.{choose}
 use Rattle.decimal.specs.Decimal.{cap, isDigit, digitsFrom, naturalOf}
 use Rattle.lines.proofs.PartLaws.{lt-or-le}
 use Rattle.lines.specs.Lines.{before, splitOn, onFirst, letter}
@@ -30,8 +29,8 @@ unfolding before
 getD-before b [] h = absurd (omega arith)
 getD-before b (x ∷ xs) h = by (eqb x b) refl h (getD-before b xs)
   where
-    by : (q : Bool) → eqb x b ≡ q → choose q 0 (suc (before b xs)) < suc (length xs) → (before b xs < length xs → getD xs (before b xs) 0 ≡ b)
-        → getD (x ∷ xs) (choose q 0 (suc (before b xs))) 0 ≡ b
+    by : (q : Bool) → eqb x b ≡ q → cond q 0 (suc (before b xs)) < suc (length xs) → (before b xs < length xs → getD xs (before b xs) 0 ≡ b)
+        → getD (x ∷ xs) (cond q 0 (suc (before b xs))) 0 ≡ b
     by true e h r = eqb-true x b e
     by false e h r = r (omega arith)
 
@@ -42,10 +41,10 @@ unfolding before splitOn front
 fields-more [] h = absurd (omega arith)
 fields-more (x ∷ xs) h = by (eqb x 32) (eqb x 10) refl h (fields-more xs)
   where
-    by : (p q : Bool) → eqb x 32 ≡ p → choose p 0 (suc (before 32 xs)) < choose q 0 (suc (before 10 xs))
+    by : (p q : Bool) → eqb x 32 ≡ p → cond p 0 (suc (before 32 xs)) < cond q 0 (suc (before 10 xs))
         → (before 32 xs < before 10 xs → splitOn 32 (front xs) ≡ take (before 32 xs) xs ∷ splitOn 32 (front (drop (before 32 xs + 1) xs)))
-        → splitOn 32 (take (choose q 0 (suc (before 10 xs))) (x ∷ xs))
-        ≡ take (choose p 0 (suc (before 32 xs))) (x ∷ xs) ∷ splitOn 32 (front (drop (choose p 0 (suc (before 32 xs)) + 1) (x ∷ xs)))
+        → splitOn 32 (take (cond q 0 (suc (before 10 xs))) (x ∷ xs))
+        ≡ take (cond p 0 (suc (before 32 xs))) (x ∷ xs) ∷ splitOn 32 (front (drop (cond p 0 (suc (before 32 xs)) + 1) (x ∷ xs)))
     by p true e h r = absurd (omega arith)
     by true false e h r = rw (e)
     by false false e h r =
@@ -58,9 +57,9 @@ unfolding before
 before-more [] h = absurd (omega arith)
 before-more (x ∷ xs) h = by (eqb x 32) (eqb x 10) h (before-more xs)
   where
-    by : (p q : Bool) → choose p 0 (suc (before 32 xs)) < choose q 0 (suc (before 10 xs))
+    by : (p q : Bool) → cond p 0 (suc (before 32 xs)) < cond q 0 (suc (before 10 xs))
         → (before 32 xs < before 10 xs → before 10 xs ≡ before 32 xs + 1 + before 10 (drop (before 32 xs + 1) xs))
-        → choose q 0 (suc (before 10 xs)) ≡ choose p 0 (suc (before 32 xs)) + 1 + before 10 (drop (choose p 0 (suc (before 32 xs)) + 1) (x ∷ xs))
+        → cond q 0 (suc (before 10 xs)) ≡ cond p 0 (suc (before 32 xs)) + 1 + before 10 (drop (cond p 0 (suc (before 32 xs)) + 1) (x ∷ xs))
     by p true h r = absurd (omega arith)
     by true false h r = omega arith
     by false false h r =
@@ -73,14 +72,14 @@ unfolding before splitOn front
 fields-one [] h = refl
 fields-one (x ∷ xs) h = by (eqb x 32) (eqb x 10) refl h (fields-one xs)
   where
-    by : (p q : Bool) → eqb x 32 ≡ p → choose q 0 (suc (before 10 xs)) ≤ choose p 0 (suc (before 32 xs))
+    by : (p q : Bool) → eqb x 32 ≡ p → cond q 0 (suc (before 10 xs)) ≤ cond p 0 (suc (before 32 xs))
         → (before 10 xs ≤ before 32 xs → splitOn 32 (front xs) ≡ front xs ∷ [])
-        → splitOn 32 (take (choose q 0 (suc (before 10 xs))) (x ∷ xs)) ≡ take (choose q 0 (suc (before 10 xs))) (x ∷ xs) ∷ []
+        → splitOn 32 (take (cond q 0 (suc (before 10 xs))) (x ∷ xs)) ≡ take (cond q 0 (suc (before 10 xs))) (x ∷ xs) ∷ []
     by p true e h r = refl
     by true false e h r = absurd (omega arith)
     by false false e h r = rw (e, r (omega arith))
 
-none-either : (q : Bool) → choose q noLine noLine ≡ noLine
+none-either : (q : Bool) → cond q noLine noLine ≡ noLine
 none-either true = refl
 none-either false = refl
 
@@ -100,7 +99,7 @@ stage-bad f z at t h = ⊎-elim
     (λ a.
     let e : naturalOf (take (before 32 t) t) ≡ natural.Bad =
     sym (reached-number (at + before 32 t + 1) (naturalOf (take (before 32 t) t)))
-    ∙ ap (λ (q : Bool). (choose q (reached (at + before 32 t + 1) (naturalOf (take (before 32 t) t))) nowhere) .number)
+    ∙ ap (λ (q : Bool). (cond q (reached (at + before 32 t + 1) (naturalOf (take (before 32 t) t))) nowhere) .number)
     (sym (lt-ltb (before 32 t) (length t) (omega (arith, before-le 10 t)))) ∙ h in
     rw (fields-more t a, e) (none-either (ltb (before 10 t) (length t))))
     (λ a. rw (fields-one t a, none-number (naturalOf (front t)) (λ n. f n []) z) (none-either (ltb (before 10 t) (length t))))
@@ -151,7 +150,7 @@ front-byte t a = getD-take (before 10 t) t (before 32 t) 0 a ∙ getD-before 32 
 
 -- the last field
 pub stage-last : (g : List ℕ → Fields) → ((x : List ℕ) (i : ℕ) → i < length x → getD x i 0 ≡ 32 → g x ≡ wrong) → (at : ℕ) (t : List ℕ)
-    → stage (last g) at t ≡ choose (ltb (before 10 t) (length t)) (placed (at + before 10 t + 1) (g (front t))) noLine
+    → stage (last g) at t ≡ cond (ltb (before 10 t) (length t)) (placed (at + before 10 t + 1) (g (front t))) noLine
 unfolding stage
 stage-last g z at t = ⊎-elim
     (λ a.

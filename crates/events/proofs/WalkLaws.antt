@@ -1,7 +1,7 @@
 -- The walk from line to line: each turn reads the next line of the text.
 -- Assumes nothing.
 use mathlib.Core.Path.{_≡_, refl, sym, ap, _∙_}
-use mathlib.Core.Bool.{Bool, true, false}
+use mathlib.Core.Bool.{Bool, true, false, cond}
 use mathlib.Core.List.{List, [], _∷_}
 use Prim.Native.Nat.{ℕ, zero, suc, _≤_, _<_, _+_, _-_}
 use native.Mathlib.Omega.{arith}
@@ -10,7 +10,7 @@ use lib.Dec.{ltb}
 use lib.ListN.{length, getD, take, drop, length-drop}
 use lib.Seq.{drop-drop, getD-drop}
 use Rattle.rules.specs.declared.Counts.{Counts}
-use Rattle.lines.specs.Lines.{choose, before, upTo, linesOf}
+use Rattle.lines.specs.Lines.{before, upTo, linesOf}
 use Rattle.lines.proofs.FieldLaws.{ended-drop, ended-before}
 use Rattle.lines.proofs.FieldLaws as field-laws
 use Rattle.events.specs.declared.Line.{Line}
@@ -19,13 +19,13 @@ use Rattle.events.specs.Events.{Fields, wrong, right, fromFields, lineOf
 
 -- the line at `at` by the definition of a line
 at-as : (s : List ℕ) (at : ℕ) → lineAt s at
-    ≡ choose (ltb (before 10 (drop at s)) (length (drop at s))) (placed (at + before 10 (drop at s) + 1) (lineOf (front (drop at s)))) noLine
+    ≡ cond (ltb (before 10 (drop at s)) (length (drop at s))) (placed (at + before 10 (drop at s) + 1) (lineOf (front (drop at s)))) noLine
 unfolding lineAt stage lineOf
 at-as s at = refl
 
 pub at-ended : (s : List ℕ) (at : ℕ) → before 10 (drop at s) < length (drop at s)
     → lineAt s at ≡ placed (at + before 10 (drop at s) + 1) (lineOf (front (drop at s)))
-at-ended s at h = at-as s at ∙ ap (λ (q : Bool). choose q (placed (at + before 10 (drop at s) + 1) (lineOf (front (drop at s)))) noLine) (lt-ltb _ _ h)
+at-ended s at h = at-as s at ∙ ap (λ (q : Bool). cond q (placed (at + before 10 (drop at s) + 1) (lineOf (front (drop at s)))) noLine) (lt-ltb _ _ h)
 
 -- what is known where `line_at` reads an event line
 pub record Step (s : List ℕ) (at : ℕ) : Type 0 where
@@ -42,7 +42,7 @@ step s at h = by (ltb (before 10 t) (length t)) refl (λ z. h (ap (λ (l : Line)
     t : List ℕ
     t = drop at s
 
-    by : (q : Bool) → ltb (before 10 t) (length t) ≡ q → (choose q (placed (at + before 10 t + 1) (lineOf (front t))) noLine .kind ≡ 0 → ⊥) → Step s at
+    by : (q : Bool) → ltb (before 10 t) (length t) ≡ q → (cond q (placed (at + before 10 t + 1) (lineOf (front t))) noLine .kind ≡ 0 → ⊥) → Step s at
     by false e r = absurd (r refl)
     by true e r =
         record {

@@ -1,7 +1,7 @@
 -- The event lines of a trace. A trace is what document 01 calls a paper.
 use Prim.Native.Nat.{ℕ, zero, suc, _+_}
 use mathlib.Core.List.{List, [], _∷_}
-use mathlib.Core.Bool.{Bool, true, false}
+use mathlib.Core.Bool.{Bool, true, false, cond}
 use lib.Dec.{eqb, ltb}
 use lib.IntN.{ℤ, pos}
 use lib.ListN.{length, take, drop}
@@ -11,7 +11,7 @@ use Rattle.rules.specs.declared.Kind.{Kind}
 use Rattle.rules.specs.declared.Kind.the-variants as kind
 use Rattle.rules.specs.Events.{U, A, L, S, R, W, K, N, P, B}
 use Rattle.rules.specs.Limits.{declared}
-use Rattle.lines.specs.Lines.{choose, before, splitOn, letter, linesOf}
+use Rattle.lines.specs.Lines.{before, splitOn, letter, linesOf}
 use Rattle.decimal.specs.declared.Natural.{Natural}
 use Rattle.decimal.specs.declared.Natural.the-variants as natural
 use Rattle.decimal.specs.declared.Integer.{Integer}
@@ -24,16 +24,16 @@ use Rattle.events.specs.declared.Reading.the-variants as reading
 -- A letter's number, 1 to 10 in the order of the table of checks; 0 for every other byte.
 abbrev pub kindOf : ℕ → ℕ
 kindOf k =
-    choose (eqb k U) 1
-    (choose (eqb k A) 2
-    (choose (eqb k L) 3
-    (choose (eqb k S) 4
-    (choose (eqb k R) 5
-    (choose (eqb k W) 6
-    (choose (eqb k K) 7
-    (choose (eqb k N) 8
-    (choose (eqb k P) 9
-    (choose (eqb k B) 10
+    cond (eqb k U) 1
+    (cond (eqb k A) 2
+    (cond (eqb k L) 3
+    (cond (eqb k S) 4
+    (cond (eqb k R) 5
+    (cond (eqb k W) 6
+    (cond (eqb k K) 7
+    (cond (eqb k N) 8
+    (cond (eqb k P) 9
+    (cond (eqb k B) 10
     0)))))))))
 
 -- what the fields of a line say: no event, or kind, thread, variable or lock, and value
@@ -71,14 +71,14 @@ valueEnd k t v x = onInteger (integerOf x) (λ z. right k t v z)
 
 -- `K t l` lock and `N t l` unlock.
 abbrev pub isLock : ℕ → Bool
-isLock k = choose (eqb k 7) true (eqb k 8)
+isLock k = cond (eqb k 7) true (eqb k 8)
 
 -- The others are letter, thread, variable, value.
 abbrev pub afterThread : ℕ → ℕ → List (List ℕ) → Fields
-afterThread k t fs = choose (isLock k) (last (lockEnd k t) fs) (field (λ v. last (valueEnd k t v)) fs)
+afterThread k t fs = cond (isLock k) (last (lockEnd k t) fs) (field (λ v. last (valueEnd k t v)) fs)
 
 abbrev pub afterLetter : ℕ → List (List ℕ) → Fields
-afterLetter k fs = choose (eqb k 0) wrong (field (afterThread k) fs)
+afterLetter k fs = cond (eqb k 0) wrong (field (afterThread k) fs)
 
 abbrev pub fromFields : List (List ℕ) → Fields
 fromFields [] = wrong
@@ -103,7 +103,7 @@ front t = take (before 10 t) t
 
 -- what f makes of the fields of the line at the front of t, where t starts at `at`; each line is ended by byte 10
 unfoldable pub stage : (List (List ℕ) → Fields) → ℕ → List ℕ → Line
-stage f at t = choose (ltb (before 10 t) (length t)) (placed (at + before 10 t + 1) (f (splitOn 32 (front t)))) noLine
+stage f at t = cond (ltb (before 10 t) (length t)) (placed (at + before 10 t + 1) (f (splitOn 32 (front t)))) noLine
 
 -- the line that starts at `at`
 unfoldable pub lineAt : List ℕ → ℕ → Line
@@ -120,16 +120,16 @@ eventWith n l k = reading.Of (record { thread = l .thread; line = n; kind = k })
 -- the event of line n that the numbers of a line stand for
 unfoldable pub eventFrom : ℕ → Line → Reading
 eventFrom n l =
-    choose (eqb (l .kind) 1) (eventWith n l (kind.Use (l .place) (l .value)))
-    (choose (eqb (l .kind) 2) (eventWith n l (kind.Assign (l .place) (l .value)))
-    (choose (eqb (l .kind) 3) (eventWith n l (kind.Load (l .place) (l .value)))
-    (choose (eqb (l .kind) 4) (eventWith n l (kind.Store (l .place) (l .value)))
-    (choose (eqb (l .kind) 5) (eventWith n l (kind.Read (l .place) (l .value)))
-    (choose (eqb (l .kind) 6) (eventWith n l (kind.Write (l .place) (l .value)))
-    (choose (eqb (l .kind) 7) (eventWith n l (kind.Lock (l .place)))
-    (choose (eqb (l .kind) 8) (eventWith n l (kind.Unlock (l .place)))
-    (choose (eqb (l .kind) 9) (eventWith n l (kind.PrescientStore (l .place) (l .value)))
-    (choose (eqb (l .kind) 10) (eventWith n l (kind.PrescientAssign (l .place) (l .value)))
+    cond (eqb (l .kind) 1) (eventWith n l (kind.Use (l .place) (l .value)))
+    (cond (eqb (l .kind) 2) (eventWith n l (kind.Assign (l .place) (l .value)))
+    (cond (eqb (l .kind) 3) (eventWith n l (kind.Load (l .place) (l .value)))
+    (cond (eqb (l .kind) 4) (eventWith n l (kind.Store (l .place) (l .value)))
+    (cond (eqb (l .kind) 5) (eventWith n l (kind.Read (l .place) (l .value)))
+    (cond (eqb (l .kind) 6) (eventWith n l (kind.Write (l .place) (l .value)))
+    (cond (eqb (l .kind) 7) (eventWith n l (kind.Lock (l .place)))
+    (cond (eqb (l .kind) 8) (eventWith n l (kind.Unlock (l .place)))
+    (cond (eqb (l .kind) 9) (eventWith n l (kind.PrescientStore (l .place) (l .value)))
+    (cond (eqb (l .kind) 10) (eventWith n l (kind.PrescientAssign (l .place) (l .value)))
     reading.NoEvent)))))))))
 
 -- line n, without its end, as an event
@@ -138,7 +138,7 @@ eventOf n l = eventFrom n (placed 0 (lineOf l))
 
 -- 5. Thread, variable or lock not declared.
 abbrev pub checked : Counts → Reading → Reading
-checked h (reading.Of e) = choose (declared h e) (reading.Of e) reading.Undeclared
+checked h (reading.Of e) = cond (declared h e) (reading.Of e) reading.Undeclared
 checked h reading.NoEvent = reading.NoEvent
 checked h reading.Undeclared = reading.Undeclared
 

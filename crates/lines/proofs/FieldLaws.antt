@@ -1,7 +1,7 @@
 -- Laws of fields.
 -- Assumes nothing.
 use mathlib.Core.Path.{_≡_, refl, sym, ap, _∙_}
-use mathlib.Core.Bool.{Bool, true, false}
+use mathlib.Core.Bool.{Bool, true, false, cond}
 use mathlib.Core.List.{List, [], _∷_}
 use Prim.Native.Nat.{ℕ, zero, suc, _<_, _≤_, _+_, _-_}
 use native.Mathlib.Numerals.{add-one}
@@ -12,7 +12,7 @@ use lib.ListN.{length, getD, take, drop, drop-of-length-le}
 use lib.Seq.{drop-cons}
 use mathlib.Core.Logic.{⊎-elim}
 use Rattle.lines.proofs.PartLaws.{rest, lt-or-le}
-use Rattle.lines.specs.Lines.{choose, before, upTo, splitOn, onFirst, ended, linesOf, letter}
+use Rattle.lines.specs.Lines.{before, upTo, splitOn, onFirst, ended, linesOf, letter}
 
 pub before-here : (b i : ℕ) (s : List ℕ) → i < length s → getD s i 0 ≡ b → before b (drop i s) ≡ 0
 unfolding before
@@ -31,7 +31,7 @@ unfolding before
 before-le b [] = omega arith
 before-le b (x ∷ xs) = by (eqb x b) (before-le b xs)
   where
-    by : (t : Bool) → before b xs ≤ length xs → choose t 0 (suc (before b xs)) ≤ suc (length xs)
+    by : (t : Bool) → before b xs ≤ length xs → cond t 0 (suc (before b xs)) ≤ suc (length xs)
     by true h = omega arith
     by false h = omega arith
 
@@ -41,10 +41,10 @@ unfolding before splitOn
 split-more b [] h = absurd (omega arith)
 split-more b (x ∷ xs) h = by (eqb x b) h (split-more b xs)
   where
-    by : (t : Bool) → choose t 0 (suc (before b xs)) < suc (length xs)
+    by : (t : Bool) → cond t 0 (suc (before b xs)) < suc (length xs)
         → (before b xs < length xs → splitOn b xs ≡ take (before b xs) xs ∷ splitOn b (drop (before b xs + 1) xs))
-        → choose t ([] ∷ splitOn b xs) (onFirst x (splitOn b xs))
-        ≡ take (choose t 0 (suc (before b xs))) (x ∷ xs) ∷ splitOn b (drop (choose t 0 (suc (before b xs)) + 1) (x ∷ xs))
+        → cond t ([] ∷ splitOn b xs) (onFirst x (splitOn b xs))
+        ≡ take (cond t 0 (suc (before b xs))) (x ∷ xs) ∷ splitOn b (drop (cond t 0 (suc (before b xs)) + 1) (x ∷ xs))
     by true h r = refl
     by false h r =
         let e : suc (before b xs) + 1 ≡ suc (before b xs + 1) = omega arith in
@@ -56,8 +56,8 @@ unfolding before splitOn
 split-last b [] h = refl
 split-last b (x ∷ xs) h = by (eqb x b) h (split-last b xs)
   where
-    by : (t : Bool) → suc (length xs) ≤ choose t 0 (suc (before b xs)) → (length xs ≤ before b xs → splitOn b xs ≡ xs ∷ [])
-        → choose t ([] ∷ splitOn b xs) (onFirst x (splitOn b xs)) ≡ (x ∷ xs) ∷ []
+    by : (t : Bool) → suc (length xs) ≤ cond t 0 (suc (before b xs)) → (length xs ≤ before b xs → splitOn b xs ≡ xs ∷ [])
+        → cond t ([] ∷ splitOn b xs) (onFirst x (splitOn b xs)) ≡ (x ∷ xs) ∷ []
     by true h r = absurd (omega arith)
     by false h r = rw (r (omega arith))
 
@@ -96,7 +96,7 @@ unfolding upTo
 up-le b [] = omega arith
 up-le b (x ∷ xs) = by (eqb (upTo b xs) 0) (eqb x b) (up-le b xs)
   where
-    by : (t u : Bool) → upTo b xs ≤ length xs → choose t (choose u 1 0) (suc (upTo b xs)) ≤ suc (length xs)
+    by : (t u : Bool) → upTo b xs ≤ length xs → cond t (cond u 1 0) (suc (upTo b xs)) ≤ suc (length xs)
     by true true h = omega arith
     by true false h = omega arith
     by false u h = omega arith
@@ -126,7 +126,7 @@ unfolding splitOn
 split-length b [] = omega arith
 split-length b (x ∷ xs) = by (eqb x b) (splitOn b xs) (split-length b xs)
   where
-    by : (t : Bool) (l : List (List ℕ)) → length l ≤ length xs + 1 → length (choose t ([] ∷ l) (onFirst x l)) ≤ suc (length xs) + 1
+    by : (t : Bool) (l : List (List ℕ)) → length l ≤ length xs + 1 → length (cond t ([] ∷ l) (onFirst x l)) ≤ suc (length xs) + 1
     by true l h = omega arith
     by false [] h = omega arith
     by false (f ∷ fs) h = omega arith
@@ -141,7 +141,7 @@ ended-tail : (b x : ℕ) (xs : List ℕ) → upTo b (x ∷ xs) ≡ suc (length x
 unfolding upTo
 ended-tail b x xs h = by (eqb (upTo b xs) 0) (eqb x b) refl h
   where
-    by : (t u : Bool) → eqb (upTo b xs) 0 ≡ t → choose t (choose u 1 0) (suc (upTo b xs)) ≡ suc (length xs) → upTo b xs ≡ length xs
+    by : (t u : Bool) → eqb (upTo b xs) 0 ≡ t → cond t (cond u 1 0) (suc (upTo b xs)) ≡ suc (length xs) → upTo b xs ≡ length xs
     by true true e h = omega (arith, eqb-true (upTo b xs) 0 e)
     by true false e h = absurd (omega arith)
     by false u e h = omega arith
@@ -157,8 +157,8 @@ unfolding before upTo
 ended-before b [] h l = absurd (omega arith)
 ended-before b (x ∷ xs) h l = by (eqb x b) (eqb (upTo b xs) 0) refl h (ended-before b xs (ended-tail b x xs h))
   where
-    by : (t u : Bool) → eqb (upTo b xs) 0 ≡ u → choose u (choose t 1 0) (suc (upTo b xs)) ≡ suc (length xs)
-        → (0 < length xs → before b xs < length xs) → choose t 0 (suc (before b xs)) < suc (length xs)
+    by : (t u : Bool) → eqb (upTo b xs) 0 ≡ u → cond u (cond t 1 0) (suc (upTo b xs)) ≡ suc (length xs)
+        → (0 < length xs → before b xs < length xs) → cond t 0 (suc (before b xs)) < suc (length xs)
     by true u e h r = omega arith
     by false true e h r = absurd (omega arith)
     by false false e h r =

@@ -1,23 +1,18 @@
 -- ASCII lines, fields parted by one space, each line ended by byte 10.
 use Prim.Native.Nat.{ℕ, zero, suc}
-use mathlib.Core.Bool.{Bool, true, false}
+use mathlib.Core.Bool.{Bool, true, false, cond}
 use mathlib.Core.List.{List, [], _∷_}
 use lib.Dec.{eqb}
-
--- the first where the test holds, else the second
-abbrev pub choose : {A : Type 0} → Bool → A → A → A
-choose true a b = a
-choose false a b = b
 
 -- how many bytes stand before the first b
 unfoldable pub before : ℕ → List ℕ → ℕ
 before b [] = 0
-before b (x ∷ xs) = choose (eqb x b) 0 (suc (before b xs))
+before b (x ∷ xs) = cond (eqb x b) 0 (suc (before b xs))
 
 -- the length up to and with the last b; 0 where there is none
 unfoldable pub upTo : ℕ → List ℕ → ℕ
 upTo b [] = 0
-upTo b (x ∷ xs) = choose (eqb (upTo b xs) 0) (choose (eqb x b) 1 0) (suc (upTo b xs))
+upTo b (x ∷ xs) = cond (eqb (upTo b xs) 0) (cond (eqb x b) 1 0) (suc (upTo b xs))
 
 abbrev pub onFirst : ℕ → List (List ℕ) → List (List ℕ)
 onFirst x [] = (x ∷ []) ∷ []
@@ -26,7 +21,7 @@ onFirst x (f ∷ fs) = (x ∷ f) ∷ fs
 -- the pieces between the bytes b: the fields of a line, where b is the space
 unfoldable pub splitOn : ℕ → List ℕ → List (List ℕ)
 splitOn b [] = [] ∷ []
-splitOn b (x ∷ xs) = choose (eqb x b) ([] ∷ splitOn b xs) (onFirst x (splitOn b xs))
+splitOn b (x ∷ xs) = cond (eqb x b) ([] ∷ splitOn b xs) (onFirst x (splitOn b xs))
 
 -- all pieces but the last
 unfoldable pub ended : List (List ℕ) → List (List ℕ)

@@ -3,3 +3,4 @@ pub mod Tags
 pub mod Scanning
 pub mod Turns
 pub mod Whole
+pub mod Rows

@@ -21,7 +21,7 @@ use Rattle.machine.specs.Step.{stateAfter}
 use Rattle.records.specs.Records.{rowOf}
 use Rattle.machine.proofs.Joined.{up-to-full}
 use Rattle.machine.proofs.Whole.{stands}
-use Rattle.lines.specs.Lines.{choose, before, splitOn, ended, letter, linesOf}
+use Rattle.lines.specs.Lines.{before, splitOn, ended, letter, linesOf}
 use Rattle.decimal.specs.declared.Natural.{Natural}
 use Rattle.decimal.specs.declared.Natural.the-variants as natural
 use Rattle.decimal.specs.Decimal.{naturalOf}
@@ -63,11 +63,11 @@ unfolding secondOf
 sound-second s at e h a = by (ltb (before 10 s) (length s)) (guardsOf (h .variables) (h .locks) (splitOn 32 (take (before 10 s) s)))
   where
     on : (g : GuardLine) (o : Bool) (from : ℕ)
-        → Sound (choose o (record { verdict = finding.Found; head = h; guards = record { given = g .given; locks = g .locks }; from = from; to = e }) (unfound finding.WrongGuards))
+        → Sound (cond o (record { verdict = finding.Found; head = h; guards = record { given = g .given; locks = g .locks }; from = from; to = e }) (unfound finding.WrongGuards))
     on g true from = inl (refl, a)
     on g false from = not-found finding.WrongGuards tt
 
-    by : (q : Bool) (g : GuardLine) → Sound (choose q (withGuards (at + before 10 s + 1) e h g) (unfound finding.WrongGuards))
+    by : (q : Bool) (g : GuardLine) → Sound (cond q (withGuards (at + before 10 s + 1) e h g) (unfound finding.WrongGuards))
     by true g = on g (g .ok) (at + before 10 s + 1)
     by false g = not-found finding.WrongGuards tt
 
@@ -76,7 +76,7 @@ abbrev Fit : Headed → Type 0
 Fit headed.Wrong = Unit {0}
 Fit (headed.Of h) = allowed full h ≡ true
 
-fit-counts : (c : Counts) (b : Bool) → allowed full c ≡ b → Fit (choose b (headed.Of c) headed.Wrong)
+fit-counts : (c : Counts) (b : Bool) → allowed full c ≡ b → Fit (cond b (headed.Of c) headed.Wrong)
 fit-counts c true e = e
 fit-counts c false e = tt
 
@@ -90,7 +90,7 @@ fit-head : (fs : List (List ℕ)) → Fit (headOf fs)
 unfolding headOf
 fit-head fs = by (eqb (length fs) 4) (eqb (letter (getD fs 0 [])) 72) (checkHead (naturalOf (getD fs 1 [])) (naturalOf (getD fs 2 [])) (naturalOf (getD fs 3 []))) (fit-check (naturalOf (getD fs 1 [])) (naturalOf (getD fs 2 [])) (naturalOf (getD fs 3 [])))
   where
-    by : (p q : Bool) (r : Headed) → Fit r → Fit (choose p (choose q r headed.Wrong) headed.Wrong)
+    by : (p q : Bool) (r : Headed) → Fit r → Fit (cond p (cond q r headed.Wrong) headed.Wrong)
     by true true r f = f
     by true false r f = tt
     by false q r f = tt
@@ -99,7 +99,7 @@ sound-first : (s : List ℕ) (e : ℕ) → Sound (firstOf s e)
 unfolding firstOf
 sound-first s e = by (ltb (before 10 s) (length s)) (headOf (splitOn 32 (take (before 10 s) s))) (fit-head (splitOn 32 (take (before 10 s) s)))
   where
-    by : (q : Bool) (r : Headed) → Fit r → Sound (choose q (behindHead s (before 10 s) e r) (unfound finding.WrongHead))
+    by : (q : Bool) (r : Headed) → Fit r → Sound (cond q (behindHead s (before 10 s) e r) (unfound finding.WrongHead))
     by false r f = not-found finding.WrongHead tt
     by true headed.Wrong f = not-found finding.WrongHead tt
     by true (headed.Of h) f = sound-second (drop (before 10 s + 1) s) (before 10 s + 1) e h f
@@ -108,7 +108,7 @@ sound : (s : List ℕ) → Sound (traceOf s)
 unfolding traceOf
 sound s = by (ltb most (length s)) (trailerOf s)
   where
-    by : (q : Bool) (t : Trailer) → Sound (choose q (unfound finding.TooLong) (behindTrailer s t))
+    by : (q : Bool) (t : Trailer) → Sound (cond q (unfound finding.TooLong) (behindTrailer s t))
     by true t = not-found finding.TooLong tt
     by false trailer.Wrong = not-found finding.WrongTrailer tt
     by false (trailer.At e) = sound-first (take e s) e

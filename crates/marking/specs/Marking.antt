@@ -1,4 +1,5 @@
 -- The marking of a whole trace, which document 01 calls a paper: finding it, then its event lines, one after the other.
+use mathlib.Core.Bool.{cond}
 use Prim.Native.Nat.{ℕ, zero, suc}
 use mathlib.Core.Path.{_≡_}
 use mathlib.Core.List.{List, [], _∷_, reverse}
@@ -10,7 +11,7 @@ use Rattle.rules.specs.Limits.{Limits, full, lineAfter, allowed}
 use Rattle.rules.specs.Rules.{verdict, Marked, accepted, refused, unless}
 use Rattle.machine.specs.Step.{stateAfter}
 use Rattle.records.specs.Records.{rowOf}
-use Rattle.lines.specs.Lines.{choose, splitOn, linesOf}
+use Rattle.lines.specs.Lines.{splitOn, linesOf}
 use Rattle.events.specs.declared.Reading.{Reading}
 use Rattle.events.specs.declared.Reading.the-variants as reading
 use Rattle.events.specs.Events.{eventOf}
@@ -89,13 +90,13 @@ reported (Broken rule line) = refused rule line
 abbrev pub caseOf : ℕ → Marked → Verdict
 caseOf n accepted = Accepted n
 caseOf n (refused k line) =
-    choose (leb 10 k) (Broken k line)
-    (choose (eqb k 9) (EventLimit line)
-    (choose (eqb k 5) (Undeclared line)
-    (choose (eqb k 4) (NoEvent line)
-    (choose (eqb k 6) WrongGuards
-    (choose (eqb k 3) WrongHead
-    (choose (eqb k 2) WrongTrailer
+    cond (leb 10 k) (Broken k line)
+    (cond (eqb k 9) (EventLimit line)
+    (cond (eqb k 5) (Undeclared line)
+    (cond (eqb k 4) (NoEvent line)
+    (cond (eqb k 6) WrongGuards
+    (cond (eqb k 3) WrongHead
+    (cond (eqb k 2) WrongTrailer
     TooLong))))))
 
 -- what is said after the events es, the latest first, the state that they leave, and their records
@@ -121,7 +122,7 @@ ranLines h es ls = ranWith h (readLines full h es ls) (markLines full h es ls)
 
 -- any bytes as the part that holds the events; counts that no head may have are 3
 unfoldable pub ranOf : Counts → List ℕ → Ran
-ranOf h s = choose (allowed full h) (ranLines h [] (partLines s)) (ranWith h [] (refused 3 1))
+ranOf h s = cond (allowed full h) (ranLines h [] (partLines s)) (ranWith h [] (refused 3 1))
 
 -- a whole trace
 unfoldable pub markedRan : List ℕ → Ran

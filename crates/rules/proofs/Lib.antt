@@ -5,3 +5,4 @@ pub mod Projections
 pub mod ShortTraces
 pub mod Signed
 pub mod Simulation
+pub mod Bounds

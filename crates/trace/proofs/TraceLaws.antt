@@ -1,7 +1,7 @@
 -- Laws of the head, the guards and the trailer.
 -- Assumes nothing.
 use mathlib.Core.Path.{_≡_, refl, sym, ap, _∙_}
-use mathlib.Core.Bool.{Bool, true, false, _&&_}
+use mathlib.Core.Bool.{Bool, true, false, _&&_, cond}
 use mathlib.Core.List.{List, [], _∷_}
 use Prim.Native.Nat.{ℕ, zero, suc, _≤_, _<_, _+_, _-_}
 use native.Mathlib.Omega.{arith}
@@ -12,7 +12,7 @@ use lib.ListN.{length, getD, take, drop, set, length-take, length-drop, drop-of-
 use lib.Seq.{drop-cons, length-take-le, take-take, take-add, drop-at}
 use Rattle.rules.specs.declared.Counts.{Counts}
 use Rattle.rules.specs.Limits.{full, allowed}
-use Rattle.lines.specs.Lines.{choose, before, upTo, splitOn, letter}
+use Rattle.lines.specs.Lines.{before, upTo, splitOn, letter}
 use Rattle.lines.proofs.FieldLaws.{up-le, ended-drop}
 use Rattle.decimal.specs.declared.Natural.{Natural}
 use Rattle.decimal.specs.declared.Natural.the-variants as natural
@@ -57,7 +57,7 @@ unfolding allowed
 counts-variables c h e = by (leb 1 (c .threads)) (leb (c .threads) 8) (leb 1 (c .variables)) (leb (c .variables) 16) refl (leb (c .locks) 8) e
   where
     by : (p q r s : Bool) → leb (c .variables) 16 ≡ s → (t : Bool)
-        → choose (p && q && r && s && t) (headed.Of c) headed.Wrong ≡ headed.Of h → h .variables ≤ 16
+        → cond (p && q && r && s && t) (headed.Of c) headed.Wrong ≡ headed.Of h → h .variables ≤ 16
     by true true true true k true e = let d : c ≡ h = cc in omega (arith, leb-true (c .variables) 16 k, ap (λ (z : Counts). z .variables) d)
     by true true true true k false e = absurd (let z : _≡_ {A = ℕ} 0 1 = cc in omega arith)
     by true true true false k t e = absurd (let z : _≡_ {A = ℕ} 0 1 = cc in omega arith)
@@ -77,7 +77,7 @@ head-variables fs h e =
     by (eqb (length fs) 4) (eqb (letter (getD fs 0 [])) 72) (checkHead (naturalOf (getD fs 1 [])) (naturalOf (getD fs 2 [])) (naturalOf (getD fs 3 []))) e
     (checked-variables (naturalOf (getD fs 1 [])) (naturalOf (getD fs 2 [])) (naturalOf (getD fs 3 [])) h)
   where
-    by : (p q : Bool) (r : Headed) → choose p (choose q r headed.Wrong) headed.Wrong ≡ headed.Of h → (r ≡ headed.Of h → h .variables ≤ 16) → h .variables ≤ 16
+    by : (p q : Bool) (r : Headed) → cond p (cond q r headed.Wrong) headed.Wrong ≡ headed.Of h → (r ≡ headed.Of h → h .variables ≤ 16) → h .variables ≤ 16
     by true true r e k = k e
     by true false r e k = absurd (let z : _≡_ {A = ℕ} 0 1 = cc in omega arith)
     by false q r e k = absurd (let z : _≡_ {A = ℕ} 0 1 = cc in omega arith)
@@ -87,7 +87,7 @@ check-place : (at e : ℕ) (n : Natural) → checkAt at n ≡ trailer.At e → e
 check-place at e natural.Bad h = absurd (let z : _≡_ {A = ℕ} 0 1 = cc in omega arith)
 check-place at e (natural.Of n) h = by (eqb n at) h
   where
-    by : (q : Bool) → choose q (trailer.At at) trailer.Wrong ≡ trailer.At e → e ≡ at
+    by : (q : Bool) → cond q (trailer.At at) trailer.Wrong ≡ trailer.At e → e ≡ at
     by true h = cc
     by false h = absurd (let z : _≡_ {A = ℕ} 0 1 = cc in omega arith)
 
@@ -99,7 +99,7 @@ trailer-at s e h =
     n : Natural
     n = trailerNumber (splitOn 32 (take (length s - 1 - lastLine s) (drop (lastLine s) s)))
 
-    by : (q : Bool) (t : Trailer) → choose q t trailer.Wrong ≡ trailer.At e → (t ≡ trailer.At e → e ≡ lastLine s) → e ≡ lastLine s
+    by : (q : Bool) (t : Trailer) → cond q t trailer.Wrong ≡ trailer.At e → (t ≡ trailer.At e → e ≡ lastLine s) → e ≡ lastLine s
     by true t h k = k h
     by false t h k = absurd (let z : _≡_ {A = ℕ} 0 1 = cc in omega arith)
 
@@ -139,7 +139,7 @@ up-take b [] = refl
 up-take b (x ∷ xs) = by (eqb (upTo b xs) 0) (eqb x b) refl refl (up-take b xs)
   where
     by : (t w : Bool) → eqb (upTo b xs) 0 ≡ t → eqb x b ≡ w → upTo b (take (upTo b xs) xs) ≡ upTo b xs
-        → upTo b (take (choose t (choose w 1 0) (suc (upTo b xs))) (x ∷ xs)) ≡ choose t (choose w 1 0) (suc (upTo b xs))
+        → upTo b (take (cond t (cond w 1 0) (suc (upTo b xs))) (x ∷ xs)) ≡ cond t (cond w 1 0) (suc (upTo b xs))
     by true true e f r = rw (f)
     by true false e f r = refl
     by false w e f r = rw (r, e)
@@ -160,12 +160,12 @@ module _ (e : ℕ) (w : List ℕ) (l : e ≤ length w) (whole : upTo 10 (take e 
   lies-second s at h k = by (ltb (before 10 s) (length s)) refl (guardsOf (h .variables) (h .locks) (splitOn 32 (take (before 10 s) s)))
     where
       on : (a : ℕ) (g : GuardLine) (o : Bool) → a ≤ e
-          → Lies (choose o (record { verdict = verdict.Found; head = h; guards = record { given = g .given; locks = g .locks }; from = a; to = e }) (refused verdict.WrongGuards)) w
+          → Lies (cond o (record { verdict = verdict.Found; head = h; guards = record { given = g .given; locks = g .locks }; from = a; to = e }) (refused verdict.WrongGuards)) w
       on a g true m = record { start = m; end = l; ended = whole }
       on a g false m = refused-lies verdict.WrongGuards w
 
       by : (q : Bool) → ltb (before 10 s) (length s) ≡ q → (g : GuardLine)
-          → Lies (choose q (withGuards (at + before 10 s + 1) e h g) (refused verdict.WrongGuards)) w
+          → Lies (cond q (withGuards (at + before 10 s + 1) e h g) (refused verdict.WrongGuards)) w
       by false r g = refused-lies verdict.WrongGuards w
       by true r g = on (at + before 10 s + 1) g (g .ok) (omega (arith, k, ltb-true (before 10 s) (length s) r))
 
@@ -173,7 +173,7 @@ module _ (e : ℕ) (w : List ℕ) (l : e ≤ length w) (whole : upTo 10 (take e 
   unfolding firstOf
   lies-first s k = by (ltb (before 10 s) (length s)) refl (headOf (splitOn 32 (take (before 10 s) s)))
     where
-      by : (q : Bool) → ltb (before 10 s) (length s) ≡ q → (h : Headed) → Lies (choose q (behindHead s (before 10 s) e h) (refused verdict.WrongHead)) w
+      by : (q : Bool) → ltb (before 10 s) (length s) ≡ q → (h : Headed) → Lies (cond q (behindHead s (before 10 s) e h) (refused verdict.WrongHead)) w
       by false r h = refused-lies verdict.WrongHead w
       by true r headed.Wrong = refused-lies verdict.WrongHead w
       by true r (headed.Of h) =
@@ -190,7 +190,7 @@ pub lies : (s : List ℕ) → Lies (traceOf s) s
 unfolding traceOf
 lies s = by (ltb most (length s)) (trailerOf s) refl
   where
-    by : (q : Bool) (t : Trailer) → trailerOf s ≡ t → Lies (choose q (refused verdict.TooLong) (behindTrailer s t)) s
+    by : (q : Bool) (t : Trailer) → trailerOf s ≡ t → Lies (cond q (refused verdict.TooLong) (behindTrailer s t)) s
     by true t r = refused-lies verdict.TooLong s
     by false trailer.Wrong r = refused-lies verdict.WrongTrailer s
     by false (trailer.At e) r =

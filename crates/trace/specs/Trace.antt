@@ -1,12 +1,12 @@
 -- A trace, which document 01 calls a paper: its trailer, head and guards, and the part that holds the events.
 use Prim.Native.Nat.{ℕ, _+_, _-_}
 use mathlib.Core.List.{List, [], _∷_}
-use mathlib.Core.Bool.{Bool, true, false}
+use mathlib.Core.Bool.{Bool, true, false, cond}
 use lib.Dec.{eqb, ltb, leb}
 use lib.ListN.{length, getD, take, drop, set, replicate}
 use Rattle.rules.specs.declared.Counts.{Counts}
 use Rattle.rules.specs.Limits.{full, allowed}
-use Rattle.lines.specs.Lines.{choose, before, upTo, splitOn, letter}
+use Rattle.lines.specs.Lines.{before, upTo, splitOn, letter}
 use Rattle.decimal.specs.declared.Natural.{Natural}
 use Rattle.decimal.specs.declared.Natural.the-variants as natural
 use Rattle.decimal.specs.Decimal.{naturalOf}
@@ -27,12 +27,12 @@ most = 65536
 -- Last line, the trailer: `Z n`.
 unfoldable pub trailerNumber : List (List ℕ) → Natural
 trailerNumber fs =
-    choose (eqb (length fs) 2) (choose (eqb (letter (getD fs 0 [])) 90) (naturalOf (getD fs 1 [])) natural.Bad) natural.Bad
+    cond (eqb (length fs) 2) (cond (eqb (letter (getD fs 0 [])) 90) (naturalOf (getD fs 1 [])) natural.Bad) natural.Bad
 
 -- n is the number of bytes before it.
 abbrev pub checkAt : ℕ → Natural → Trailer
 checkAt at natural.Bad = trailer.Wrong
-checkAt at (natural.Of n) = choose (eqb n at) (trailer.At at) trailer.Wrong
+checkAt at (natural.Of n) = cond (eqb n at) (trailer.At at) trailer.Wrong
 
 -- where the last line starts: behind the last byte 10 but the final byte
 unfoldable pub lastLine : List ℕ → ℕ
@@ -41,13 +41,13 @@ lastLine s = upTo 10 (take (length s - 1) s)
 -- each line is ended by byte 10
 unfoldable pub trailerOf : List ℕ → Trailer
 trailerOf s =
-    choose (eqb (getD s (length s - 1) 0) 10)
+    cond (eqb (getD s (length s - 1) 0) 10)
     (checkAt (lastLine s) (trailerNumber (splitOn 32 (take (length s - 1 - lastLine s) (drop (lastLine s) s)))))
     trailer.Wrong
 
 -- threads 1 to 8, variables 1 to 16, locks 0 to 8
 abbrev pub checkCounts : Counts → Headed
-checkCounts c = choose (allowed full c) (headed.Of c) headed.Wrong
+checkCounts c = cond (allowed full c) (headed.Of c) headed.Wrong
 
 abbrev pub checkHead : Natural → Natural → Natural → Headed
 checkHead natural.Bad v l = headed.Wrong
@@ -58,8 +58,8 @@ checkHead (natural.Of t) (natural.Of v) (natural.Of l) = checkCounts (record { t
 -- Line 1: `H t v l`.
 unfoldable pub headOf : List (List ℕ) → Headed
 headOf fs =
-    choose (eqb (length fs) 4)
-    (choose (eqb (letter (getD fs 0 [])) 72)
+    cond (eqb (length fs) 4)
+    (cond (eqb (letter (getD fs 0 [])) 72)
     (checkHead (naturalOf (getD fs 1 [])) (naturalOf (getD fs 2 [])) (naturalOf (getD fs 3 [])))
     headed.Wrong)
     headed.Wrong
@@ -81,7 +81,7 @@ lockLine g = record { ok = true; given = true; locks = g }
 -- each kind is numbered from 0: a lock is below l
 abbrev pub lockOf : ℕ → Natural → Natural
 lockOf l natural.Bad = natural.Bad
-lockOf l (natural.Of n) = choose (ltb n l) (natural.Of n) natural.Bad
+lockOf l (natural.Of n) = cond (ltb n l) (natural.Of n) natural.Bad
 
 abbrev pub withLock : Natural → (ℕ → GuardLine) → GuardLine
 withLock natural.Bad f = badLine
@@ -94,14 +94,14 @@ locksFrom i g l (f ∷ fs) = withLock (lockOf l (naturalOf f)) (λ n. locksFrom 
 
 -- `G -` for no guards
 abbrev pub isDash : List (List ℕ) → Bool
-isDash fs = choose (eqb (length fs) 2) (eqb (letter (getD fs 1 [])) 45) false
+isDash fs = cond (eqb (length fs) 2) (eqb (letter (getD fs 1 [])) 45) false
 
 -- Line 2: `G` and one lock number per variable, of v variables and l locks.
 unfoldable pub guardsOf : ℕ → ℕ → List (List ℕ) → GuardLine
 guardsOf v l fs =
-    choose (eqb (letter (getD fs 0 [])) 71)
-    (choose (isDash fs) dashLine
-    (choose (eqb (length fs) (v + 1)) (locksFrom 0 noLocks l (drop 1 fs)) badLine))
+    cond (eqb (letter (getD fs 0 [])) 71)
+    (cond (isDash fs) dashLine
+    (cond (eqb (length fs) (v + 1)) (locksFrom 0 noLocks l (drop 1 fs)) badLine))
     badLine
 
 -- no head and no guards
@@ -118,14 +118,14 @@ refused r = record { verdict = r; head = noCounts; guards = noGuards; from = 0; 
 -- the events stand from a on, up to the trailer at e
 abbrev pub withGuards : ℕ → ℕ → Counts → GuardLine → Trace
 withGuards a e h g =
-    choose (g .ok)
+    cond (g .ok)
     (record { verdict = verdict.Found; head = h; guards = record { given = g .given; locks = g .locks }; from = a; to = e })
     (refused verdict.WrongGuards)
 
 -- line 2, the first of s, which starts at `at`
 unfoldable pub secondOf : List ℕ → ℕ → ℕ → Counts → Trace
 secondOf s at e h =
-    choose (ltb (before 10 s) (length s))
+    cond (ltb (before 10 s) (length s))
     (withGuards (at + before 10 s + 1) e h (guardsOf (h .variables) (h .locks) (splitOn 32 (take (before 10 s) s))))
     (refused verdict.WrongGuards)
 
@@ -136,7 +136,7 @@ behindHead s a e (headed.Of h) = secondOf (drop (a + 1) s) (a + 1) e h
 -- line 1, the first of s, what stands before the trailer at e
 unfoldable pub firstOf : List ℕ → ℕ → Trace
 firstOf s e =
-    choose (ltb (before 10 s) (length s)) (behindHead s (before 10 s) e (headOf (splitOn 32 (take (before 10 s) s)))) (refused verdict.WrongHead)
+    cond (ltb (before 10 s) (length s)) (behindHead s (before 10 s) e (headOf (splitOn 32 (take (before 10 s) s)))) (refused verdict.WrongHead)
 
 abbrev pub behindTrailer : List ℕ → Trailer → Trace
 behindTrailer s trailer.Wrong = refused verdict.WrongTrailer
@@ -144,7 +144,7 @@ behindTrailer s (trailer.At e) = firstOf (take e s) e
 
 -- Whole paper: 1, 2, 3, 6.
 unfoldable pub traceOf : List ℕ → Trace
-traceOf s = choose (ltb most (length s)) (refused verdict.TooLong) (behindTrailer s (trailerOf s))
+traceOf s = cond (ltb most (length s)) (refused verdict.TooLong) (behindTrailer s (trailerOf s))
 
 -- The part of the lent bytes that holds the events. It is empty after 1, 2, 3 or 6.
 unfoldable pub eventsOf : List ℕ → Trace → List ℕ

@@ -5,7 +5,6 @@ use mathlib.Core.Bool.{Bool, true, false, cond, _&&_}
 use mathlib.Core.List.{List, [], _∷_, _++_, append-assoc, append-nil}
 use Prim.Native.Nat.{ℕ, zero, suc, _≤_, _<_, _+_}
 use native.Mathlib.Omega.{arith}
-use borrow.Author.Tests.{leb-true, ltb-true}
 use lib.Dec.{eqb, ltb, leb}
 use lib.IntN.{ℤ, pos}
 use lib.ListN.{length}
@@ -16,6 +15,7 @@ use Rattle.rules.specs.declared.Kind.{Kind}
 use Rattle.rules.specs.declared.Kind.the-variants as kind
 use Rattle.rules.specs.Events.{letter, place, value, is, onLock}
 use Rattle.rules.specs.Limits.{full, valueWidth, allowed, declared}
+use Rattle.rules.proofs.Bounds.{declared-bounds}
 use Rattle.lines.specs.Lines.{splitOn}
 use Rattle.lines.specs.Lines as lines
 use Rattle.decimal.specs.declared.Natural.the-variants as natural
@@ -89,39 +89,15 @@ event-back n t (kind.Unlock v) ht hv f = lock-back n t v ht hv _ 78 8 (λ e. ome
 event-back n t (kind.PrescientStore v x) ht hv f = value-back n t v ht hv _ 80 9 x (λ e. omega arith) (rw (natural-back t ht, natural-back v hv, integer-back x f)) refl
 event-back n t (kind.PrescientAssign v x) ht hv f = value-back n t v ht hv _ 66 10 x (λ e. omega arith) (rw (natural-back t ht, natural-back v hv, integer-back x f)) refl
 
--- the bounds of what is declared
-pub allowed-bounds : (h : Counts) → allowed full h ≡ true → (h .threads ≤ 8) × (h .variables ≤ 16) × (h .locks ≤ 8)
-unfolding allowed
-allowed-bounds h e = by (leb 1 (h .threads)) (leb (h .threads) 8) refl (leb 1 (h .variables)) (leb (h .variables) 16) refl (leb (h .locks) 8) refl e
-  where
-    by : (p q : Bool) → leb (h .threads) 8 ≡ q → (r s : Bool) → leb (h .variables) 16 ≡ s → (t : Bool) → leb (h .locks) 8 ≡ t
-        → p && q && r && s && t ≡ true → (h .threads ≤ 8) × (h .variables ≤ 16) × (h .locks ≤ 8)
-    by true true a true true b true c e = (leb-true (h .threads) 8 a, leb-true (h .variables) 16 b, leb-true (h .locks) 8 c)
-    by true true a true true b false c e = absurd (let z : _≡_ {A = ℕ} 0 1 = cc in omega arith)
-    by true true a true false b t c e = absurd (let z : _≡_ {A = ℕ} 0 1 = cc in omega arith)
-    by true true a false s b t c e = absurd (let z : _≡_ {A = ℕ} 0 1 = cc in omega arith)
-    by true false a r s b t c e = absurd (let z : _≡_ {A = ℕ} 0 1 = cc in omega arith)
-    by false q a r s b t c e = absurd (let z : _≡_ {A = ℕ} 0 1 = cc in omega arith)
-
-declared-bounds : (h : Counts) (e : Event) → allowed full h ≡ true → declared h e ≡ true → (e .thread ≤ cap) × (place (e .kind) ≤ cap)
-unfolding declared
-declared-bounds h e a d = by (ltb (e .thread) (h .threads)) refl (onLock e) d
-  where
-    both : (p q : Bool) → p && q ≡ true → q ≡ true
-    both true q d = d
-    both false q d = absurd (let z : _≡_ {A = ℕ} 0 1 = cc in omega arith)
-
-    by : (p : Bool) → ltb (e .thread) (h .threads) ≡ p → (o : Bool) → p && ltb (place (e .kind)) (cond o (h .locks) (h .variables)) ≡ true
-        → (e .thread ≤ cap) × (place (e .kind) ≤ cap)
-    by true r true d = (omega (arith, ltb-true (e .thread) (h .threads) r, allowed-bounds h a), omega (arith, ltb-true (place (e .kind)) (h .locks) d, allowed-bounds h a))
-    by true r false d = (omega (arith, ltb-true (e .thread) (h .threads) r, allowed-bounds h a), omega (arith, ltb-true (place (e .kind)) (h .variables) d, allowed-bounds h a))
-    by false r o d = absurd (let z : _≡_ {A = ℕ} 0 1 = cc in omega arith)
+-- what is declared is below the cap
+declared-capped : (h : Counts) (e : Event) → allowed full h ≡ true → declared h e ≡ true → (e .thread ≤ cap) × (place (e .kind) ≤ cap)
+declared-capped h e a d = let b = declared-bounds h e a d in (omega arith, omega arith)
 
 -- Writing an event as its line and reading it back gives the event, for every declared event whose value is in range.
 pub written-read : (h : Counts) (n : ℕ) (e : Event) → allowed full h ≡ true → Declared h n e → readingOf h n (eventLine e) ≡ reading.Of e
 unfolding readingOf
 written-read h n e a d =
-    let b = declared-bounds h e a (d .known) in
+    let b = declared-capped h e a (d .known) in
     let r : eventOf n (eventLine e) ≡ reading.Of e =
     ap (λ (i : ℕ). eventOf i (eventLine e)) (sym (d .at)) ∙ event-back (e .line) (e .thread) (e .kind) (b .0) (b .1) (d .fits) in
     rw (r, d .known)

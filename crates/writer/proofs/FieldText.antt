@@ -1,7 +1,7 @@
 -- The lines and fields of a text that was put together from them.
 -- Assumes nothing.
 use mathlib.Core.Path.{_≡_, refl, sym, ap, _∙_}
-use mathlib.Core.Bool.{Bool, true, false}
+use mathlib.Core.Bool.{Bool, true, false, cond}
 use mathlib.Core.List.{List, [], _∷_, _++_, append-assoc, append-nil}
 use mathlib.Core.Logic.{⊎-elim}
 use Prim.Native.Nat.{ℕ, zero, suc, _≤_, _<_, _+_, _-_, _/_, _%_}
@@ -11,7 +11,7 @@ use lib.Dec.{eqb}
 use lib.IntN.{ℤ, pos, negsuc, natAbs}
 use lib.ListN.{length, take, drop, length-append}
 use lib.Seq.{take-at, drop-at}
-use Rattle.lines.specs.Lines.{choose, before, upTo, splitOn, linesOf}
+use Rattle.lines.specs.Lines.{before, upTo, splitOn, linesOf}
 use Rattle.lines.proofs.PartLaws.{lt-or-le}
 use Rattle.lines.proofs.FieldLaws.{split-more, split-last, lines-more}
 use Rattle.decimal.specs.Text.{digitsIn, naturalText, isNegative, integerText, rowText}
@@ -24,7 +24,7 @@ free-tail : (b x : ℕ) (xs : List ℕ) → Free b (x ∷ xs) → (x ≡ b → �
 unfolding before
 free-tail b x xs h = by (eqb x b) refl h
   where
-    by : (q : Bool) → eqb x b ≡ q → choose q 0 (suc (before b xs)) ≡ suc (length xs) → (x ≡ b → ⊥) × Free b xs
+    by : (q : Bool) → eqb x b ≡ q → cond q 0 (suc (before b xs)) ≡ suc (length xs) → (x ≡ b → ⊥) × Free b xs
     by true e h = absurd (omega arith)
     by false e h = (eqb-false x b e, omega arith)
 

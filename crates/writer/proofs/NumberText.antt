@@ -13,7 +13,7 @@ use lib.IntN.{ℤ, pos, negsuc, natAbs}
 use lib.ListN.{length, getD, drop, length-append}
 use mir.Val.{SFits, hbits}
 use Rattle.rules.specs.Limits.{valueWidth}
-use Rattle.lines.specs.Lines.{choose, before}
+use Rattle.lines.specs.Lines.{before}
 use Rattle.lines.proofs.PartLaws.{lt-or-le}
 use Rattle.decimal.specs.declared.Natural.{Natural}
 use Rattle.decimal.specs.declared.Natural.the-variants as natural

@@ -1,7 +1,7 @@
 -- The canonical text of a trace is found and read back as it was.
 -- Assumes nothing.
 use mathlib.Core.Path.{_≡_, refl, sym, ap, _∙_}
-use mathlib.Core.Bool.{Bool, true, false, _&&_}
+use mathlib.Core.Bool.{Bool, true, false, _&&_, cond}
 use mathlib.Core.List.{List, [], _∷_, _++_, append-assoc, append-nil}
 use Prim.Native.Nat.{ℕ, zero, suc, _≤_, _<_, _+_, _-_}
 use native.Mathlib.Omega.{arith}
@@ -12,7 +12,8 @@ use lib.Seq.{take-at, drop-at, getD-at, set-at}
 use Rattle.rules.specs.declared.Counts.{Counts}
 use Rattle.rules.specs.declared.Event.{Event}
 use Rattle.rules.specs.Limits.{full, allowed, firstLine}
-use Rattle.lines.specs.Lines.{choose, before, upTo, splitOn, ended, linesOf, letter}
+use Rattle.rules.proofs.Bounds.{allowed-bounds}
+use Rattle.lines.specs.Lines.{before, upTo, splitOn, ended, linesOf, letter}
 use Rattle.decimal.specs.declared.Natural.{Natural}
 use Rattle.decimal.specs.declared.Natural.the-variants as natural
 use Rattle.decimal.specs.Decimal.{cap, naturalOf}
@@ -33,7 +34,7 @@ use Rattle.trace.proofs.TraceLaws.{first-some, second-some, trace-short}
 use Rattle.writer.specs.Text.{rowLine, headLine, guardLine, eventLine, trailerLine, line, eventsText, bodyText, traceText, allBelow, padded, Guarded, none, given, Declared, AllDeclared, done, more, foundText, allRead}
 use Rattle.writer.proofs.NumberText.{natural-back}
 use Rattle.writer.proofs.FieldText.{Free, free-nil, free-cons, before-end, lines-free, texts, up-line, up-join, up-free, up-append}
-use Rattle.writer.proofs.EventBack.{row-fields, row-free, allowed-bounds, written-read, event-free}
+use Rattle.writer.proofs.EventBack.{row-fields, row-free, written-read, event-free}
 
 -- a line at the front of a text: where it ends, and what is behind it
 pub record Cut (t u s : List ℕ) : Type 0 where
@@ -176,7 +177,7 @@ events-whole (e ∷ es) = up-join 10 (line (eventLine e)) (eventsText es) (up-li
 guard-free : (c : Counts) (g : Guards) → Free 10 (guardLine (c .variables) g)
 guard-free c g = by (g .given)
   where
-    by : (q : Bool) → Free 10 (choose q (rowLine 71 (take (c .variables) (g .locks))) (71 ∷ 32 ∷ 45 ∷ []))
+    by : (q : Bool) → Free 10 (cond q (rowLine 71 (take (c .variables) (g .locks))) (71 ∷ 32 ∷ 45 ∷ []))
     by true = row-free 71 (take (c .variables) (g .locks)) (λ e. omega arith)
     by false =
         free-cons 10 71 (32 ∷ 45 ∷ []) (λ e. omega arith) (free-cons 10 32 (45 ∷ []) (λ e. omega arith) (free-cons 10 45 [] (λ e. omega arith) (free-nil 10)))

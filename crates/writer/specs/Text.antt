@@ -2,7 +2,7 @@
 use Prim.Native.Nat.{ℕ, _+_, _*_, _-_}
 use mathlib.Core.Path.{_≡_}
 use mathlib.Core.List.{List, [], _∷_, _++_}
-use mathlib.Core.Bool.{Bool, true, false, _&&_}
+use mathlib.Core.Bool.{Bool, true, false, _&&_, cond}
 use lib.Dec.{ltb}
 use lib.IntN.{ℤ}
 use lib.ListN.{length, take, replicate}
@@ -12,7 +12,6 @@ use Rattle.rules.specs.declared.Event.{Event}
 use Rattle.rules.specs.declared.Kind.{Kind}
 use Rattle.rules.specs.Events.{letter, place, value, onLock}
 use Rattle.rules.specs.Limits.{valueWidth, declared, lineAfter}
-use Rattle.lines.specs.Lines.{choose}
 use Rattle.decimal.specs.Text.{naturalText, integerText, rowText, room}
 use Rattle.events.specs.declared.Reading.{Reading}
 use Rattle.events.specs.declared.Reading.the-variants as reading
@@ -35,7 +34,7 @@ headLine c = rowLine 72 (c .threads ∷ c .variables ∷ c .locks ∷ [])
 
 -- `G` and one lock number per variable, or `G -`
 abbrev pub guardRow : Bool → List ℕ → List ℕ
-guardRow q ns = choose q (rowLine 71 ns) (71 ∷ 32 ∷ 45 ∷ [])
+guardRow q ns = cond q (rowLine 71 ns) (71 ∷ 32 ∷ 45 ∷ [])
 
 abbrev pub guardLine : ℕ → Guards → List ℕ
 guardLine v g = guardRow (g .given) (take v (g .locks))
@@ -43,7 +42,7 @@ guardLine v g = guardRow (g .given) (take v (g .locks))
 -- `K t l` and `N t l`; the others are letter, thread, variable, value
 unfoldable pub eventLine : Event → List ℕ
 eventLine e =
-    choose (onLock e)
+    cond (onLock e)
     (rowLine (letter (e .kind)) (e .thread ∷ place (e .kind) ∷ []))
     (valueLine (letter (e .kind)) (e .thread) (place (e .kind)) (value (e .kind)))
 

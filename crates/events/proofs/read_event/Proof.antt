@@ -1,8 +1,7 @@
 -- `events::read_event` meets its contract: 4 goes before 5. Assumes nothing.
 use mathlib.Core.Path.{_≡_, sym, ap, _∙_}
-use mathlib.Core.Bool.{Bool, true, false}
+use mathlib.Core.Bool.{Bool, true, false, cond}
 use Rattle.rules.specs.Limits.{declared}
-use Rattle.lines.specs.Lines.{choose}
 use Rattle.events.specs.declared.Reading.{Reading}
 use Rattle.events.specs.declared.Reading.the-variants as reading
 use Rattle.events.specs.Events.{checked}
@@ -51,7 +50,7 @@ returns-3 : tie.Need-returns-3
 returns-3 c =
     let a = c .before .before .before .before .before .before .args in
     let r = c .before .before .before .r .given in
-    ap (λ (q : Bool). choose q (reading.Of (r .0 .0)) reading.Undeclared) (sym (c .if1 .taken) ∙ c .before .is-declared .ensures)
+    ap (λ (q : Bool). cond q (reading.Of (r .0 .0)) reading.Undeclared) (sym (c .if1 .taken) ∙ c .before .is-declared .ensures)
     ∙ ap (checked (a .h)) (sym (r .1) ∙ c .before .before .before .before .before .event-of .ensures)
 
 -- src/lib.rt:218:1
@@ -59,7 +58,7 @@ returns-4 : tie.Need-returns-4
 returns-4 c =
     let a = c .before .before .before .before .before .before .args in
     let r = c .before .before .before .r .given in
-    ap (λ (q : Bool). choose q (reading.Of (r .0 .0)) reading.Undeclared) (sym (c .if1 .left) ∙ c .before .is-declared .ensures)
+    ap (λ (q : Bool). cond q (reading.Of (r .0 .0)) reading.Undeclared) (sym (c .if1 .left) ∙ c .before .is-declared .ensures)
     ∙ ap (checked (a .h)) (sym (r .1) ∙ c .before .before .before .before .before .event-of .ensures)
 
 pub read-event-spec : {M : Type 1} → statement M

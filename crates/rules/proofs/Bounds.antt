@@ -1,0 +1,38 @@
+-- What is declared is within the limits.
+use Prim.Native.Nat.{ℕ, _≤_, _<_}
+use native.Mathlib.Omega.{arith}
+use mathlib.Core.Path.{_≡_, refl}
+use mathlib.Core.Bool.{Bool, true, false, cond, _&&_}
+use lib.Dec.{ltb, leb}
+use borrow.Author.Tests.{ltb-true, leb-true}
+use Rattle.rules.specs.declared.Event.{Event}
+use Rattle.rules.specs.declared.Counts.{Counts}
+use Rattle.rules.specs.Events.{place, onLock}
+use Rattle.rules.specs.Limits.{full, allowed, declared}
+
+false-true : false ≡ true → ⊥
+false-true e = let z : _≡_ {A = ℕ} 0 1 = cc in omega arith
+
+pub allowed-bounds : (h : Counts) → allowed full h ≡ true → (h .threads ≤ 8) × (h .variables ≤ 16) × (h .locks ≤ 8)
+unfolding allowed
+allowed-bounds h e = by (leb 1 (h .threads)) (leb (h .threads) 8) refl (leb 1 (h .variables)) (leb (h .variables) 16) refl (leb (h .locks) 8) refl e
+  where
+    by : (p q : Bool) → leb (h .threads) 8 ≡ q → (r s : Bool) → leb (h .variables) 16 ≡ s → (t : Bool) → leb (h .locks) 8 ≡ t
+        → p && q && r && s && t ≡ true → (h .threads ≤ 8) × (h .variables ≤ 16) × (h .locks ≤ 8)
+    by true true a true true b true c e = (leb-true (h .threads) 8 a, leb-true (h .variables) 16 b, leb-true (h .locks) 8 c)
+    by true true a true true b false c e = absurd (false-true e)
+    by true true a true false b t c e = absurd (false-true e)
+    by true true a false s b t c e = absurd (false-true e)
+    by true false a r s b t c e = absurd (false-true e)
+    by false q a r s b t c e = absurd (false-true e)
+
+-- thread, and variable or lock, of a declared event
+pub declared-bounds : (h : Counts) (e : Event) → allowed full h ≡ true → declared h e ≡ true → (e .thread < 8) × (place (e .kind) < 16)
+unfolding declared
+declared-bounds h e a d = by (ltb (e .thread) (h .threads)) refl (onLock e) d
+  where
+    by : (p : Bool) → ltb (e .thread) (h .threads) ≡ p → (o : Bool) → p && ltb (place (e .kind)) (cond o (h .locks) (h .variables)) ≡ true
+        → (e .thread < 8) × (place (e .kind) < 16)
+    by true r true d = (omega (arith, ltb-true (e .thread) (h .threads) r, allowed-bounds h a), omega (arith, ltb-true (place (e .kind)) (h .locks) d, allowed-bounds h a))
+    by true r false d = (omega (arith, ltb-true (e .thread) (h .threads) r, allowed-bounds h a), omega (arith, ltb-true (place (e .kind)) (h .variables) d, allowed-bounds h a))
+    by false r o d = absurd (false-true d)
