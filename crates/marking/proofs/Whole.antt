@@ -224,7 +224,7 @@ module _ (s : List ℕ) (t : Trace) (e : t ≡ traceOf s) where
 
 -- ---- the memories
 
-found-allowed : (s : List ℕ) → traceOf s .verdict ≡ finding.Found → allowed full (traceOf s .head) ≡ true
+pub found-allowed : (s : List ℕ) → traceOf s .verdict ≡ finding.Found → allowed full (traceOf s .head) ≡ true
 found-allowed s f = ⊎-elim (λ w. w .1) (λ w. absurd (subst Bad (sym (ap (λ (t : Trace). t .verdict) (w .1)) ∙ f) (w .2))) (sound s)
 
 -- the state that is handed back says the words of the events before the first refusal

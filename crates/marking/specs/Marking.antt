@@ -86,6 +86,26 @@ reported (Undeclared line) = refused 5 line
 reported (EventLimit line) = refused 9 line
 reported (Broken rule line) = refused rule line
 
+abbrev pub numberIn : Marked → ℕ
+numberIn accepted = 0
+numberIn (refused number line) = number
+
+abbrev pub lineIn : Marked → ℕ
+lineIn accepted = 0
+lineIn (refused number line) = line
+
+-- the number of events of an accepted trace
+abbrev pub countIn : Verdict → ℕ
+countIn (Accepted n) = n
+countIn TooLong = 0
+countIn WrongTrailer = 0
+countIn WrongHead = 0
+countIn WrongGuards = 0
+countIn (NoEvent line) = 0
+countIn (Undeclared line) = 0
+countIn (EventLimit line) = 0
+countIn (Broken rule line) = 0
+
 -- the case of each number and line, where n events are before it
 abbrev pub caseOf : ℕ → Marked → Verdict
 caseOf n accepted = Accepted n

@@ -7,7 +7,7 @@ ghost use Rattle.rules.specs.Limits.{lineAfter};
 ghost use mathlib.Core.List.{[]};
 ghost use Rattle.machine.specs.State.{start};
 ghost use Rattle.records.specs.Records.{rowOf};
-ghost use Rattle.marking.specs.Marking.{ranOf, Marks};
+ghost use Rattle.marking.specs.Marking.{reported, numberIn, lineIn, countIn, ranOf, Marks};
 use events::Reading;
 use machine::OnSome;
 use machine::Seen;
@@ -210,5 +210,56 @@ pub fn mark(bytes: &[u8]) -> Ran
         trace::Verdict::WrongTrailer => refuse(h, Verdict::WrongTrailer),
         trace::Verdict::WrongHead => refuse(h, Verdict::WrongHead),
         trace::Verdict::WrongGuards => refuse(h, Verdict::WrongGuards),
+    }
+}
+
+// The number of a verdict; 0 where it is accepted.
+pub fn number_of(v: Verdict) -> u8
+    ensures { λ r. ⌜ r ≡ numberIn (reported v) ⌝ }
+{
+    match v {
+        Verdict::Accepted(_) => 0,
+        Verdict::TooLong => 1,
+        Verdict::WrongTrailer => 2,
+        Verdict::WrongHead => 3,
+        Verdict::WrongGuards => 6,
+        Verdict::NoEvent(_) => 4,
+        Verdict::Undeclared(_) => 5,
+        Verdict::EventLimit(_) => 9,
+        Verdict::Broken(rule, _) => rule,
+    }
+}
+
+// The line of a verdict; 0 where it is accepted.
+pub fn line_of(v: Verdict) -> usize
+    ensures { λ r. ⌜ r ≡ lineIn (reported v) ⌝ }
+{
+    match v {
+        Verdict::Accepted(_) => 0,
+        Verdict::TooLong => 0,
+        Verdict::WrongTrailer => 0,
+        Verdict::WrongHead => 1,
+        Verdict::WrongGuards => 2,
+        Verdict::NoEvent(line) => line,
+        Verdict::Undeclared(line) => line,
+        Verdict::EventLimit(line) => line,
+        Verdict::Broken(_, line) => line,
+    }
+}
+
+// The number of events of a trace that is accepted; 0 of another.
+pub fn count_of(v: Verdict) -> usize
+    ensures { λ r. ⌜ r ≡ countIn v ⌝ }
+{
+    match v {
+        Verdict::Accepted(n) => n,
+        Verdict::TooLong => 0,
+        Verdict::WrongTrailer => 0,
+        Verdict::WrongHead => 0,
+        Verdict::WrongGuards => 0,
+        Verdict::NoEvent(_) => 0,
+        Verdict::Undeclared(_) => 0,
+        Verdict::EventLimit(_) => 0,
+        Verdict::Broken(_, _) => 0,
     }
 }

@@ -1,2 +1,3 @@
 pub mod RecordLaws
+pub mod LetterLaws
 pub mod RowLaws

@@ -11,5 +11,6 @@ pub mod Denied
 pub mod Every
 pub mod Only
 pub mod Few
+pub mod Entries
 pub mod Demand3
 pub mod Examples

@@ -8,3 +8,4 @@ pub mod Demand3
 pub mod View
 pub mod Refusals
 pub mod Order
+pub mod Entries

@@ -1,0 +1,229 @@
+-- The second pass: what the loop knows before each event, and one turn of it.
+use Prim.Native.Nat.{ℕ, zero, suc, _+_, _*_, _-_, _<_, _≤_}
+use native.Mathlib.Decide.{ℕ-discrete}
+use native.Mathlib.Omega.{arith}
+use native.Mathlib.Numerals.{add-one}
+use mathlib.Core.Path.{_≡_, refl, sym, _∙_, ap, ap₂, subst}
+use mathlib.Core.Bool.{Bool, true, false, not, cond, _&&_, _||_, true≢false, false≢true}
+use mathlib.Core.List.{List, [], _∷_, map}
+use lib.Dec.{T, eqb}
+use lib.IntN.{ℤ}
+use lib.ListN.{length, getD, set, replicate, length-set, getD-replicate}
+use lib.Seq.{getD-set-same, getD-set-other}
+use Rattle.rules.specs.declared.Event.{Event}
+use Rattle.rules.specs.declared.Counts.{Counts}
+use Rattle.rules.specs.declared.Kind.{Kind}
+use Rattle.rules.specs.declared.Kind.the-variants.{Use, Assign, Load, Store, Read, Write, Lock, Unlock, PrescientStore, PrescientAssign}
+use Rattle.rules.specs.Events.{K, N, is, locks}
+use Rattle.rules.specs.Limits.{lineAfter}
+use Rattle.rules.specs.Rules.{some}
+use Rattle.serial.specs.Lists.{All}
+use Rattle.serial.specs.Sections as Q
+use Rattle.serial.specs.Sections.{Section}
+use Rattle.serial.proofs.Counted as H
+use Rattle.serial.proofs.Memory.{All-map}
+use Rattle.serial.proofs.Lines.{Falling, Placed, Traced, traced}
+use Rattle.sections.specs.View.{viewed, view}
+use Rattle.sections.specs.Places.{holdsSome}
+use Rattle.sections.specs.Order.{told, sections, lineOf}
+use Rattle.sections.proofs.Valid.{Declared}
+use Rattle.sections.proofs.Cells.{length-view}
+use Rattle.sections.proofs.Ordered.{sections-same}
+use Rattle.ordering.specs.Parts.{Fits, past, levelAfter, busyAfter, heldIn, codeOf, firstAfter, atTop, atEvent, topAfter, bucket, Filled}
+use Rattle.ordering.proofs.Rows.{at, past-length, known-past}
+use Rattle.ordering.proofs.Scanned.{Reads, Levels, levels-start, levels-after, level-range, some-held, Busy, busy-start, busy-after, gains-none, not-acquires, other-holds}
+use Rattle.ordering.proofs.Denying.{room}
+use Rattle.ordering.proofs.Buckets.{Below, Latest, shape, latest-own, latest-other, buckets-after}
+
+-- ---- the sections after one event more
+
+next-shape : (k : Kind) (t ln n : ℕ) (b : Bool) (ss : List (Section ℤ)) → Q.next (viewed t k) (told b) n ss ≡ shape (locks (record { thread = t; line = ln; kind = k })) b t n (viewed t k) ss
+unfolding Q.next locks is
+next-shape (Use v x) t ln n true ss = refl
+next-shape (Use v x) t ln n false ss = refl
+next-shape (Assign v x) t ln n true ss = refl
+next-shape (Assign v x) t ln n false ss = refl
+next-shape (Load v x) t ln n true ss = refl
+next-shape (Load v x) t ln n false ss = refl
+next-shape (Store v x) t ln n true ss = refl
+next-shape (Store v x) t ln n false ss = refl
+next-shape (Read v x) t ln n true ss = refl
+next-shape (Read v x) t ln n false ss = refl
+next-shape (Write v x) t ln n true ss = refl
+next-shape (Write v x) t ln n false ss = refl
+next-shape (Lock l) t ln n true ss = refl
+next-shape (Lock l) t ln n false ss = refl
+next-shape (Unlock l) t ln n true ss = refl
+next-shape (Unlock l) t ln n false ss = refl
+next-shape (PrescientStore v x) t ln n true ss = refl
+next-shape (PrescientStore v x) t ln n false ss = refl
+next-shape (PrescientAssign v x) t ln n true ss = refl
+next-shape (PrescientAssign v x) t ln n false ss = refl
+
+sections-next : (h : Counts) (e : Event) (es : List Event) (t n : ℕ) (lock busy : Bool) → e .thread ≡ t → length es ≡ n → locks e ≡ lock → holdsSome h t es ≡ busy
+    → sections h (e ∷ es) ≡ shape lock busy t (suc n) (view e) (sections h es)
+unfolding sections
+sections-next h e es t n lock busy a b c d =
+    next-shape (e .kind) (e .thread) (e .line) (suc (length es)) (holdsSome h (e .thread) es) (sections h es)
+    ∙ ap₂ (λ l n. shape l (holdsSome h (e .thread) es) (e .thread) (suc n) (view e) (sections h es)) c b
+    ∙ ap (λ u. shape lock (holdsSome h u es) u (suc n) (view e) (sections h es)) a
+    ∙ ap (λ b. shape lock b t (suc n) (view e) (sections h es)) d
+
+-- they fall by their last K, which is one of the events
+pub record Placing (n : ℕ) (ss : List (Section ℤ)) : Type 0 where
+  pub falling : Falling ss
+  pub below : Below (suc n) ss
+  pub above : All (λ (s : Section ℤ). 0 < s .top) ss
+  pub ends : All (λ (s : Section ℤ). s .last ≤ n) ss
+
+pub placing : (h : Counts) (es : List Event) → All (Declared h) es → Placing (length es) (sections h es)
+placing h es d = record {
+  falling = tr .falling;
+  below = All-map (Placed (map view es)) (λ (s : Section ℤ). s .top < suc (length es)) (sections h es) (tr .placed) (λ s p. omega (arith, p .over, p .ends, length-view es));
+  above = All-map (Placed (map view es)) (λ (s : Section ℤ). 0 < s .top) (sections h es) (tr .placed) (λ s p. omega (arith, p .low, p .rise));
+  ends = All-map (Placed (map view es)) (λ (s : Section ℤ). s .last ≤ length es) (sections h es) (tr .placed) (λ s p. omega (arith, p .ends, length-view es));
+}
+  where
+    tr : Traced H.counted (map view es) (sections h es)
+    tr = subst (λ ss. Traced H.counted (map view es) ss) (sym (sections-same h es d)) (traced H.counted (map view es))
+
+module _ (h : Counts) (row : List ℕ) where
+  pub record Filling (scratch levels : List ℕ) (busy : List Bool) (first top : List ℕ) (i : ℕ) : Type 0 where
+    pub upto : i ≤ length row
+    pub levels-are : Levels levels (past row i)
+    pub busy-are : Busy h busy (past row i)
+    pub first-long : length first ≡ 8
+    pub top-long : length top ≡ 8
+    pub firsts : (t : ℕ) → t < 8 → getD first t 0 < 4096
+    pub tops : (t : ℕ) → t < 8 → getD top t 0 ≤ i
+    pub buckets : (p : ℕ) → p < i → getD scratch p 0 ≡ bucket (sections h (past row i)) (suc p)
+    pub latest : (t : ℕ) → t < 8 → holdsSome h t (past row i) ≡ true → Latest t (getD first t 0) (getD top t 0) (sections h (past row i))
+
+  pub filling-start : (scratch : List ℕ) → Filling scratch (replicate 128 4096) (replicate 8 false) (replicate 8 0) (replicate 8 0) 0
+  unfolding past
+  filling-start scratch = record {
+    upto = omega arith;
+    levels-are = levels-start;
+    busy-are = busy-start h;
+    first-long = refl;
+    top-long = refl;
+    firsts = λ t ht. rw (getD-replicate {A = ℕ} 8 t 0 0 ht) (omega arith);
+    tops = λ t ht. rw (getD-replicate {A = ℕ} 8 t 0 0 ht) (omega arith);
+    buckets = λ p q. absurd (omega (arith, q));
+    latest = λ t ht q. absurd (false≢true (sym (getD-replicate 8 t false false ht) ∙ busy-start h .holds t ht ∙ q));
+  }
+
+  module _ (f : Fits h row) (scratch levels : List ℕ) (busy : List Bool) (first top : List ℕ) (i : ℕ) (F : Filling scratch levels busy first top i) where
+    few-past : length (past row i) ≤ 2000
+    few-past = omega (arith, past-length row i, F .upto, f .few)
+
+    pub level-fits : (k t p : ℕ) → Reads k t p (at row i) → (0 < getD levels (t * 16 + p) 0) × (getD levels (t * 16 + p) 0 < 65536)
+    level-fits k t p r = level-range levels (past row i) (F .levels-are) t p (r .thread-low) (r .place-low) few-past
+
+    pub first-fits : (k t a line : ℕ) → t < 8 → line ≡ lineAfter i → i ≤ 2000 → a ≡ firstAfter k (getD busy t false) (getD first t 0) line → a < 4096
+    unfolding firstAfter
+    first-fits k t a line ht el b ea = go (eqb k K && not (getD busy t false)) ea
+      where
+        go : (c : Bool) → a ≡ cond c line (getD first t 0) → a < 4096
+        go true q = omega (arith, q, el, b)
+        go false q = omega (arith, q, F .firsts t ht)
+
+    module _ (b : i < length row) (k t p : ℕ) (r : Reads k t p (at row i)) (long : i < length scratch) (line a code y x up : ℕ)
+        (el : line ≡ lineAfter i) (ea : a ≡ firstAfter k (getD busy t false) (getD first t 0) line) (ec : code ≡ codeOf t a line)
+        (ey : y ≡ atTop k (getD busy t false) (getD scratch (getD top t 0) 0) code) (ex : x ≡ atEvent k code) (eu : up ≡ topAfter k i (getD top t 0))
+        (lv end : ℕ) (any z : Bool) (ev : lv ≡ levelAfter (getD levels (t * 16 + p) 0) k) (ee : end ≡ cond (eqb k K || eqb k N) (h .locks) 0)
+        (en : any ≡ some end (heldIn (set levels (t * 16 + p) lv) t)) (ez : z ≡ busyAfter (getD busy t false) k any) where
+      held-was : holdsSome h t (past row i) ≡ getD busy t false
+      held-was = sym (F .busy-are .holds t (r .thread-low))
+
+      shaped : sections h (at row i ∷ past row i) ≡ shape (eqb k K) (getD busy t false) t (suc i) (view (at row i)) (sections h (past row i))
+      shaped = sections-next h (at row i) (past row i) t i (eqb k K) (getD busy t false) (r .whose) (past-length row i) (r .locking) held-was
+
+      at-line : line ≡ lineOf (suc i)
+      at-line = el ∙ omega arith
+
+      P : Placing i (sections h (past row i))
+      P = subst (λ n. Placing n (sections h (past row i))) (past-length row i) (placing h (past row i) (known-past row h (f .known) i (F .upto)))
+
+      own : getD busy t false ≡ true → Latest t (getD first t 0) (getD top t 0) (sections h (past row i))
+      own q = F .latest t (r .thread-low) (held-was ∙ q)
+
+      new-buckets : (p : ℕ) → p < suc i → getD (set (set scratch (getD top t 0) y) i x) p 0 ≡ bucket (sections h (at row i ∷ past row i)) (suc p)
+      unfolding atTop atEvent firstAfter
+      new-buckets p q =
+          ap₂ (λ y x. getD (set (set scratch (getD top t 0) y) i x) p 0) ey ex
+          ∙ buckets-after i t (getD first t 0) (getD top t 0) line (view (at row i)) (sections h (past row i)) at-line (P .falling) (P .below) scratch long (F .buckets) (eqb k K) (getD busy t false) own code (ec ∙ ap (λ a. codeOf t a line) ea) p q
+          ∙ ap (λ ss. bucket ss (suc p)) (sym shaped)
+
+      L : Levels (set levels (t * 16 + p) lv) (at row i ∷ past row i)
+      L = subst (λ n. Levels (set levels (t * 16 + p) n) (at row i ∷ past row i)) (sym ev) (levels-after levels (past row i) (F .levels-are) k t p (at row i) r few-past)
+
+      asked : (eqb k K || eqb k N) ≡ true → any ≡ holdsSome h t (at row i ∷ past row i)
+      asked q = en ∙ ap (λ n. some n (heldIn (set levels (t * 16 + p) lv) t)) (ee ∙ ap (λ c. cond c (h .locks) 0) q) ∙ some-held (set levels (t * 16 + p) lv) (at row i ∷ past row i) L h (room h (f .head) .locks) t (r .thread-low)
+
+      B : Busy h (set busy t z) (at row i ∷ past row i)
+      B = subst (λ n. Busy h (set busy t n) (at row i ∷ past row i)) (sym ez) (busy-after h (past row i) k t p (at row i) r any busy (F .busy-are) asked)
+
+      new-first : (u : ℕ) → u < 8 → getD (set first t a) u 0 < 4096
+      new-first u hu = go (ℕ-discrete u t)
+        where
+          go : Dec (u ≡ t) → getD (set first t a) u 0 < 4096
+          go (yes q) = rw (q, getD-set-same first t a 0 (omega (arith, r .thread-low, F .first-long))) (first-fits k t a line (r .thread-low) el (omega (arith, b, f .few)) ea)
+          go (no q) = rw (getD-set-other first t u a 0 q) (F .firsts u hu)
+
+      up-low : up ≤ i
+      unfolding topAfter
+      up-low = go (eqb k K) eu
+        where
+          go : (c : Bool) → up ≡ cond c i (getD top t 0) → up ≤ i
+          go true q = omega (arith, q)
+          go false q = omega (arith, q, F .tops t (r .thread-low))
+
+      new-top : (u : ℕ) → u < 8 → getD (set top t up) u 0 ≤ suc i
+      new-top u hu = go (ℕ-discrete u t)
+        where
+          go : Dec (u ≡ t) → getD (set top t up) u 0 ≤ suc i
+          go (yes q) = rw (q, getD-set-same top t up 0 (omega (arith, r .thread-low, F .top-long))) (omega (arith, up-low))
+          go (no q) = rw (getD-set-other top t u up 0 q) (omega (arith, F .tops u hu))
+
+      -- a thread that holds something after an event other than a K did so before it
+      held-before : holdsSome h t (at row i ∷ past row i) ≡ true → eqb k K ≡ false → getD busy t false ≡ true
+      held-before q n = sym held-was ∙ gains-none h t (at row i) (past row i) (λ l. not-acquires t l (at row i) (r .locking ∙ n)) q
+
+      new-latest : (u : ℕ) → u < 8 → holdsSome h u (at row i ∷ past row i) ≡ true → Latest u (getD (set first t a) u 0) (getD (set top t up) u 0) (sections h (at row i ∷ past row i))
+      unfolding firstAfter topAfter
+      new-latest u hu q = subst (λ ss. Latest u (getD (set first t a) u 0) (getD (set top t up) u 0) ss) (sym shaped) (go (ℕ-discrete t u))
+        where
+          mine : holdsSome h t (at row i ∷ past row i) ≡ true → Latest t a up (shape (eqb k K) (getD busy t false) t (suc i) (view (at row i)) (sections h (past row i)))
+          mine q =
+              rw (ea, eu)
+              (latest-own i t (getD first t 0) (getD top t 0) line (view (at row i)) (sections h (past row i)) at-line (eqb k K) (getD busy t false) own (held-before q))
+
+          go : Dec (t ≡ u) → Latest u (getD (set first t a) u 0) (getD (set top t up) u 0) (shape (eqb k K) (getD busy t false) t (suc i) (view (at row i)) (sections h (past row i)))
+          go (yes o) =
+              subst (λ u. Latest u (getD (set first t a) u 0) (getD (set top t up) u 0) (shape (eqb k K) (getD busy t false) t (suc i) (view (at row i)) (sections h (past row i)))) o
+              (rw (getD-set-same first t a 0 (omega (arith, r .thread-low, F .first-long)), getD-set-same top t up 0 (omega (arith, r .thread-low, F .top-long)))
+              (mine (subst (λ u. holdsSome h u (at row i ∷ past row i) ≡ true) (sym o) q)))
+          go (no o) =
+              rw (getD-set-other first t u a 0 (λ x. o (sym x)), getD-set-other top t u up 0 (λ x. o (sym x)))
+              (latest-other i t (getD first t 0) (getD top t 0) line (view (at row i)) (sections h (past row i)) at-line (eqb k K) (getD busy t false) u (getD first u 0) (getD top u 0) o
+              (F .latest u hu (sym (other-holds h u (at row i) (past row i) (λ x. o (sym (r .whose) ∙ x))) ∙ q)))
+
+      pub filling-more : Filling (set (set scratch (getD top t 0) y) i x) (set levels (t * 16 + p) lv) (set busy t z) (set first t a) (set top t up) (i + 1)
+      unfolding past
+      filling-more = rw (add-one i) (record {
+        upto = b;
+        levels-are = L;
+        busy-are = B;
+        first-long = length-set first t a ∙ F .first-long;
+        top-long = length-set top t up ∙ F .top-long;
+        firsts = new-first;
+        tops = new-top;
+        buckets = new-buckets;
+        latest = new-latest;
+      })
+
+    pub filling-end : length row ≤ i → Filled h row scratch
+    filling-end e =
+        let q : i ≡ length row = omega (arith, e, F .upto) in
+        record { buckets = λ p l. F .buckets p (omega (arith, l, q)) ∙ ap (λ j. bucket (sections h (past row j)) (suc p)) q }
