@@ -71,6 +71,18 @@ found-at f P events line a e = by (suc line - firstLine) refl e
     by zero q e = absurd (false-true e)
     by (suc n) q e = (n, found f P n events a e, omega arith)
 
+all-unit : (events : List Event) → All (λ (e : Event). Unit {0}) events
+all-unit [] = tt
+all-unit (e ∷ events) = (tt, all-unit events)
+
+-- a line in which an event stands
+pub line-low : (f : Event → Bool) (events : List Event) (line : ℕ) → passes f (eventAt line events) ≡ true → line < length events + firstLine
+line-low f events line e =
+    let x = found-at f (λ e. Unit {0}) events line (all-unit events) e in
+    let i = x .1 .inside in
+    let q = x .2 in
+    omega arith
+
 -- an entry of a trace: its thread is below 8 and its lines are below 4,096
 pub record Small (s : Entry) : Type 0 where
   pub thread : s .thread < 8
@@ -120,10 +132,10 @@ module _ (s : List ℕ) (a : markedOf s ≡ accepted) where
   abbrev guard : ℕ → ℕ
   guard = guardOf (traceOf s .guards .locks)
 
-  accepted-trace : AcceptedTrace full h (eventsIn s)
+  pub accepted-trace : AcceptedTrace full h (eventsIn s)
   accepted-trace = record { limits = up-to-full; head = accepted-allowed s a; marked = events-marked s }
 
-  few : length (eventsIn s) ≤ 2000
+  pub few : length (eventsIn s) ≤ 2000
   unfolding eventsIn
   few = subst (λ (n : ℕ). n ≤ 2000) (sym (length-reverse (pastOf s))) (past-few s)
 
