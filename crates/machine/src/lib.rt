@@ -45,12 +45,14 @@ use rules::Slot;
 use rules::Value;
 
 // A queue of at most eight: its oldest is at place `first` of the cell's eight places (modulo 8), the others follow it round.
+#[repr(C)]
 pub struct Ring {
     pub first: u8,
     pub len: u8,
 }
 
 // What is kept for one thread and variable. The outstanding reads and stores themselves are in the state's `reads` and `stores`.
+#[repr(C)]
 pub struct Cell {
     pub copy: Value,
     pub announced: Value,
@@ -65,16 +67,19 @@ pub struct Cell {
 }
 
 // Who holds a lock: the thread's number plus 1, or 0 where nobody does, and how many times.
+#[repr(C)]
 pub struct Hold {
     pub holder: usize,
     pub depth: u32,
 }
 
 // The value of a variable in main memory.
+#[repr(C)]
 pub struct Main {
     pub value: Value,
 }
 
+#[repr(C)]
 pub struct State {
     // The declared threads, variables and locks.
     pub counts: Counts,

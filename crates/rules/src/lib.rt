@@ -30,12 +30,14 @@ pub struct Event {
 }
 
 // An outstanding read or store: its value, and the position of its event among all events, from 1.
+#[repr(C)]
 pub struct Slot {
     pub value: Value,
     pub position: u32,
 }
 
 // How many threads, variables and locks a trace declares in its head.
+#[repr(C)]
 pub struct Counts {
     pub threads: usize,
     pub variables: usize,
