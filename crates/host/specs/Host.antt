@@ -1,5 +1,7 @@
--- One step for a host: an event as plain numbers, and the answer as plain numbers.
+-- What a host is told in plain numbers: of one step, and of a whole trace.
 use Prim.Native.Nat.{ℕ}
+use mathlib.Core.Path.{_≡_}
+use mathlib.Core.List.{List}
 use mathlib.Core.Bool.{cond}
 use lib.Dec.{eqb}
 use lib.IntN.{ℤ}
@@ -11,6 +13,11 @@ use Rattle.machine.specs.declared.State.{State}
 use Rattle.machine.specs.declared.Verdict.{Verdict}
 use Rattle.machine.specs.declared.Answer.{Answer}
 use Rattle.machine.specs.Stepped.{reported, stepped}
+use Rattle.report.specs.declared.Verdict.{Verdict as ReportVerdict}
+use Rattle.report.specs.declared.Verdict.the-variants.{Accepted, Refused}
+use Rattle.report.specs.declared.Report.{Report}
+use Rattle.report.specs.Report.{Fills}
+use Rattle.host.specs.declared.Sheet.{Sheet}
 use Rattle.host.specs.declared.Reply.{Reply}
 use Rattle.host.specs.declared.Told.{Told}
 use Rattle.host.specs.declared.Named.{Named}
@@ -50,3 +57,18 @@ onNamed s t (Of k) = told (stepped full s (record { thread = t; line = lineAfter
 -- one step: letter, thread, variable or lock, value
 unfoldable pub hosted : State → ℕ → ℕ → ℕ → ℤ → Told
 hosted s k t p x = onNamed s t (kindNamed k p x)
+
+-- ---- a whole trace
+
+abbrev pub sheetFor : ReportVerdict → ℕ → Sheet
+sheetFor (Accepted n) written = record { number = 0; line = 0; events = n; written = written }
+sheetFor (Refused number line) written = record { number = number; line = line; events = 0; written = written }
+
+unfoldable pub sheetOf : Report → Sheet
+sheetOf r = sheetFor (r .verdict) (r .written)
+
+-- the numbers of the report, and what the lent memory holds
+pub record Sheets (s records out list scratch : List ℕ) (r : Sheet) (records′ out′ list′ scratch′ : List ℕ) : Type 0 where
+  pub report : Report
+  pub fills : Fills s records out list scratch report records′ out′ list′ scratch′
+  pub says : r ≡ sheetOf report

@@ -1,12 +1,11 @@
-// What a program in C calls: one step over a state that it keeps. An event comes as plain numbers, and the answer goes as plain
-// numbers. include/dabzhoni.h declares these functions and the layout of the state.
+// What a program in C calls: a whole trace, marked into lent memory, and one step over a state that it keeps. Events and answers are
+// plain numbers. include/dabzhoni.h declares these functions and the layout of the state.
 ghost use mathlib.Core.Path.{_≡_};
-ghost use Prim.Native.Nat.{_+_};
-ghost use Rattle.rules.specs.Limits.{lineAfter};
 ghost use Rattle.machine.specs.State.{start};
-ghost use Rattle.host.specs.Host.{kindNamed, replied, hosted};
+ghost use Rattle.host.specs.Host.{kindNamed, replied, hosted, sheetOf, Sheets};
 use machine::State;
 use machine::Verdict;
+use report::Report;
 use rules::Counts;
 use rules::Event;
 use rules::Kind;
@@ -72,18 +71,11 @@ pub fn reply_of(v: Verdict) -> Reply
     }
 }
 
-// The line of the event that comes next.
-fn next_line(events: u32) -> usize
-    ensures { λ r. ⌜ r ≡ lineAfter events ⌝ }
-{
-    events as usize + 3
-}
-
 // One step, by value.
 pub fn step_numbers(s: State, letter: u8, thread: usize, place: usize, value: Value) -> Told
     ensures { λ r. ⌜ r ≡ hosted s letter thread place value ⌝ }
 {
-    let line = next_line(s.events);
+    let line = machine::next_line(s.events);
     let named = kind_named(letter, place, value);
     match named {
         Named::Nothing => {
@@ -141,4 +133,50 @@ pub extern "C" fn dabzhoni_step(
     let a = step_numbers(*s, letter, thread, place, value);
     *s = a.state;
     a.reply
+}
+
+// What is said of a trace: the number of a refusal and its line, both 0 where it is accepted; the events of an accepted one; and the
+// length of the listing.
+#[repr(C)]
+pub struct Sheet {
+    pub number: usize,
+    pub line: usize,
+    pub events: usize,
+    pub written: usize,
+}
+
+// The numbers of a report.
+pub fn sheet_of(r: Report) -> Sheet
+    ensures { λ a. ⌜ a ≡ sheetOf r ⌝ }
+{
+    let v = r.verdict;
+    match v {
+        report::Verdict::Accepted(n) => Sheet {
+            number: 0,
+            line: 0,
+            events: n,
+            written: r.written,
+        },
+        report::Verdict::Refused(number, line) => Sheet {
+            number: number as usize,
+            line: line,
+            events: 0,
+            written: r.written,
+        },
+    }
+}
+
+// Marks a whole trace, with its records, its order and its listing.
+#[no_mangle]
+pub extern "C" fn dabzhoni_mark(
+    paper: &[u8],
+    records: &mut [u64],
+    out: &mut [u8],
+    order: &mut [u64],
+    scratch: &mut [u64],
+) -> Sheet
+    ensures { λ r. ⌜ Sheets (now (paper .entry)) (now (records .entry)) (now (out .entry)) (now (order .entry)) (now (scratch .entry)) r (now (records .exit)) (now (out .exit)) (now (order .exit)) (now (scratch .exit)) ⌝ }
+{
+    let r = report::mark_trace(paper, records, out, order, scratch);
+    sheet_of(r)
 }

@@ -7,7 +7,7 @@ ghost use mathlib.Core.Bool.{cond};
 ghost use lib.IntN.{pos};
 ghost use lib.ListN.{getD};
 ghost use Rattle.rules.specs.Events.{eqZ};
-ghost use Rattle.rules.specs.Limits.{full};
+ghost use Rattle.rules.specs.Limits.{full, lineAfter};
 ghost use Rattle.machine.specs.State.{noHold, depthOf, start};
 ghost use Rattle.machine.specs.Range.{holdOk, holdsOk, cellOk, cellsOk, readsOk, storesOk, inRange};
 ghost use Rattle.machine.specs.Step.{pushed, popped, nextCell, readAfter, storeAfter, mainAfter, lockedAfter, lockOf, stepState};
@@ -1039,10 +1039,9 @@ fn refuse(s: State, v: Verdict) -> Answer
     }
 }
 
-// The line of the next event.
-fn next_line(n: u32) -> usize
-    requires { ⌜ n ≤ 2000 ⌝ }
-    ensures { λ r. ⌜ r ≡ n + 3 ⌝ }
+// The line of the event after n events.
+pub fn next_line(n: u32) -> usize
+    ensures { λ r. ⌜ r ≡ lineAfter n ⌝ }
 {
     n as usize + 3
 }
@@ -1072,7 +1071,8 @@ fn scan(s: State, t: usize, n: usize) -> OnSome
     }
 }
 
-fn span(all: bool, n: usize) -> usize
+// How many of n things are looked at: all of them, or none.
+pub fn span(all: bool, n: usize) -> usize
     ensures { λ r. ⌜ r ≡ cond all n 0 ⌝ }
 {
     if all { n } else { 0 }

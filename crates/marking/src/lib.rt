@@ -2,8 +2,6 @@
 // reads and puts back its own parts.
 ghost use mathlib.Core.Path.{_≡_};
 ghost use mathlib.Core.Bool.{cond};
-ghost use Prim.Native.Nat.{_≤_};
-ghost use Rattle.rules.specs.Limits.{lineAfter};
 ghost use mathlib.Core.List.{[]};
 ghost use Rattle.machine.specs.State.{start};
 ghost use Rattle.records.specs.Records.{rowOf};
@@ -38,20 +36,6 @@ pub struct Ran {
     pub row: [u64; 2000],
 }
 
-// The line of the event after n events.
-fn line_after(n: u32) -> usize
-    requires { ⌜ n ≤ 2000 ⌝ }
-    ensures { λ r. ⌜ r ≡ lineAfter n ⌝ }
-{
-    n as usize + 3
-}
-
-fn span(all: bool, n: usize) -> usize
-    ensures { λ r. ⌜ r ≡ cond all n 0 ⌝ }
-{
-    if all { n } else { 0 }
-}
-
 // Marks the lines of a part that holds events, with these counts declared: line by line 4, 9, 5 and the row.
 pub fn mark_part(h: Counts, part: &[u8]) -> Ran
     ensures { λ r. ⌜ r ≡ ranOf h (now (part .entry)) ⌝ }
@@ -70,7 +54,7 @@ pub fn mark_part(h: Counts, part: &[u8]) -> Ran
     while at < part.len() {
         let n = s.events;
         let counts = s.counts;
-        let line = line_after(n);
+        let line = machine::next_line(n);
         let l = events::line_at(part, at);
         let Reading::Of(e) = events::event_of(l, line) else {
             let no_event = Verdict::NoEvent(line);
@@ -119,7 +103,7 @@ pub fn mark_part(h: Counts, part: &[u8]) -> Ran
         let mut pending = false;
         let mut fresh = false;
         let mut stored = false;
-        let end = span(places.all, counts.variables);
+        let end = machine::span(places.all, counts.variables);
         let mut j: usize = 0;
         while j < end {
             let x = machine::cell_place(t, j);

@@ -90,12 +90,6 @@ fn busy_after(b: bool, k: u64, any: bool) -> bool
     if (k == 75) | (k == 78) { any } else { b }
 }
 
-fn span(all: bool, n: usize) -> usize
-    ensures { λ r. ⌜ r ≡ cond all n 0 ⌝ }
-{
-    if all { n } else { 0 }
-}
-
 // Whether thread t holds one of the first n locks.
 fn holds_some(levels: &[u32; 128], t: usize, n: usize) -> bool
     requires { ⌜ t < 8 ⌝ }
@@ -187,7 +181,7 @@ fn deny(h: Counts, locks: [usize; 16], row: &[u64]) -> Denied
         let owed = pending[c];
         levels[c] = level_after(level, k);
         pending[c] = pending_after(owed, k);
-        let end = span(k == 78, h.locks);
+        let end = machine::span(k == 78, h.locks);
         let any = holds_some(&levels, t, end);
         late[t] = late_after(was, k, any);
         i += 1;
@@ -274,7 +268,7 @@ fn fill(h: Counts, row: &[u64], scratch: &mut [u64])
         let c = t * 16 + p;
         let level = levels[c];
         levels[c] = level_after(level, k);
-        let end = span((k == 75) | (k == 78), h.locks);
+        let end = machine::span((k == 75) | (k == 78), h.locks);
         let any = holds_some(&levels, t, end);
         busy[t] = busy_after(b, k, any);
         i += 1;

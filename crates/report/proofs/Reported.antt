@@ -318,3 +318,14 @@ module _ (s records out list scratch : List ℕ) (w : Whole) (out′ list′ scr
 
   pub fills : (r : Report) (records′ : List ℕ) → records′ ≡ over (take (w .count) (w .row)) records → r ≡ w .report → Fills s records out list scratch r records′ out′ list′ scratch′
   fills r records′ e q = record { whole = w; reports = c; says = q; fills = e ∙ (unfold Fit in fit-whole .2) }
+
+-- the listing ends within the output
+pub written-in : (s : List ℕ) (places : ℕ) (out list scratch : List ℕ) (w : Whole) (out′ list′ scratch′ : List ℕ) → Reports s places out list scratch w out′ list′ scratch′ → w .report .written ≤ length out′
+written-in s places out list scratch w out′ list′ scratch′ c = by (lentShort places (length out) (length list) (length scratch)) (c .says) (c .prints)
+  where
+    by : (b : Bool) → w ≡ cond b shortWhole (wholeOf s (orderingOf s list scratch)) → out′ ≡ cond b out (over (listingOf s) out) → w .report .written ≤ length out′
+    by true p q = let n : w .report .written ≡ 0 = ap (λ (x : Whole). x .report .written) p in omega arith
+    by false p q =
+        let n : w .report .written ≡ length (listingOf s) = ap (λ (x : Whole). x .report .written) p ∙ (unfold wholeOf in refl) in
+        let m : length out′ ≡ length (over (listingOf s) out) = ap length q in
+        omega (arith, n, m, length-append (listingOf s) (drop (length (listingOf s)) out))

@@ -34,11 +34,7 @@ returns c =
     c .refuse .ensures ∙ step-out s e (sym (c .before .before .in-range .ensures) ∙ not-true _ (c .before .if1 .taken))
 
 next-line-requires : tie.Need-next-line-requires
-next-line-requires c κs =
-    let s = c .before .before .args .s in
-    let e = c .before .before .args .e in
-    let r : inRange full s ≡ true = sym (c .before .in-range .ensures) ∙ not-false _ (c .if1 .left) in
-    range full s r .events
+next-line-requires c κs = search needs
 
 refuse-requires-2 : tie.Need-refuse-requires-2
 refuse-requires-2 c κs = search needs

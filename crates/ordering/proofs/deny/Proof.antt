@@ -26,7 +26,7 @@ use Rattle.ordering.proofs.holds_some.Reads as holds-some-reads
 use Rattle.ordering.proofs.late_after.Reads as late-after-reads
 use Rattle.ordering.proofs.level_after.Reads as level-after-reads
 use Rattle.ordering.proofs.pending_after.Reads as pending-after-reads
-use Rattle.ordering.proofs.span.Reads as span-reads
+use Rattle.machine.proofs.span.Reads as span-reads
 use Rattle.ordering.proofs.unfinished.Reads as unfinished-reads
 use Rattle.records.proofs.letter_in.Reads as letter-in-reads
 use Rattle.records.proofs.place_in.Reads as place-in-reads

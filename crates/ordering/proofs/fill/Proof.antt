@@ -29,7 +29,7 @@ use Rattle.ordering.proofs.first_after.Reads as first-after-reads
 use Rattle.ordering.proofs.holds_some.Reads as holds-some-reads
 use Rattle.ordering.proofs.level_after.Reads as level-after-reads
 use Rattle.ordering.proofs.line_after.Reads as line-after-reads
-use Rattle.ordering.proofs.span.Reads as span-reads
+use Rattle.machine.proofs.span.Reads as span-reads
 use Rattle.ordering.proofs.top_after.Reads as top-after-reads
 use Rattle.records.proofs.letter_in.Reads as letter-in-reads
 use Rattle.records.proofs.place_in.Reads as place-in-reads
