@@ -1,4 +1,4 @@
-/* One step of the marker over a state that the caller keeps. Link target/staticlib/libhost.a, which `rt staticlib host` writes.
+/* A whole trace marked into lent memory, and one step over a state that the caller keeps. Link target/staticlib/libhost.a, which `rt staticlib host` writes.
    Numbers are document 01's: a refusal's number, and a line of the trace. */
 #ifndef DABZHONI_H
 #define DABZHONI_H
@@ -78,6 +78,25 @@ DABZHONI_ASSERT(offsetof(struct dabzhoni_state, cells) == 28, "layout of the sta
 DABZHONI_ASSERT(offsetof(struct dabzhoni_state, holds) == 19520, "layout of the state");
 DABZHONI_ASSERT(sizeof(struct dabzhoni_state) == 19712, "layout of the state");
 DABZHONI_ASSERT(sizeof(struct dabzhoni_reply) == 16, "layout of a reply");
+
+/* What is said of a trace: the number of a refusal and its line, both 0 where it is accepted; the events of an accepted trace; and
+   the length of the listing. */
+struct dabzhoni_sheet {
+  size_t number;
+  size_t line;
+  size_t events;
+  size_t written;
+};
+
+DABZHONI_ASSERT(sizeof(struct dabzhoni_sheet) == 32, "layout of a sheet");
+
+/* Marks a whole trace: its listing to the front of out, the records of an accepted trace to the front of records (one number for
+   each event line: letter * 2^39 + thread * 2^36 + place * 2^32 + the 32 bits of the value), and where it has an order its
+   sections to the front of order (thread * 2^24 + last line * 2^12 + first line), with scratch all zeros then. Refusal 7, before
+   all: records under 2,000 places, out under 32,768 bytes, order under 1,000 places or scratch under 2,000; nothing is touched
+   after it. No pointer is null, each is aligned, and no two of these overlap. */
+struct dabzhoni_sheet dabzhoni_mark(const uint8_t *paper, size_t paper_length, uint64_t *records, size_t records_length, uint8_t *out,
+                                    size_t out_length, uint64_t *order, size_t order_length, uint64_t *scratch, size_t scratch_length);
 
 /* The state before the first event. The memory must be a state already, as zeros are: each bool in it is 0 or 1. Counts out of
    range are kept, and each step is then refused by 8. */

@@ -1,0 +1,88 @@
+#!/usr/bin/env bash
+# The papers of docs/PAPERS.md: each is marked by a program and compared, byte for byte, with the listing that follows it there.
+#   tests/handbook.sh PROGRAM [ARGUMENT..]    the program reads a paper on standard input and writes its listing
+# A number from 1 to 6 or 9 to 22 without a paper under its own heading is a failure. The last line is 'N passed, M failed'.
+set -u
+export LC_ALL=C
+if [ $# -eq 0 ]; then
+    echo "usage: tests/handbook.sh PROGRAM [ARGUMENT..]" >&2
+    exit 2
+fi
+root=$(cd "$(dirname "$0")/.." && pwd) || exit 2
+work=$(mktemp -d) || exit 2
+trap 'rm -rf "$work"' EXIT
+touch "$work/faults" "$work/covered" "$work/pairs"
+
+# Writes the files N.paper and N.listing; in `pairs` each N with the paper's line in the document, in `covered` each number that is
+# met under its heading, in `faults` what has not the form of a pair.
+awk -v work="$work" -v root="$root" '
+function fault(what) { print "docs/PAPERS.md:" NR ": " what > (work "/faults") }
+function begin() {
+    if (waiting) fault("the paper before has no listing")
+    n++; waiting = 1
+    paper = work "/" n ".paper"; printf "" > paper
+    print n, NR > (work "/pairs")
+}
+# "paper made by": lines in backticks, each with or without a number of times before it, and the trailer
+function make(text,    items, count, i, times, line, body) {
+    if (!sub(/ and the trailer$/, "", text)) { fault("no trailer: " text); return }
+    count = split(text, items, ", "); body = ""
+    for (i = 1; i <= count; i++) {
+        if (items[i] !~ /^([0-9]+ times )?`[^`]*`$/) { fault("not understood: " items[i]); return }
+        times = items[i] ~ /^`/ ? 1 : items[i] + 0
+        line = items[i]; sub(/^[^`]*`/, "", line); sub(/`$/, "\n", line)
+        while (times-- > 0) body = body line
+    }
+    printf "%sZ %d\n", body, length(body) > paper
+}
+function copy(name,    line, read) {
+    while ((read = (getline line < (root "/" name))) > 0) print line > paper
+    if (read < 0) fault("no file " name)
+    close(root "/" name)
+}
+out != "" {
+    if ($0 == "```") { close(out); out = ""; next }
+    print > out
+    if (listed && $0 ~ /^(refused|unordered) [0-9]+ [0-9]+$/ && $3 == number) print number > (work "/covered")
+    next
+}
+/^#/ { number = $1 == "###" && $2 ~ /^[0-9]+\.$/ ? $2 + 0 : "" }
+/^paper made by / { begin(); make(substr($0, 15)); close(paper) }
+/^paper in / { begin(); copy(substr($0, 10)); close(paper) }
+/^```/ {
+    listed = $0 == "```listing"
+    if ($0 == "```paper") { begin(); out = paper }
+    else if (!listed) out = "/dev/null"
+    else {
+        if (!waiting) fault("a listing without a paper")
+        waiting = 0; out = work "/" n ".listing"; printf "" > out
+    }
+}
+END {
+    if (out != "") fault("a block is not closed")
+    if (waiting) fault("the last paper has no listing")
+}' "$root/docs/PAPERS.md" || exit 2
+
+passed=0
+failed=$(wc -l < "$work/faults")
+cat "$work/faults"
+while read -r n line; do
+    [ -f "$work/$n.listing" ] || continue
+    timeout 60 "$@" < "$work/$n.paper" > "$work/got" 2> "$work/said"
+    if cmp -s "$work/$n.listing" "$work/got"; then
+        passed=$((passed + 1))
+    else
+        failed=$((failed + 1))
+        echo "docs/PAPERS.md:$line: the listing differs"
+        diff "$work/$n.listing" "$work/got" | sed -n '1,20p'
+        sed -n '1,5p' "$work/said"
+    fi
+done < "$work/pairs"
+for number in {1..6} {9..22}; do
+    if ! grep -qx "$number" "$work/covered"; then
+        failed=$((failed + 1))
+        echo "docs/PAPERS.md: no paper under heading $number is answered with $number"
+    fi
+done
+echo "$passed passed, $failed failed"
+[ "$failed" -eq 0 ] && [ "$passed" -gt 0 ]
