@@ -1,49 +1,49 @@
--- `mark::show` is safe: the listing ends within the output. Assumes nothing.
+-- `print::print_listing` is safe: the listing ends within the output. Assumes nothing.
 use mathlib.Core.Path.{sym}
 use lib.Seq.{length-take-le}
 use Rattle.report.proofs.Reported.{written-in}
 use borrow.Author.Needs.{needs}
-use Rattle.mark.proofs.show.Statement.{statement}
-use Rattle.mark.proofs.show.Tie as tie
-use Rattle.mark.proofs.show.Reads as reads
-use Rattle.mark.proofs.show.Lts as lts
+use Rattle.print.proofs.print_listing.Statement.{statement}
+use Rattle.print.proofs.print_listing.Tie as tie
+use Rattle.print.proofs.print_listing.Reads as reads
+use Rattle.print.proofs.print_listing.Lts as lts
 use Rattle.io.proofs.write_all.Reads as write-all-reads
 use Rattle.report.proofs.mark_lent.Reads as mark-lent-reads
 
--- src/main.rt:10:44
+-- src/lib.rt:10:44
 slice-aggregate-mark-lent : tie.Need-slice-aggregate-mark-lent
 slice-aggregate-mark-lent c = search needs
 
--- src/main.rt:10:54
+-- src/lib.rt:10:54
 slice-aggregate-mark-lent-2 : tie.Need-slice-aggregate-mark-lent-2
 slice-aggregate-mark-lent-2 c = search needs
 
--- src/main.rt:10:65
+-- src/lib.rt:10:65
 slice-aggregate-mark-lent-3 : tie.Need-slice-aggregate-mark-lent-3
 slice-aggregate-mark-lent-3 c = search needs
 
--- src/main.rt:10:9
+-- src/lib.rt:10:9
 mark-lent-requires : tie.Need-mark-lent-requires
 mark-lent-requires c κs = search needs
 
--- src/main.rt:13:34
+-- src/lib.rt:13:34
 array-share-prefix-out : tie.Need-array-share-prefix-out
 array-share-prefix-out c = written-in _ _ _ _ _ (c .before .before .before .before .mark-lent .result) _ _ _ (c .before .before .before .before .mark-lent .ensures)
 
--- src/main.rt:13:34
+-- src/lib.rt:13:34
 slice-aggregate-write-all : tie.Need-slice-aggregate-write-all
 slice-aggregate-write-all c = sym (length-take-le _ _ (written-in _ _ _ _ _ (c .before .before .before .before .before .mark-lent .result) _ _ _ (c .before .before .before .before .before .mark-lent .ensures)))
 
--- src/main.rt:13:5
+-- src/lib.rt:13:5
 write-all-requires : tie.Need-write-all-requires
 write-all-requires c κs = search needs
 
--- src/main.rt:6:1
+-- src/lib.rt:6:1
 returns : tie.Need-returns
 returns c = search needs
 
-pub show-spec : {M : Type 1} → statement M
-show-spec =
+pub print-listing-spec : {M : Type 1} → statement M
+print-listing-spec =
     tie.close
     (tie.spec
     slice-aggregate-mark-lent
