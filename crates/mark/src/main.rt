@@ -5,5 +5,5 @@ use libc::STDIN_FILENO;
 fn main() {
     let mut text = [0u8; 65537];
     let n = io::read_full(STDIN_FILENO, &mut text);
-    print::print_listing(&text[..n]);
+    let _written = print::print_listing(&text[..n]);
 }

@@ -1,8 +1,13 @@
 // Writes the listing of a trace to standard output.
+ghost use mathlib.Core.Path.{_≡_};
+ghost use lib.ListN.{length};
+ghost use Rattle.report.specs.Report.{listingOf};
 use libc::STDOUT_FILENO;
 
-// The listing of a trace.
-pub fn print_listing(s: &[u8]) {
+// The listing of a trace; its length.
+pub fn print_listing(s: &[u8]) -> usize
+    ensures { λ r. ⌜ r ≡ length (listingOf (now (s .entry))) ⌝ }
+{
     let mut out = [0u8; 32768];
     let mut list = [0u64; 1000];
     let mut scratch = [0u64; 2000];
@@ -10,4 +15,5 @@ pub fn print_listing(s: &[u8]) {
     let r = whole.report;
     let n = r.written;
     io::write_all(STDOUT_FILENO, &out[..n]);
+    n
 }

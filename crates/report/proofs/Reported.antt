@@ -7,7 +7,7 @@ use mathlib.Core.List.{List, [], _∷_, _++_, map, append-nil}
 use lib.Dec.{ltb, leb}
 use lib.ListN.{length, length-map, length-append, length-reverse, take, drop}
 use lib.Seq.{take-at, take-length}
-use borrow.Author.Tests.{le-leb, ltb-false}
+use borrow.Author.Tests.{le-leb, le-ltb, ltb-false}
 use Rattle.rules.specs.declared.Event.{Event}
 use Rattle.rules.specs.declared.Counts.{Counts}
 use Rattle.rules.specs.Limits.{full, firstLine, lineAfter, allowed}
@@ -329,3 +329,14 @@ written-in s places out list scratch w out′ list′ scratch′ c = by (lentSho
         let n : w .report .written ≡ length (listingOf s) = ap (λ (x : Whole). x .report .written) p ∙ (unfold wholeOf in refl) in
         let m : length out′ ≡ length (over (listingOf s) out) = ap length q in
         omega (arith, n, m, length-append (listingOf s) (drop (length (listingOf s)) out))
+
+-- where enough is lent, the listing is written whole
+pub written-is : (s : List ℕ) (places : ℕ) (out list scratch : List ℕ) (w : Whole) (out′ list′ scratch′ : List ℕ) → Reports s places out list scratch w out′ list′ scratch′
+    → 2000 ≤ places → 32768 ≤ length out → 1000 ≤ length list → 2000 ≤ length scratch → w .report .written ≡ length (listingOf s)
+written-is s places out list scratch w out′ list′ scratch′ c p q l k =
+    ap (λ (x : Whole). x .report .written) (c .says)
+    ∙ ap (λ (b : Bool). cond b shortWhole (wholeOf s (orderingOf s list scratch)) .report .written) enough
+    ∙ (unfold wholeOf in refl)
+  where
+    enough : lentShort places (length out) (length list) (length scratch) ≡ false
+    enough = unfold lentShort in rw (le-ltb places 2000 p, le-ltb (length out) 32768 q, le-ltb (length list) 1000 l, le-ltb (length scratch) 2000 k) refl

@@ -1,7 +1,11 @@
--- `print::print_listing` is safe: the listing ends within the output. Assumes nothing.
+-- `print::print_listing` meets its contract: the listing is written whole. Assumes nothing.
+use Prim.Native.Nat.{ℕ}
+use native.Mathlib.Omega.{arith}
 use mathlib.Core.Path.{sym}
+use denote.Ref.{now}
+use lib.ListN.{replicate, length-replicate}
 use lib.Seq.{length-take-le}
-use Rattle.report.proofs.Reported.{written-in}
+use Rattle.report.proofs.Reported.{written-in, written-is}
 use borrow.Author.Needs.{needs}
 use Rattle.print.proofs.print_listing.Statement.{statement}
 use Rattle.print.proofs.print_listing.Tie as tie
@@ -40,7 +44,9 @@ write-all-requires c κs = search needs
 
 -- src/lib.rt:6:1
 returns : tie.Need-returns
-returns c = search needs
+returns c =
+    written-is (now (c .before .before .before .before .before .before .before .before .before .before .before .args .s)) 2000 (replicate 32768 0) (replicate 1000 0) (replicate 2000 0) (c .before .before .before .before .before .before .mark-lent .result) _ _ _ (c .before .before .before .before .before .before .mark-lent .ensures) (omega arith)
+    (omega (arith, length-replicate {A = ℕ} 32768 0)) (omega (arith, length-replicate {A = ℕ} 1000 0)) (omega (arith, length-replicate {A = ℕ} 2000 0))
 
 pub print-listing-spec : {M : Type 1} → statement M
 print-listing-spec =
