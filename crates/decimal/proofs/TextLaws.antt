@@ -51,11 +51,6 @@ pub over-next : (t o : List ℕ) (b : ℕ) → length t < length o → set (over
 over-next t o b h =
     rw (drop-cons o (length t) 0 h, set-at t (getD o (length t) 0) (drop (suc (length t)) o) b (length t) refl, length-append, add-one, append-assoc)
 
--- a text, and a second one in what remains
-pub over-rest : (t u o : List ℕ) → take (length t) (over t o) ++ over u (drop (length t) (over t o)) ≡ over (t ++ u) o
-over-rest t u o =
-    rw (take-at t (drop (length t) o) (length t) refl, drop-at t (drop (length t) o) (length t) refl, drop-drop, length-append, append-assoc)
-
 pub over-length : (t o : List ℕ) → length t ≤ length o → length (over t o) ≡ length o
 over-length t o h = simp (length-append, length-drop) (omega arith)
 

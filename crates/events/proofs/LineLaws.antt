@@ -151,11 +151,6 @@ with-space at x ys k =
     let e : at + suc (suc (before 10 ys)) + 1 ≡ at + 1 + 1 + before 10 ys + 1 = omega arith in
     rw (ne-eqb x 10 (kind-not x 10 k refl), ne-eqb x 32 (kind-not x 32 k refl), ltb-suc (suc (before 10 ys)) (suc (length ys)), ltb-suc (before 10 ys) (length ys), ne-eqb (kindOf x) 0 k, e)
 
--- the same of a place in the part
-pub at-end : (s : List ℕ) (at : ℕ) → length s ≤ at → stage fromFields at (drop at s) ≡ noLine
-unfolding stage before
-at-end s at h = rw (drop-of-length-le s h)
-
 pub at-none : (s : List ℕ) (at : ℕ) → at < length s → kindOf (getD s at 0) ≡ 0 → stage fromFields at (drop at s) ≡ noLine
 at-none s at h k = rw (drop-cons s at 0 h) (none-letter at (getD s at 0) (drop (suc at) s) k)
 

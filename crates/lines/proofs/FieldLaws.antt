@@ -172,7 +172,3 @@ unfolding linesOf ended
 lines-more s h =
     let w = split-some 10 (drop (before 10 s + 1) s) in
     rw (split-more 10 s h, w .2)
-
-pub lines-none : (s : List ℕ) → length s ≤ before 10 s → linesOf s ≡ []
-unfolding linesOf ended
-lines-none s h = rw (split-last 10 s h)

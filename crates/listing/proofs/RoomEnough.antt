@@ -198,14 +198,6 @@ sections-count es = length-map es sectionLine
 pub sections-text : (es : List Entry) → All Small es → length es ≤ 1000 → length (textOf (sectionLines es)) ≤ 20000
 sections-text es f h = omega (arith, text-most 20 (sectionLines es) (sections-most es f), sections-count es)
 
-pub entry-small : (w : ℕ) → w < 134217728 → Small (entryIn w)
-unfolding entryIn
-entry-small w h = record { thread = omega arith; first = omega arith; last = omega arith }
-
-pub entries-small : (ws : List ℕ) → All (λ w. w < 134217728) ws → All Small (map entryIn ws)
-entries-small [] f = tt
-entries-small (w ∷ ws) f = (entry-small w (f .0), entries-small ws (f .1))
-
 pub unordered-text : (l n : ℕ) → l < 10000 → n < 100 → length (textOf (unorderedLine l n ∷ [])) ≤ 20000
 unfolding textOf
 unordered-text l n h k = omega (arith, unordered-most l n h k, length-append (ended (unorderedLine l n)) [])
@@ -230,20 +222,6 @@ pub room-enough : (h : Counts) (w : Words) (n : ℕ) → allowed full h ≡ true
 room-enough h w n a l ends k =
     let ls = stateLines n (memory h w) (copies h w) in
     enough (ls ++ ends) (omega (arith, text-both ls ends, state-text h w n a l))
-
--- the same of a state, whatever its counts
-pub lines-enough : (s : State) → s .events ≤ 2000 → (ends : List (List ℕ)) → length (textOf ends) ≤ 20000 → Enough (linesIn s ++ ends)
-unfolding linesIn
-lines-enough s l ends k = by (allowed full (s .counts)) refl
-  where
-    by : (b : Bool) → allowed full (s .counts) ≡ b
-        → Enough (cond b (stateLines (s .events) (memory (s .counts) (wordsIn s)) (copies (s .counts) (wordsIn s))) [] ++ ends)
-    by true e = room-enough (s .counts) (wordsIn s) (s .events) e l ends k
-    by false e = enough ends (omega arith)
-
--- the listing of a refused trace
-pub refused-enough : (l n : ℕ) → l < 10000 → n < 100 → Enough (refusedLine l n ∷ [])
-refused-enough l n h k = enough (refusedLine l n ∷ []) (unfold textOf in omega (arith, refused-most l n h k, length-append (ended (refusedLine l n)) []))
 
 -- the writer's contract then says that the whole text lies at the front of the output
 pub wrote-whole : (ls : List (List ℕ)) (o p : List ℕ) (a : ℕ) → Enough ls → 32768 ≤ length o → Wrote (writeAll ls) o a p → (a ≡ length (textOf ls)) × (p ≡ over (textOf ls) o)

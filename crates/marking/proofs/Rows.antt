@@ -7,15 +7,15 @@ use mathlib.Core.List.{List, [], _∷_, reverse}
 use lib.Dec.{T, eqb, ltb, leb}
 use lib.IntN.{ℤ, pos, negsuc}
 use lib.ListN.{length, getD, take, drop}
-use borrow.Author.Tests.{ltb-true, leb-true, leb-false, eqb-false}
+use borrow.Author.Tests.{ltb-true, leb-true, eqb-false}
 use mir.Val.{SFits}
 use Rattle.rules.specs.declared.Event.{Event}
 use Rattle.rules.specs.declared.Counts.{Counts}
 use Rattle.rules.specs.declared.Kind.the-variants as kind
 use Rattle.rules.specs.Events.{place, value, onLock}
 use Rattle.rules.specs.Limits.{full, lineAfter, valueWidth, allowed, declared}
-use Rattle.rules.specs.Rules.{verdict, wordsOf, Accepted}
-use Rattle.rules.proofs.Laws.{Passed, passed, accepted-last}
+use Rattle.rules.specs.Rules.{verdict}
+use Rattle.rules.proofs.Laws.{Passed, passed, few}
 use Rattle.rules.proofs.Bounds.{declared-bounds}
 use Rattle.lines.specs.Lines.{splitOn, letter}
 use Rattle.decimal.specs.declared.Natural.{Natural}
@@ -172,15 +172,8 @@ unfolding pastOf
 past-kept s a = kept-lines (traceOf s .head) [] (linesIn s) a tt
 
 -- at most 2,000 events are accepted
-few-events : (h : Counts) (es : List Event) → T (Accepted full h es) → length es ≤ 2000
-few-events h [] a = omega arith
-few-events h (e ∷ es) a =
-    let p = passed full h (wordsOf es) e (omega arith) (unfold verdict in accepted-last full h e es a) .room in
-    let q = leb-false 2000 (length es) (unfold wordsOf in p) in
-    omega (arith, q)
-
 pub past-few : (s : List ℕ) → length (pastOf s) ≤ 2000
-past-few s = few-events (traceOf s .head) (pastOf s) (past-clean s)
+past-few s = few full (traceOf s .head) (pastOf s) (omega arith) (past-clean s)
 
 -- the front of the row that is handed back holds the records of the trace's events
 pub row-is : (s : List ℕ) → allowed full (traceOf s .head) ≡ true → rowEvents (take (length (pastOf s)) (rowOf (pastOf s))) ≡ eventsIn s

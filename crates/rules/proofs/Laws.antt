@@ -2,7 +2,7 @@
 use Prim.Native.Nat.{ℕ, zero, suc, _≤_, _<_}
 use native.Mathlib.Omega.{arith}
 use native.Mathlib.Nat.{suc-ne-zero, not-suc-le-zero}
-use borrow.Author.Tests.{eqb-true, eqb-false}
+use borrow.Author.Tests.{eqb-true, eqb-false, leb-false}
 use mathlib.Core.Path.{_≡_, refl, sym, ap, _∙_, subst}
 use mathlib.Core.Bool.{Bool, true, false, not, cond, _&&_, _||_, or-false}
 use mathlib.Core.List.{List, [], _∷_, _++_}
@@ -89,14 +89,6 @@ pub unlock-row : (e : Event) → N ≡ letter (e .kind) → rowIn rows (letter (
 unfolding rowIn rows
 unlock-row e q = rw (← q)
 
-pub use-row : (e : Event) → U ≡ letter (e .kind) → rowIn rows (letter (e .kind)) ≡ 17 ∷ 18 ∷ []
-unfolding rowIn rows
-use-row e q = rw (← q)
-
-pub assign-row : (e : Event) → A ≡ letter (e .kind) → rowIn rows (letter (e .kind)) ≡ []
-unfolding rowIn rows
-assign-row e q = rw (← q)
-
 pub store-row : (e : Event) → S ≡ letter (e .kind) → rowIn rows (letter (e .kind)) ≡ 13 ∷ 14 ∷ 17 ∷ 18 ∷ 19 ∷ []
 unfolding rowIn rows
 store-row e q = rw (← q)
@@ -112,10 +104,6 @@ lock-row e q = rw (← q)
 pub prescient-store-row : (e : Event) → P ≡ letter (e .kind) → rowIn rows (letter (e .kind)) ≡ 13 ∷ 19 ∷ []
 unfolding rowIn rows
 prescient-store-row e q = rw (← q)
-
-pub prescient-assign-row : (e : Event) → B ≡ letter (e .kind) → rowIn rows (letter (e .kind)) ≡ 10 ∷ 18 ∷ []
-unfolding rowIn rows
-prescient-assign-row e q = rw (← q)
 
 -- an accepted load has an outstanding read
 pub load-partner : (c : Counts) (w : Words) (e : Event) → judge c w e ≡ 0 → T (is (L ∷ []) e) → none? (w .reads (e .thread) (loc e)) ≡ false
@@ -185,6 +173,12 @@ passed m c w e x p = go (leb (m .events) (w .events)) (declared c e) refl refl p
 pub accepted-row : (m : Limits) (c : Counts) (e : Event) (es : List Event) → 0 < m .excess → T (Accepted m c (e ∷ es)) → judge c (wordsOf es) e ≡ 0
 unfolding verdict
 accepted-row m c e es x a = passed m c (wordsOf es) e x (accepted-last m c e es a) .row
+
+-- an accepted list is no longer than the limit
+pub few : (m : Limits) (c : Counts) (es : List Event) → 0 < m .excess → T (Accepted m c es) → length es ≤ m .events
+unfolding verdict wordsOf
+few m c [] x a = omega arith
+few m c (e ∷ es) x a = leb-false (m .events) (length es) (passed m c (wordsOf es) e x (accepted-last m c e es a) .room)
 
 -- ---- a search over the numbers below n
 

@@ -25,10 +25,6 @@ pub mark-stop : (m : Limits) (c : Counts) (es : List Event) (e : Event) (rest : 
 unfolding markFrom
 mark-stop m c es e rest n v = rw v
 
-pub mark-end : (m : Limits) (c : Counts) (es : List Event) → markFrom m c es [] ≡ accepted
-unfolding markFrom
-mark-end m c es = refl
-
 -- ---- accepted, by the walk and by the list
 
 abbrev Wrong : Marked → Type 0

@@ -85,6 +85,14 @@ traces =
     ∷ trace (K 0 0 ∷ P 0 0 5 ∷ N 0 0 ∷ []) (bad 16 3)
     ∷ []
 
+-- Document 01, "Where candidates and programmers slip": a lock spoils all of the thread's copies, and a copy is not fresh after B. (That
+-- the read must follow the lock is a row of the table above.)
+unfoldable pub slips : List Trace
+slips =
+    trace (A 0 1 5 ∷ K 0 0 ∷ U 0 1 5 ∷ []) (bad 17 3)
+    ∷ trace (K 0 0 ∷ A 0 0 5 ∷ P 0 0 6 ∷ W 0 0 6 ∷ B 0 0 6 ∷ N 0 0 ∷ []) accepted
+    ∷ []
+
 -- the same row, as the definitions give it
 unfoldable pub computed : Trace → Trace
 computed r = record {

@@ -14,7 +14,7 @@ use Rattle.rules.specs.declared.Counts.{Counts}
 use Rattle.rules.specs.Limits.{Limits, full}
 use Rattle.rules.specs.Words.{main}
 use Rattle.rules.specs.Rules.{mark, wordsOf, held, Accepted}
-use Rattle.rules.proofs.Laws.{is-true}
+use Rattle.rules.proofs.Laws.{is-true, few}
 use Rattle.rules.proofs.Marking.{walk-accepts}
 use Rattle.serial.specs.Lists.{All}
 use Rattle.serial.specs.Sections.{Section}
@@ -27,7 +27,7 @@ use Rattle.sections.specs.CriticalSections.{Entry}
 use Rattle.sections.specs.Sequential.{serially, zeros, after, given, stated}
 use Rattle.sections.specs.Denials.{Denial, fit, denied, Orderly}
 use Rattle.sections.specs.Demand3.{AcceptedTrace, Demand3}
-use Rattle.sections.proofs.Valid.{Valid, Declared, all-declared, short}
+use Rattle.sections.proofs.Valid.{Valid, Declared, all-declared}
 use Rattle.sections.proofs.Ordered.{All-turn, some-witness, spans, serial-order, fit-from, orderly}
 use Rattle.sections.proofs.Places.{holdsAfter, so-far-all, holds-more}
 use Rattle.sections.proofs.Sequence.{serially-view, after-view, given-view, stated-view}
@@ -101,6 +101,6 @@ room m h guard events a p =
     (omega (
       arith,
       half h (reverse events) (all-declared h (reverse events) (valid m h events a)) (fit-from h guard [] events p tt .1),
-      short m h (reverse events) (a .limits .excess) (marked-accepted m h events a),
+      few m h (reverse events) (a .limits .excess) (marked-accepted m h events a),
       a .limits .events,
     ))

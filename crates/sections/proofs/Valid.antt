@@ -75,9 +75,3 @@ unfolding verdict
 all-declared h [] a = tt
 all-declared h (e ∷ es) a =
     (to-declared h e (passed (a .0) h (wordsOf es) e (a .1) (accepted-last (a .0) h e es (a .2)) .known), all-declared h es (before h e es a))
-
--- no more events than the limit
-pub short : (m : Limits) (h : Counts) (es : List Event) → 0 < m .excess → T (Accepted m h es) → length es ≤ m .events
-unfolding verdict wordsOf
-short m h [] x a = omega arith
-short m h (e ∷ es) x a = leb-false (m .events) (length es) (passed m h (wordsOf es) e x (accepted-last m h e es a) .room)

@@ -198,10 +198,6 @@ lies s = by (ltb most (length s)) (trailerOf s) refl
         let whole : upTo 10 (take e s) ≡ e = ap (λ (i : ℕ). upTo 10 (take i s)) a ∙ last-ended s ∙ sym a in
         lies-first e s (trailer-le s e r) whole (take e s) (length-take-le e s (trailer-le s e r))
 
-pub events-refused : (s : List ℕ) (v : Verdict) → eventsOf s (refused v) ≡ []
-unfolding eventsOf
-events-refused s v = refl
-
 -- the part between two places
 pub part-drop : (a e : ℕ) (s : List ℕ) → a ≤ e → e ≤ length s → take (e - a) (drop a s) ≡ drop a (take e s)
 part-drop a e s h k =
