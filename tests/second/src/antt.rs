@@ -1,7 +1,8 @@
 //! Short traces with marker A's answers as a file of definitions, to be compared by one `refl`.
 
 use crate::generate::{candidates, short, Aim, Rng, Short, DOUBLES, PAIRS};
-use crate::{naive, Counts, Event};
+use crate::marker_a::After;
+use crate::{Counts, Event};
 
 fn value(x: i32) -> String {
     if x >= 0 {
@@ -46,6 +47,7 @@ fn case(s: &Short) -> String {
         None => "accepted".to_string(),
         Some((_, number)) => format!("(refused {number} {})", s.good.len() + 3),
     };
+    let after = After::new(s.counts, &s.good);
     format!(
         "case {} {} {} ({}) ({}) {marked} ({}) ({})",
         s.counts.threads,
@@ -53,8 +55,8 @@ fn case(s: &Short) -> String {
         s.counts.locks,
         list(s.good.iter().map(event)),
         list(s.bad.iter().map(|(e, _)| event(e))),
-        list((0..s.counts.variables).map(|v| value(naive::main_memory(&s.good, v)))),
-        list(naive::usable_copies(s.counts, &s.good).into_iter().map(|(t, v, x)| format!("cp {t} {v} {}", value(x)))),
+        list(after.main().into_iter().map(value)),
+        list(after.copies().into_iter().map(|(t, v, x)| format!("cp {t} {v} {}", value(x)))),
     )
 }
 
@@ -155,8 +157,9 @@ pub fn accepted(most: usize) -> Vec<Vec<Event>> {
         let events: Vec<Event> = found[at].clone();
         at += 1;
         if events.len() + 1 < most {
+            let after = After::new(FEW, &events);
             for &e in &all {
-                if naive::refusal(FEW, &events, &e).is_none() {
+                if after.refusal(&e).is_none() {
                     found.push([&events[..], &[e]].concat());
                 }
             }
@@ -173,12 +176,13 @@ pub fn every_file(traces: &[Vec<Event>]) -> String {
     let all = candidates(FEW, &VALUES);
     let next = list(all.iter().map(event));
     let nodes = list(traces.iter().map(|es| {
+        let after = After::new(FEW, es);
         format!(
             "node ({}) ({}) ({}) ({})\n   ",
             list(es.iter().map(event)),
-            list(all.iter().map(|e| naive::refusal(FEW, es, e).unwrap_or(0).to_string())),
-            list((0..FEW.variables).map(|v| value(naive::main_memory(es, v)))),
-            list(naive::usable_copies(FEW, es).into_iter().map(|(t, v, x)| format!("cp {t} {v} {}", value(x)))),
+            list(all.iter().map(|e| after.refusal(e).unwrap_or(0).to_string())),
+            list(after.main().into_iter().map(value)),
+            list(after.copies().into_iter().map(|(t, v, x)| format!("cp {t} {v} {}", value(x)))),
         )
     }));
     format!(

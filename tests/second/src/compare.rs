@@ -1,18 +1,31 @@
-//! Marker A against another marker: marker B, or a program.
+//! Marker A against other markers, over generated papers.
 
 use crate::generate::{self, candidates, Aim, Rng, DOUBLES, PAIRS};
 use crate::incremental::State;
+use crate::marker_a::{self, After};
 use crate::shrink::shrink;
-use crate::{expected, naive, Counts, Event};
+use crate::{expected, Counts, Event};
 use std::collections::BTreeMap;
 use std::panic::{catch_unwind, AssertUnwindSafe};
 
-/// What prints a listing for a paper.
-pub type Marker = Box<dyn Fn(&[u8]) -> String>;
+/// Marks a paper by all markers, by marker A only where that is asked for: the listing that they agree on, or what differs.
+pub type Check = Box<dyn Fn(&[u8], bool) -> Result<String, String>>;
 
-/// Compares the listings of marker A and another, and counts.
+/// Marker A against one other marker.
+pub fn against_a(other: impl Fn(&[u8]) -> String + 'static) -> Check {
+    Box::new(move |paper, _| {
+        let (a, b) = (marker_a::mark(paper), other(paper));
+        if a == b {
+            Ok(a)
+        } else {
+            Err(format!("marker A:\n{a}other:\n{b}"))
+        }
+    })
+}
+
+/// Checks papers, and counts.
 pub struct Comparison {
-    other: Marker,
+    check: Check,
     pub passed: usize,
     pub failed: usize,
     /// how often each kind of answer occurred
@@ -20,14 +33,7 @@ pub struct Comparison {
 }
 
 const PRINTED_FAILURES: usize = 20;
-
-fn no_panic(mark: &dyn Fn(&[u8]) -> String, paper: &[u8]) -> String {
-    catch_unwind(AssertUnwindSafe(|| mark(paper))).unwrap_or_else(|_| "panic\n".to_string())
-}
-
-fn by_a(paper: &[u8]) -> String {
-    no_panic(&naive::mark, paper)
-}
+const FEW: Counts = Counts { threads: 2, variables: 1, locks: 1 };
 
 /// The kind of a listing: the refusal, or what became of the order.
 fn kind(listing: &str) -> String {
@@ -56,70 +62,94 @@ fn shown(paper: &[u8]) -> String {
 }
 
 impl Comparison {
-    pub fn with(other: Marker) -> Comparison {
-        Comparison { other, passed: 0, failed: 0, answers: BTreeMap::new() }
+    pub fn with(check: Check) -> Comparison {
+        Comparison { check, passed: 0, failed: 0, answers: BTreeMap::new() }
     }
 
-    fn by_other(&self, paper: &[u8]) -> String {
-        no_panic(&self.other, paper)
+    fn checked(&self, paper: &[u8], with_a: bool) -> Result<String, String> {
+        catch_unwind(AssertUnwindSafe(|| (self.check)(paper, with_a))).unwrap_or_else(|_| Err("panic\n".to_string()))
     }
 
-    fn count(&mut self, right: bool, report: impl FnOnce(&Self) -> String) {
-        if right {
-            self.passed += 1;
-        } else {
-            self.failed += 1;
-            if self.failed <= PRINTED_FAILURES {
-                println!("{}", report(self));
+    fn count(&mut self, failure: Option<String>) {
+        match failure {
+            None => self.passed += 1,
+            Some(report) => {
+                self.failed += 1;
+                if self.failed <= PRINTED_FAILURES {
+                    println!("{report}");
+                }
             }
         }
     }
 
-    /// One paper by both markers. A failure prints the smallest paper found that still fails.
-    pub fn paper(&mut self, name: &str, paper: &[u8]) {
-        let answer = by_a(paper);
-        *self.answers.entry(kind(&answer)).or_insert(0) += 1;
-        self.count(answer == self.by_other(paper), |this| {
-            let small = shrink(paper, &|p| by_a(p) != this.by_other(p));
-            format!("{name}: differs\n{}marker A:\n{}other:\n{}", shown(&small), by_a(&small), this.by_other(&small))
-        });
+    /// One paper. A failure prints the smallest paper found that still fails.
+    pub fn paper(&mut self, name: &str, paper: &[u8], with_a: bool) {
+        let failure = match self.checked(paper, with_a) {
+            Ok(listing) => {
+                *self.answers.entry(kind(&listing)).or_insert(0) += 1;
+                None
+            }
+            Err(first) if self.failed < PRINTED_FAILURES => {
+                let small = shrink(paper, &|p| self.checked(p, with_a).is_err());
+                let differs = self.checked(&small, with_a).err().unwrap_or(first);
+                Some(format!("FAILED {name}, the smallest paper:\n{}{differs}", shown(&small)))
+            }
+            Err(_) => Some(String::new()),
+        };
+        self.count(failure);
     }
 
-    /// The papers with known listings, by both markers.
+    /// The papers with known listings.
     pub fn known(&mut self) {
         for e in expected::papers() {
-            for (marker, got) in [("marker A", by_a(&e.paper)), ("other", self.by_other(&e.paper))] {
-                self.count(got == e.listing, |_| {
-                    format!("{}, {marker}\n{}expected:\n{}got:\n{got}", e.name, shown(&e.paper), e.listing)
-                });
-            }
+            self.paper(&e.name, &e.paper, true);
+            let failure = match self.checked(&e.paper, true) {
+                Ok(listing) if listing == e.listing => None,
+                Ok(listing) => Some(format!("FAILED {}\n{}expected:\n{}got:\n{listing}", e.name, shown(&e.paper), e.listing)),
+                Err(_) => Some(format!("FAILED {}: the markers differ", e.name)),
+            };
+            self.count(failure);
         }
     }
 
-    /// Every trace of up to `most` events with two threads, one variable, one lock and two values. Nothing is looked at after
-    /// a refused event, so a trace ends with its first one.
+    /// Every trace of up to `most` events with two threads, one variable, one lock and two values, with its guard and without.
+    /// Nothing is looked at after a refused event, so a trace ends with its first one.
     pub fn every_short_trace(&mut self, most: usize) {
-        let counts = Counts { threads: 2, variables: 1, locks: 1 };
-        let all = candidates(counts, &[0, 1]);
-        self.extend(counts, &all, most, &mut Vec::new(), &State::new(counts, Some(&[0])));
+        let all = candidates(FEW, &[0, 1]);
+        for guards in [Some(&[0][..]), None] {
+            self.extend(guards, &all, most, &mut Vec::new(), &State::new(FEW, guards));
+        }
     }
 
-    fn extend(&mut self, counts: Counts, all: &[Event], most: usize, events: &mut Vec<Event>, state: &State) {
-        self.paper("short trace", &generate::paper(counts, Some(&[0]), events));
+    fn extend(&mut self, guards: Option<&[usize]>, all: &[Event], most: usize, events: &mut Vec<Event>, state: &State) {
+        self.paper("short trace", &generate::paper(FEW, guards, events), true);
         if events.len() == most {
             return;
         }
+        let after = After::new(FEW, events);
         for &e in all {
-            let refused = naive::refusal(counts, events, &e).is_some();
+            let refused = after.refusal(&e).is_some();
             let mut next = state.clone();
             let refused_too = next.step(e) != 0;
             events.push(e);
             if refused || refused_too {
-                self.paper("short trace", &generate::paper(counts, Some(&[0]), events));
+                self.paper("short trace", &generate::paper(FEW, guards, events), true);
             } else {
-                self.extend(counts, all, most, events, &next);
+                self.extend(guards, all, most, events, &next);
             }
             events.pop();
+        }
+    }
+
+    /// The same, and a trace goes on after a refused event.
+    pub fn every_trace(&mut self, most: usize) {
+        let all = candidates(FEW, &[0, 1]);
+        let mut traces: Vec<Vec<Event>> = vec![Vec::new()];
+        for _ in 0..most {
+            traces = traces.iter().flat_map(|es| all.iter().map(|&e| [&es[..], &[e]].concat())).collect();
+            for events in &traces {
+                self.paper("trace", &generate::paper(FEW, Some(&[0]), events), true);
+            }
         }
     }
 
@@ -136,58 +166,69 @@ impl Comparison {
                 let guards: Vec<usize> = (0..s.counts.variables).map(|_| rng.below(s.counts.locks)).collect();
                 let guards = rng.chance(50).then_some(&guards[..]);
                 let events: Vec<Event> = s.good.iter().copied().chain(s.bad.map(|(e, _)| e)).collect();
-                self.paper("aimed", &generate::paper(s.counts, guards, &events));
+                self.paper("aimed", &generate::paper(s.counts, guards, &events), true);
             }
         }
     }
 
-    /// The papers of the seeds from 1.
-    fn seeds(&mut self, name: &str, make: fn(u64) -> Vec<u8>, number: u64) {
-        for seed in 1..=number {
+    /// The papers of `number` seeds, marker A on the first `by_a` of them.
+    fn seeds(&mut self, name: &str, make: fn(u64) -> Vec<u8>, first: u64, number: u64, by_a: u64) {
+        for seed in first..first + number {
             match catch_unwind(|| make(seed)) {
-                Ok(paper) => self.paper(&format!("{name} {seed}"), &paper),
-                Err(_) => self.count(false, |_| format!("{name} {seed}: marker B panics while the paper is made")),
+                Ok(paper) => self.paper(&format!("{name} {seed}"), &paper, seed - first < by_a),
+                Err(_) => self.count(Some(format!("FAILED {name} {seed}: marker B panics while the paper is made"))),
             }
         }
-    }
-
-    pub fn random(&mut self, number: u64) {
-        self.seeds("seed", generate::any_paper, number);
-    }
-
-    pub fn large(&mut self, number: u64) {
-        self.seeds("large seed", generate::large_paper, number);
     }
 }
 
 /// How much is compared.
+#[derive(Clone, Copy)]
 pub struct Size {
+    /// the first seed
+    pub seed: u64,
+    /// accepted papers and papers with a bad event
     pub random: u64,
+    /// papers with damaged bytes
+    pub damaged: u64,
+    /// papers near the limits, and on how many of them marker A is asked
     pub large: u64,
+    pub large_by_a: u64,
+    /// papers for each aim
     pub aimed: usize,
+    /// the length up to which every trace is compared
     pub short: usize,
 }
 
-/// Compares all of it, prints each part and its answers, and last `N passed, M failed`. True when nothing failed.
-pub fn run(other: Marker, size: Size) -> bool {
+/// Compares all of it, prints each part and its answers. The numbers of papers that passed and failed.
+pub fn run(check: Check, size: Size) -> (usize, usize) {
     std::panic::set_hook(Box::new(|_| {}));
-    let mut comparison = Comparison::with(other);
+    let mut comparison = Comparison::with(check);
     let mut before = 0;
     let mut part = |name: &str, run: &dyn Fn(&mut Comparison)| {
         let start = std::time::Instant::now();
         run(&mut comparison);
         let all = comparison.passed + comparison.failed;
         println!("{name}: {} in {:.1} s", all - before, start.elapsed().as_secs_f64());
-        for (answer, n) in std::mem::take(&mut comparison.answers) {
-            println!("    {answer}: {n}");
-        }
+        let answers: Vec<String> =
+            std::mem::take(&mut comparison.answers).into_iter().map(|(answer, n)| format!("{answer}: {n}")).collect();
+        println!("    {}", answers.join("; "));
         before = all;
     };
+    let Size { seed, random, damaged, large, large_by_a, aimed, short } = size;
     part("known listings", &|c| c.known());
-    part("every short trace", &|c| c.every_short_trace(size.short));
-    part("aimed papers", &|c| c.aimed(1, size.aimed));
-    part("random papers", &|c| c.random(size.random));
-    part("large papers", &|c| c.large(size.large));
-    println!("{} passed, {} failed", comparison.passed, comparison.failed);
-    comparison.failed == 0
+    part("every short trace", &|c| c.every_short_trace(short));
+    part("every trace, past refused events too", &|c| c.every_trace(short.saturating_sub(2)));
+    part("aimed papers", &|c| c.aimed(seed, aimed));
+    part("random papers", &|c| c.seeds("seed", generate::random_paper, seed, random, random));
+    part("damaged papers", &|c| c.seeds("damaged seed", generate::damaged_paper, seed, damaged, damaged));
+    part("large papers", &|c| c.seeds("large seed", generate::large_paper, seed, large, large_by_a));
+    let _ = std::panic::take_hook();
+    (comparison.passed, comparison.failed)
+}
+
+/// The closing line, and the exit status.
+pub fn close((passed, failed): (usize, usize)) -> ! {
+    println!("{passed} passed, {failed} failed");
+    std::process::exit(i32::from(failed > 0))
 }

@@ -400,6 +400,24 @@ pub fn papers() -> Vec<Expected> {
     add("65,537 bytes".into(), long(65_537, "A ", " 0 0"), "refused 0 1");
     add("65,537 bytes 10".into(), vec![10; 65_537], "refused 0 1");
     add("65,536 bytes 10".into(), vec![10; 65_536], "refused 0 2");
+    // numbers of a thousand digits
+    let nines = "9".repeat(1_000);
+    for (name, head, guards, events, listing) in [
+        ("thread", "H 1 1 1", "G -", format!("A {nines} 0 0"), "refused 3 5"),
+        ("variable", "H 1 1 1", "G -", format!("A 0 {nines} 0"), "refused 3 5"),
+        ("lock", "H 1 1 1", "G -", format!("N 0 {nines}"), "refused 3 5"),
+        ("value", "H 1 1 1", "G -", format!("A 0 0 {nines}"), "refused 3 4"),
+        ("value below zero", "H 1 1 1", "G -", format!("A 0 0 -{nines}"), "refused 3 4"),
+        ("zeros", "H 1 1 1", "G -", format!("A 0 0 {}", "0".repeat(1_000)), "refused 3 4"),
+        ("all three", "H 1 1 1", "G -", format!("A {nines} {nines} {nines}"), "refused 3 4"),
+        ("threads", &format!("H {nines} 1 1"), "G -", String::new(), "refused 1 3"),
+        ("variables", &format!("H 1 {nines} 1"), "G -", String::new(), "refused 1 3"),
+        ("locks", &format!("H 1 1 {nines}"), "G -", String::new(), "refused 1 3"),
+        ("guard", "H 1 1 1", &format!("G {nines}"), String::new(), "refused 2 6"),
+    ] {
+        add(format!("a thousand digits: {name}"), text(head, guards, &events), listing);
+    }
+    add("a thousand digits: trailer".into(), format!("H 1 1 1\nG -\nZ {nines}\n").into_bytes(), "refused 0 2");
     // bytes over 127
     add("byte 255 in the head".into(), close(b"H 1 1 \xff\nG -\n".to_vec()), "refused 1 3");
     add("byte 255 in the guards".into(), close(b"H 1 1 1\nG \xff\n".to_vec()), "refused 2 6");

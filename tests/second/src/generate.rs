@@ -1,7 +1,8 @@
 //! Papers and traces to mark.
 
 use crate::incremental::State;
-use crate::{naive, Counts, Event};
+use crate::marker_a::After;
+use crate::{Counts, Event};
 
 /// SplitMix64: the same seed gives the same papers.
 pub struct Rng(u64);
@@ -180,7 +181,8 @@ pub fn short(rng: &mut Rng, aim: Aim, most: usize) -> Short {
         let mut good: Vec<Event> = Vec::new();
         loop {
             let near = |e: &Event| e.thread == focus.0 && (e.is_lock() || e.place == focus.1);
-            let verdicts: Vec<Option<u32>> = all.iter().map(|e| naive::refusal(counts, &good, e)).collect();
+            let after = After::new(counts, &good);
+            let verdicts: Vec<Option<u32>> = all.iter().map(|e| after.refusal(e)).collect();
             if good.len() >= wanted {
                 let fit: Vec<(Event, u32)> = match aim {
                     Aim::Accepted if good.len() == most => return Short { counts, good, bad: None },
@@ -204,17 +206,15 @@ pub fn short(rng: &mut Rng, aim: Aim, most: usize) -> Short {
                         .iter()
                         .zip(&verdicts)
                         .filter(|(e, &r)| e.letter == letter && r == Some(number))
-                        .filter(|(e, _)| naive::broken(counts, &good, e).contains(&later))
+                        .filter(|(e, _)| after.broken(e).contains(&later))
                         .map(|(&e, _)| (e, number))
                         .collect(),
                     Aim::FreshAndOwed => all
                         .iter()
                         .zip(&verdicts)
                         .filter(|(e, &r)| e.letter == b'N' && r == Some(15))
-                        .filter(|(e, _)| naive::broken(counts, &good, e) == [15])
-                        .filter(|(e, _)| {
-                            (0..counts.variables).all(|v| !naive::fresh(&good, e.thread, v) || naive::owed(&good, e.thread, v))
-                        })
+                        .filter(|(e, _)| after.broken(e) == [15])
+                        .filter(|(e, _)| (0..counts.variables).all(|v| !after.fresh(e.thread, v) || after.owed(e.thread, v)))
                         .map(|(&e, _)| (e, 15))
                         .collect(),
                 };
@@ -336,17 +336,24 @@ fn open_event(rng: &mut Rng, state: &State, style: &Style, t: usize, closing: bo
     Some(rng.pick(&open[i]))
 }
 
-/// Counts, guards and events of a paper; accepted but for the bad events that are put in, so many in a hundred.
-pub fn long(rng: &mut Rng, length: usize, bad_percent: usize) -> (Counts, Option<Vec<usize>>, Vec<Event>) {
-    let counts = match rng.below(10) {
+/// Counts, guards and events of a paper; accepted but for the bad events that are put in, so many in a hundred. An orderly paper
+/// has guards, keeps the order's rules, and ends with nothing held, owed or outstanding.
+pub fn long(rng: &mut Rng, length: usize, bad_percent: usize, orderly: bool) -> (Counts, Option<Vec<usize>>, Vec<Event>) {
+    let mut counts = match rng.below(10) {
         0 => Counts { threads: 8, variables: 16, locks: 8 },
         1 => Counts { threads: rng.between(1, 8), variables: rng.between(1, 16), locks: rng.between(0, 8) },
         2 => Counts { threads: 1, variables: 1, locks: rng.between(0, 2) },
         _ => Counts { threads: rng.between(1, 3), variables: rng.between(1, 3), locks: rng.between(1, 3) },
     };
-    let guarded = counts.locks > 0 && rng.chance(65);
+    if orderly {
+        counts.locks = counts.locks.max(1);
+    }
+    let guarded = counts.locks > 0 && (orderly || rng.chance(65));
     let guards: Option<Vec<usize>> = guarded.then(|| (0..counts.variables).map(|_| rng.below(counts.locks)).collect());
-    let style = style(rng);
+    let mut style = style(rng);
+    if orderly {
+        style.discipline = 100;
+    }
     let mut state = State::new(counts, guards.as_deref());
     let mut events = Vec::new();
     let mut t = 0;
@@ -373,7 +380,7 @@ pub fn long(rng: &mut Rng, length: usize, bad_percent: usize) -> (Counts, Option
         }
     }
     // most papers end with nothing held, owed or outstanding
-    if rng.chance(80) {
+    if orderly || rng.chance(80) {
         for t in 0..counts.threads {
             while state.busy(t) {
                 let Some(e) = open_event(rng, &state, &style, t, true) else { break };
@@ -486,23 +493,28 @@ pub fn damage(rng: &mut Rng, paper: &[u8]) -> Vec<u8> {
     }
 }
 
-/// A paper of this seed.
-pub fn any_paper(seed: u64) -> Vec<u8> {
-    let mut rng = Rng::new(seed);
+/// A short paper of this seed: accepted, or with bad events.
+pub fn random_paper(seed: u64) -> Vec<u8> {
+    short_paper(&mut Rng::new(seed))
+}
+
+fn short_paper(rng: &mut Rng) -> Vec<u8> {
     let length = match rng.below(100) {
         0..=4 => rng.between(0, 3),
-        5..=69 => rng.between(4, 40),
-        70..=96 => rng.between(40, 120),
+        5..=79 => rng.between(4, 40),
+        80..=98 => rng.between(40, 120),
         _ => rng.between(120, 400),
     };
     let bad_percent = rng.pick(&[0, 0, 0, 2, 5]);
-    let (counts, guards, events) = long(&mut rng, length, bad_percent);
-    let whole = paper(counts, guards.as_deref(), &events);
-    if rng.chance(15) {
-        damage(&mut rng, &whole)
-    } else {
-        whole
-    }
+    let (counts, guards, events) = long(rng, length, bad_percent, false);
+    paper(counts, guards.as_deref(), &events)
+}
+
+/// A short paper with damaged bytes.
+pub fn damaged_paper(seed: u64) -> Vec<u8> {
+    let mut rng = Rng::new(seed ^ 0x5555_0000_0000_0000);
+    let whole = short_paper(&mut rng);
+    damage(&mut rng, &whole)
 }
 
 /// A paper near the limits: about 2,000 events, or about 65,536 bytes.
@@ -516,9 +528,15 @@ pub fn large_paper(seed: u64) -> Vec<u8> {
         body.extend(rng.pick(&[b" 0 0\n".as_slice(), b" 0\n", b"\n"]));
         return close(body);
     }
+    // half of these papers have an order
+    if rng.chance(50) {
+        let length = 1_600 + rng.below(350);
+        let (counts, guards, events) = long(&mut rng, length, 0, true);
+        return paper(counts, guards.as_deref(), &events);
+    }
     let length = 1_900 + rng.below(140);
-    let (counts, guards, mut events) = long(&mut rng, length, 0);
-    // in half of the papers one event of the last hundred is another
+    let (counts, guards, mut events) = long(&mut rng, length, 0, false);
+    // in half of the others one event of the last hundred is another
     if rng.chance(50) {
         let at = events.len().saturating_sub(1 + rng.below(100));
         if let Some(e) = events.get_mut(at) {

@@ -1,14 +1,14 @@
-//! Two markers written from document 01 alone, to compare with each other and with other markers.
+//! Two markers to compare with each other and with other markers.
 //!
-//! `naive` computes each word from the list of earlier events; `incremental` keeps a state. They share the types below and
-//! nothing else: each reads the bytes, judges, orders and prints by itself.
+//! Marker A, the crate `naive`, computes each word from the list of earlier events; marker B, `incremental`, keeps a state. They
+//! share nothing: each reads the bytes, judges, orders and prints by itself.
 
 pub mod antt;
 pub mod compare;
 pub mod expected;
 pub mod generate;
 pub mod incremental;
-pub mod naive;
+pub mod marker_a;
 pub mod shrink;
 
 /// What the head declares.

@@ -1,7 +1,7 @@
 //! Marker A against a program that reads a paper from standard input and prints its listing:
 //! `against PROGRAM [RANDOM [LARGE [SHORT]]]`. The last line is `N passed, M failed`.
 
-use second::compare::{run, Size};
+use second::compare::{against_a, close, run, Size};
 use std::io::Write;
 use std::process::{Command, Stdio};
 
@@ -23,6 +23,7 @@ fn main() {
     let program = args.next().expect("a program");
     let numbers: Vec<u64> = args.map(|a| a.parse().expect("a number")).collect();
     let arg = |i: usize, usual: u64| numbers.get(i).copied().unwrap_or(usual);
-    let size = Size { random: arg(0, 2_000), large: arg(1, 50), aimed: 4, short: arg(2, 2) as usize };
-    std::process::exit(i32::from(!run(Box::new(move |paper| listing(&program, paper)), size)));
+    let (random, large, short) = (arg(0, 2_000), arg(1, 50), arg(2, 2) as usize);
+    let size = Size { seed: 1, random, damaged: random / 2, large, large_by_a: large, aimed: 4, short };
+    close(run(against_a(move |paper| listing(&program, paper)), size));
 }

@@ -1,7 +1,7 @@
 //! Writes papers and their listings by marker A, NAME.txt and NAME.out: `papers DIR [RANDOM]`, the papers with known listings and
 //! some random ones.
 
-use second::{expected, generate, naive};
+use second::{expected, generate, marker_a};
 use std::path::Path;
 
 fn main() {
@@ -19,7 +19,7 @@ fn main() {
         write(&words.join("-"), &e.paper, &e.listing);
     }
     for seed in 1..=random {
-        let paper = generate::any_paper(seed);
-        write(&format!("seed-{seed:05}"), &paper, &naive::mark(&paper));
+        let paper = if seed % 3 == 0 { generate::damaged_paper(seed) } else { generate::random_paper(seed) };
+        write(&format!("seed-{seed:05}"), &paper, &marker_a::mark(&paper));
     }
 }

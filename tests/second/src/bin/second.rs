@@ -4,7 +4,7 @@ use std::io::{Read, Write};
 
 fn main() {
     let mark = match std::env::args().nth(1).as_deref() {
-        None | Some("naive") => second::naive::mark,
+        None | Some("naive") => second::marker_a::mark,
         Some("incremental") => second::incremental::mark,
         Some(_) => panic!("naive or incremental"),
     };

@@ -1,0 +1,246 @@
+//! A naive marker for the papers of document 01.
+//!
+//! Every word of 01 is computed anew from the list of earlier events.
+//! The quoted sentences are 01's.
+
+pub mod listing;
+pub mod order;
+pub mod paper;
+pub mod rules;
+
+#[cfg(test)]
+mod tests;
+
+pub use order::{denial, plain_run, sections, Given, Section};
+pub use rules::judge;
+
+/// "Paper over 65,536 bytes".
+pub const MAX_BYTES: usize = 65_536;
+/// "0 to 2,000 event lines".
+pub const MAX_EVENTS: usize = 2_000;
+/// "threads 1 to 8".
+pub const MAX_THREADS: u32 = 8;
+/// "variables 1 to 16".
+pub const MAX_VARIABLES: u32 = 16;
+/// "locks 0 to 8".
+pub const MAX_LOCKS: u32 = 8;
+/// "at most 8 outstanding reads and 8 outstanding stores for each thread and variable".
+pub const MAX_OUTSTANDING: usize = 8;
+
+/// The declared counts: "`H t v l`".
+#[derive(Clone, Copy, Debug, PartialEq, Eq)]
+pub struct Counts {
+    pub threads: u32,
+    pub variables: u32,
+    pub locks: u32,
+}
+
+/// "An event is one of ten kinds", named by its letter.
+#[derive(Clone, Copy, Debug, PartialEq, Eq)]
+pub enum Kind {
+    /// Use.
+    U,
+    /// Assign.
+    A,
+    /// Load.
+    L,
+    /// Store.
+    S,
+    /// Read.
+    R,
+    /// Write.
+    W,
+    /// Lock.
+    K,
+    /// Unlock.
+    N,
+    /// Early store.
+    P,
+    /// The assign that an early store announced.
+    B,
+}
+
+/// One event. `target` is the lock of a K or N and the variable of every other kind.
+/// "a lock event has no value": the `value` of a K or N is 0 and is never read.
+#[derive(Clone, Copy, Debug, PartialEq, Eq)]
+pub struct Event {
+    pub kind: Kind,
+    pub thread: u32,
+    pub target: u32,
+    pub value: i32,
+}
+
+/// "A refusal gives number and line and nothing else."
+#[derive(Clone, Copy, Debug, PartialEq, Eq)]
+pub struct Refusal {
+    pub line: usize,
+    pub number: u32,
+}
+
+/// What is decided about a paper.
+#[derive(Clone, Copy, Debug, PartialEq, Eq)]
+pub enum Verdict {
+    /// Accepted, with the number of events.
+    Accepted(usize),
+    Refused(Refusal),
+}
+
+/// A usable copy: "thread, variable and value of each usable copy".
+#[derive(Clone, Copy, Debug, PartialEq, Eq)]
+pub struct UsableCopy {
+    pub thread: u32,
+    pub variable: u32,
+    pub value: i32,
+}
+
+/// The order of an accepted paper.
+#[derive(Clone, Debug, PartialEq, Eq)]
+pub enum Order {
+    /// The paper is refused, or has `G -`.
+    None,
+    /// The sections in order of their last K.
+    Sections(Vec<Section>),
+    /// 20, 21 or 22, and its line.
+    Denied { number: u32, line: usize },
+}
+
+/// Everything about a paper. A refused paper has no counts, guards, events, main memory,
+/// copies or order.
+#[derive(Clone, Debug, PartialEq, Eq)]
+pub struct Outcome {
+    pub verdict: Verdict,
+    pub counts: Option<Counts>,
+    /// One lock number per variable; none for `G -`.
+    pub guards: Option<Vec<u32>>,
+    pub events: Vec<Event>,
+    /// Main memory of each declared variable after the last event.
+    pub main: Vec<i32>,
+    /// "by thread then variable".
+    pub copies: Vec<UsableCopy>,
+    pub order: Order,
+}
+
+/// The line of the event at place `index` (from 0) of the list; the trailer's line for the
+/// list's length.
+pub fn line_of(index: usize) -> usize {
+    index + 3
+}
+
+/// What the program `mark` prints for these bytes.
+pub fn mark(paper: &[u8]) -> Vec<u8> {
+    listing::listing(&outcome(paper))
+}
+
+/// "Whole paper: 1, 2, 3, 6, then line by line 4, 9, 5 and the row". 7 cannot arise here:
+/// nothing is lent.
+pub fn outcome(paper: &[u8]) -> Outcome {
+    let marked = paper::find(paper).and_then(|parts| {
+        let events = accepted_events(parts.body, parts.counts)?;
+        Ok(accepted(parts.counts, parts.guards, events))
+    });
+    match marked {
+        Ok(outcome) => outcome,
+        Err(refusal) => refused(refusal),
+    }
+}
+
+/// "line by line 4, 9, 5 and the row".
+fn accepted_events(body: &[u8], counts: Counts) -> Result<Vec<Event>, Refusal> {
+    let mut events = Vec::new();
+    let mut rest = body;
+    while let Some((line, after)) = paper::take_line(rest) {
+        let place = line_of(events.len());
+        let event = paper::event(line).ok_or(Refusal { line: place, number: 4 })?;
+        let number = judge(&events, counts, &event);
+        if number != 0 {
+            return Err(Refusal { line: place, number });
+        }
+        events.push(event);
+        rest = after;
+    }
+    Ok(events)
+}
+
+fn accepted(counts: Counts, guards: Option<Vec<u32>>, events: Vec<Event>) -> Outcome {
+    Outcome {
+        verdict: Verdict::Accepted(events.len()),
+        counts: Some(counts),
+        main: (0..counts.variables).map(|v| rules::main_memory(&events, v)).collect(),
+        copies: usable_copies(counts, &events),
+        order: order_of(counts, guards.as_deref(), &events),
+        guards,
+        events,
+    }
+}
+
+fn refused(refusal: Refusal) -> Outcome {
+    Outcome {
+        verdict: Verdict::Refused(refusal),
+        counts: None,
+        guards: None,
+        events: Vec::new(),
+        main: Vec::new(),
+        copies: Vec::new(),
+        order: Order::None,
+    }
+}
+
+/// "thread, variable and value of each usable copy, by thread then variable".
+fn usable_copies(counts: Counts, events: &[Event]) -> Vec<UsableCopy> {
+    let mut copies = Vec::new();
+    for thread in 0..counts.threads {
+        for variable in 0..counts.variables {
+            if !rules::usable(events, thread, variable) {
+                continue;
+            }
+            if let Some(value) = rules::copy(events, thread, variable) {
+                copies.push(UsableCopy { thread, variable, value });
+            }
+        }
+    }
+    copies
+}
+
+/// "Then, with guards, 20 and 21 event by event, 22 last."
+fn order_of(counts: Counts, guards: Option<&[u32]>, events: &[Event]) -> Order {
+    match guards {
+        None => Order::None,
+        Some(guards) => match denial(counts, guards, events) {
+            Some((number, line)) => Order::Denied { number, line },
+            None => Order::Sections(sections(events)),
+        },
+    }
+}
+
+/// Demand 3: "What each U is given equals the value in its line; what each variable has at
+/// the end equals its main memory after the last event." "without an order nothing is run".
+pub fn demand3(o: &Outcome) -> Result<(), String> {
+    let Order::Sections(order) = &o.order else {
+        return Ok(());
+    };
+    let (uses, memory) = plain_run(order, &o.events);
+    every_use_is_given(&uses, &o.events)?;
+    for u in &uses {
+        if u.given != u.stated {
+            return Err(format!("line {}: given {}, stated {}", u.line, u.given, u.stated));
+        }
+    }
+    for (v, main) in o.main.iter().enumerate() {
+        if memory.get(v) != Some(main) {
+            return Err(format!("variable {v}: plain {:?}, main {main}", memory.get(v)));
+        }
+    }
+    Ok(())
+}
+
+/// "each U": every U of the paper is run exactly once.
+fn every_use_is_given(uses: &[Given], events: &[Event]) -> Result<(), String> {
+    let mut run: Vec<usize> = uses.iter().map(|u| u.line).collect();
+    run.sort_unstable();
+    let all: Vec<usize> = (0..events.len()).filter(|&i| events[i].kind == Kind::U).map(line_of).collect();
+    if run == all {
+        Ok(())
+    } else {
+        Err(format!("uses in lines {all:?}, run {run:?}"))
+    }
+}

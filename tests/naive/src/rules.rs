@@ -1,0 +1,249 @@
+//! The words about earlier events, rules 5 and 9 to 19, and the rows.
+//!
+//! Every function here reads the list of earlier events and keeps nothing.
+//! T is `t`, V is `v`, the list is `es`.
+
+use crate::Kind::{self, A, B, K, L, N, P, R, S, U, W};
+use crate::{Counts, Event, MAX_EVENTS, MAX_OUTSTANDING};
+
+/// "the ten rows of this table are fixed".
+pub const ROWS: [(Kind, &[u32]); 10] = [
+    (U, &[17, 18]),
+    (A, &[]),
+    (L, &[10, 13, 15, 16, 18]),
+    (S, &[13, 14, 17, 18, 19]),
+    (R, &[18, 19]),
+    (W, &[10, 18]),
+    (K, &[11, 13]),
+    (N, &[12, 15, 16]),
+    (P, &[13, 19]),
+    (B, &[10, 18]),
+];
+
+/// 0, or the number of the first rule that `e` breaks after the earlier events:
+/// "9, 5 and the row".
+pub fn judge(earlier: &[Event], counts: Counts, e: &Event) -> u32 {
+    if rule_9(earlier) {
+        return 9;
+    }
+    if rule_5(counts, e) {
+        return 5;
+    }
+    for &number in row(e.kind) {
+        if breaks(number, earlier, counts, e) {
+            return number;
+        }
+    }
+    0
+}
+
+/// "What is checked hangs on the kind".
+fn row(kind: Kind) -> &'static [u32] {
+    ROWS.iter().find(|(k, _)| *k == kind).map_or(&[], |(_, numbers)| numbers)
+}
+
+/// Whether `e` breaks the rule of this number.
+pub fn breaks(number: u32, es: &[Event], counts: Counts, e: &Event) -> bool {
+    match number {
+        10 => rule_10(es, e),
+        11 => rule_11(es, counts, e),
+        12 => rule_12(es, e),
+        13 => rule_13(es, counts, e),
+        14 => rule_14(es, e),
+        15 => rule_15(es, counts, e),
+        16 => rule_16(es, counts, e),
+        17 => rule_17(es, e),
+        18 => rule_18(es, e),
+        19 => rule_19(es, e),
+        _ => false,
+    }
+}
+
+// ---- the words ----
+
+/// Whether `e` is an event of one of these kinds, none of them K or N, by T on V.
+fn is(e: &Event, kinds: &[Kind], t: u32, v: u32) -> bool {
+    e.thread == t && e.target == v && kinds.contains(&e.kind)
+}
+
+/// The places of the events of these kinds by T on V, rising.
+fn places(es: &[Event], kinds: &[Kind], t: u32, v: u32) -> Vec<usize> {
+    (0..es.len()).filter(|&i| is(&es[i], kinds, t, v)).collect()
+}
+
+/// The latest event of these kinds by T on V.
+fn latest<'a>(es: &'a [Event], kinds: &[Kind], t: u32, v: u32) -> Option<&'a Event> {
+    es.iter().rev().find(|e| is(e, kinds, t, v))
+}
+
+/// "The n-th load pairs with the n-th read of T on V": the places of load and read.
+pub fn loads_and_reads(es: &[Event], t: u32, v: u32) -> Vec<(usize, usize)> {
+    let loads = places(es, &[L], t, v);
+    let reads = places(es, &[R], t, v);
+    loads.into_iter().zip(reads).collect()
+}
+
+/// "Unpaired reads and stores are *outstanding*": the places of the unpaired reads.
+pub fn outstanding_reads(es: &[Event], t: u32, v: u32) -> Vec<usize> {
+    let loads = places(es, &[L], t, v).len();
+    places(es, &[R], t, v).into_iter().skip(loads).collect()
+}
+
+/// "the n-th store (S or P) with the n-th write. Unpaired reads and stores are
+/// *outstanding*": the places of the unpaired stores.
+pub fn outstanding_stores(es: &[Event], t: u32, v: u32) -> Vec<usize> {
+    let writes = places(es, &[W], t, v).len();
+    places(es, &[S, P], t, v).into_iter().skip(writes).collect()
+}
+
+/// "*Copy*: the value of T's latest A, B or L on V." "copies are absent" at the start.
+pub fn copy(es: &[Event], t: u32, v: u32) -> Option<i32> {
+    latest(es, &[A, B, L], t, v).map(|e| e.value)
+}
+
+/// "*Fresh*: the latest of A, B, S is A."
+pub fn fresh(es: &[Event], t: u32, v: u32) -> bool {
+    latest(es, &[A, B, S], t, v).is_some_and(|e| e.kind == A)
+}
+
+/// "*Owed*: the latest of P, B is P."
+pub fn owed(es: &[Event], t: u32, v: u32) -> bool {
+    latest(es, &[P, B], t, v).is_some_and(|e| e.kind == P)
+}
+
+/// "*Usable*: since T's last K, on whichever lock (or the start), there is an A or B of V,
+/// or an L whose read came after that K."
+pub fn usable(es: &[Event], t: u32, v: u32) -> bool {
+    let since = match es.iter().rposition(|e| e.kind == K && e.thread == t) {
+        Some(last_lock) => last_lock + 1,
+        None => 0,
+    };
+    let assigned = es[since..].iter().any(|e| is(e, &[A, B], t, v));
+    let loaded = loads_and_reads(es, t, v).into_iter().any(|(load, read)| load >= since && read >= since);
+    assigned || loaded
+}
+
+/// "*Held* by T: more K than N by T on that lock."
+pub fn held(es: &[Event], t: u32, lock: u32) -> bool {
+    let count = |kind| es.iter().filter(|e| e.kind == kind && e.thread == t && e.target == lock).count();
+    count(K) > count(N)
+}
+
+/// "*Under* V's guard: T holds the lock that the `G` line names for V."
+pub fn under(es: &[Event], guards: &[u32], t: u32, v: u32) -> bool {
+    guards.get(v as usize).is_some_and(|&lock| held(es, t, lock))
+}
+
+/// "*Main memory* of V: the value of the latest W on V, by any thread; 0 before one."
+pub fn main_memory(es: &[Event], v: u32) -> i32 {
+    es.iter().rev().find(|e| e.kind == W && e.target == v).map_or(0, |e| e.value)
+}
+
+// ---- the rules ----
+
+/// "9. 2,000 events are already in."
+fn rule_9(es: &[Event]) -> bool {
+    es.len() >= MAX_EVENTS
+}
+
+/// "5. Thread, variable or lock not declared."
+fn rule_5(counts: Counts, e: &Event) -> bool {
+    let targets = match e.kind {
+        K | N => counts.locks,
+        _ => counts.variables,
+    };
+    e.thread >= counts.threads || e.target >= targets
+}
+
+/// "10. No partner: L without an outstanding read, W without an outstanding store, B when
+/// nothing is owed."
+fn rule_10(es: &[Event], e: &Event) -> bool {
+    match e.kind {
+        L => outstanding_reads(es, e.thread, e.target).is_empty(),
+        W => outstanding_stores(es, e.thread, e.target).is_empty(),
+        B => !owed(es, e.thread, e.target),
+        _ => false,
+    }
+}
+
+/// "11. Lock held by another thread."
+fn rule_11(es: &[Event], counts: Counts, e: &Event) -> bool {
+    (0..counts.threads).any(|t| t != e.thread && held(es, t, e.target))
+}
+
+/// "12. Unlock of a lock that T does not hold."
+fn rule_12(es: &[Event], e: &Event) -> bool {
+    !held(es, e.thread, e.target)
+}
+
+/// "13. An owed assign bars it: K while T owes on some variable; L, S, P on V while T owes
+/// on V."
+fn rule_13(es: &[Event], counts: Counts, e: &Event) -> bool {
+    match e.kind {
+        K => (0..counts.variables).any(|v| owed(es, e.thread, v)),
+        L | S | P => owed(es, e.thread, e.target),
+        _ => false,
+    }
+}
+
+/// "14. Store without a fresh assign."
+fn rule_14(es: &[Event], e: &Event) -> bool {
+    !fresh(es, e.thread, e.target)
+}
+
+/// "15. Fresh assign not stored: L on V; N while T has a fresh assign on some variable."
+fn rule_15(es: &[Event], counts: Counts, e: &Event) -> bool {
+    match e.kind {
+        L => fresh(es, e.thread, e.target),
+        N => (0..counts.variables).any(|v| fresh(es, e.thread, v)),
+        _ => false,
+    }
+}
+
+/// "16. Store not written: L with an outstanding store of T on V, or whose read came before
+/// a write of T on V; N while T has an outstanding store. The syllabus counts an early store
+/// here like the others."
+fn rule_16(es: &[Event], counts: Counts, e: &Event) -> bool {
+    match e.kind {
+        L => !outstanding_stores(es, e.thread, e.target).is_empty() || read_before_write(es, e.thread, e.target),
+        N => (0..counts.variables).any(|v| !outstanding_stores(es, e.thread, v).is_empty()),
+        _ => false,
+    }
+}
+
+/// An L on V now has a "read [that] came before a write of T on V".
+fn read_before_write(es: &[Event], t: u32, v: u32) -> bool {
+    match outstanding_reads(es, t, v).first() {
+        Some(&read) => es[read..].iter().any(|e| is(e, &[W], t, v)),
+        None => false,
+    }
+}
+
+/// "17. Copy not usable."
+fn rule_17(es: &[Event], e: &Event) -> bool {
+    !usable(es, e.thread, e.target)
+}
+
+/// "18. Value differs: U and S from the copy, L from its read, W from its store, R from main
+/// memory, B from the announced value."
+fn rule_18(es: &[Event], e: &Event) -> bool {
+    let first = |places: Vec<usize>| places.first().map(|&i| es[i].value);
+    let expected = match e.kind {
+        U | S => copy(es, e.thread, e.target),
+        L => first(outstanding_reads(es, e.thread, e.target)),
+        W => first(outstanding_stores(es, e.thread, e.target)),
+        R => Some(main_memory(es, e.target)),
+        B => latest(es, &[P], e.thread, e.target).map(|p| p.value),
+        A | K | N | P => return false,
+    };
+    expected != Some(e.value)
+}
+
+/// "19. Eight outstanding already: R, or S and P."
+fn rule_19(es: &[Event], e: &Event) -> bool {
+    match e.kind {
+        R => outstanding_reads(es, e.thread, e.target).len() >= MAX_OUTSTANDING,
+        S | P => outstanding_stores(es, e.thread, e.target).len() >= MAX_OUTSTANDING,
+        _ => false,
+    }
+}

@@ -1,0 +1,77 @@
+//! Tests, and the helpers that build papers.
+
+mod format;
+mod marking;
+mod ordering;
+mod traces;
+mod walks;
+
+use crate::{line_of, mark, paper, Event};
+
+/// The head and `G` line of the short traces: "Two threads, variables and locks."
+const TRACE_HEAD: &str = "H 2 2 2\nG -\n";
+
+/// The bytes, and a right trailer after them.
+fn with_trailer(before: &[u8]) -> Vec<u8> {
+    let mut paper = before.to_vec();
+    paper.extend_from_slice(format!("Z {}\n", before.len()).as_bytes());
+    paper
+}
+
+/// A paper of this head and `G` line, these events parted by `;`, and a right trailer.
+fn paper_of(head: &str, events: &str) -> Vec<u8> {
+    let mut text = head.to_string();
+    for event in events.split(';').map(str::trim).filter(|e| !e.is_empty()) {
+        text.push_str(event);
+        text.push('\n');
+    }
+    with_trailer(text.as_bytes())
+}
+
+/// What `mark` prints, as text.
+fn print(paper: &[u8]) -> String {
+    String::from_utf8(mark(paper)).expect("ASCII")
+}
+
+/// The first line that `mark` prints.
+fn first_line(paper: &[u8]) -> String {
+    print(paper).lines().next().unwrap_or("").to_string()
+}
+
+/// The events parted by `;`.
+fn events_of(events: &str) -> Vec<Event> {
+    events.split(';').map(str::trim).filter(|e| !e.is_empty()).map(|e| paper::event(e.as_bytes()).expect("an event")).collect()
+}
+
+fn expect_accepted(head: &str, events: &str) {
+    let count = events_of(events).len();
+    assert_eq!(first_line(&paper_of(head, events)), format!("accepted {count}"), "{events}");
+}
+
+/// The paper is refused with this number at its last event, and accepted without it.
+fn expect_refused_last(head: &str, events: &str, number: u32) {
+    let count = events.split(';').filter(|e| !e.trim().is_empty()).count();
+    let line = line_of(count - 1);
+    assert_eq!(first_line(&paper_of(head, events)), format!("refused {line} {number}"), "{events}");
+    let before = events.trim_end_matches([';', ' ']).rfind(';').map_or("", |end| &events[..end]);
+    expect_accepted(head, before);
+}
+
+/// The bytes are refused with this line and number.
+fn expect_refused(paper: &[u8], line: usize, number: u32) {
+    let shown = String::from_utf8_lossy(&paper[..paper.len().min(120)]).into_owned();
+    assert_eq!(print(paper), format!("refused {line} {number}\n"), "{shown:?}");
+}
+
+/// An accepted paper with guards gets `unordered line number` and no section.
+fn expect_unordered(head: &str, events: &str, line: usize, number: u32) {
+    let text = print(&paper_of(head, events));
+    assert!(text.starts_with("accepted"), "{events}: {text}");
+    assert!(text.ends_with(&format!("\nunordered {line} {number}\n")), "{events}: {text}");
+    assert!(!text.contains("section"), "{events}: {text}");
+}
+
+/// `times` copies of the events.
+fn repeat(events: &str, times: usize) -> String {
+    vec![events; times].join(";")
+}
