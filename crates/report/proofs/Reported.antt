@@ -40,7 +40,7 @@ use Rattle.sections.proofs.Demand3.{demand-3, room as entries-room}
 use Rattle.listing.specs.Listing.{refusedLine, unorderedLine, ended, textOf, lineRoom, writeAll, stateLines, linesIn, sectionLines, entryLines}
 use Rattle.listing.proofs.LineLaws.{wrote-as}
 use Rattle.listing.proofs.RoomEnough as Room
-use Rattle.listing.proofs.RoomEnough.{sections-text, unordered-text, none-text, room-enough, wrote-whole}
+use Rattle.listing.proofs.RoomEnough.{Enough, sections-text, unordered-text, none-text, room-enough, wrote-whole}
 use Rattle.ordering.specs.declared.Ordering.{Ordering}
 use Rattle.ordering.specs.declared.Ordering.the-variants.{Ordered, Unordered, NoGuards, Lent, NoTrace}
 use Rattle.ordering.specs.declared.Outcome.{Outcome}
@@ -52,7 +52,7 @@ use Rattle.ordering.proofs.Serial.{Small, accepted-trace, few, small, fit-codes
 use Rattle.report.specs.declared.Verdict.the-variants.{Accepted, Refused}
 use Rattle.report.specs.declared.Report.{Report}
 use Rattle.report.specs.declared.Whole.{Whole}
-use Rattle.report.specs.Report.{lentShort, denialLines, orderLines, listingLines, listingOf, orderingLines, recordsAfter, verdictFor, wholeWith, shortWhole, wholeOf, Reports, Fills}
+use Rattle.report.specs.Report.{lentShort, denialLines, orderLines, memoryLines, refusalLines, listingLines, listingOf, orderingLines, recordsAfter, verdictFor, wholeWith, shortWhole, wholeOf, Reports, Fills}
 
 -- ---- 7
 
@@ -74,9 +74,51 @@ long-places places out list scratch e = by (ltb places 2000) refl e
 
 -- ---- a refused trace
 
-refused-is : (m : Marked) → (numberIn m ≡ 0 → ⊥) → m ≡ refused (numberIn m) (lineIn m)
+pub refused-is : (m : Marked) → (numberIn m ≡ 0 → ⊥) → m ≡ refused (numberIn m) (lineIn m)
 refused-is accepted z = absurd (z refl)
 refused-is (refused number line) z = refl
+
+-- ---- an accepted trace
+
+events-count : (s : List ℕ) → length (pastOf s) ≡ length (eventsIn s)
+unfolding eventsIn
+events-count s = sym (length-reverse (pastOf s))
+
+linesWith : Counts → ℕ → Words → List (List ℕ)
+linesWith k n w = cond (allowed full k) (stateLines n (memory k w) (copies k w)) []
+
+module _ (s : List ℕ) (ran : Ran) (m : Marks s ran) where
+  pub row-is : ran .row ≡ rowOf (pastOf s)
+  row-is = ap (λ (x : Ran). x .row) (m .ran) ∙ (unfold markedRan in refl)
+
+  module _ (a : markedOf s ≡ accepted) where
+    stood : Stands full (traceOf s .head) (pastOf s) (stateAfter (traceOf s .head) (pastOf s))
+    stood = stands full (traceOf s .head) (pastOf s) up-to-full (accepted-allowed s a) (past-clean s)
+
+    state-is : ran .state ≡ stateAfter (traceOf s .head) (pastOf s)
+    state-is = ap (λ (x : Ran). x .state) (m .ran) ∙ (unfold markedRan in refl)
+
+    -- the lines of the state that is handed back are the trace's
+    pub state-lines : linesIn (ran .state) ≡ memoryLines s
+    unfolding memoryLines
+    state-lines = ap linesIn state-is ∙ shape ∙ (λ i. linesWith (stood .counts i) (events i) (stood .words i)) ∙ head
+      where
+        shape : linesIn (stateAfter (traceOf s .head) (pastOf s)) ≡ linesWith (stateAfter (traceOf s .head) (pastOf s) .counts) (stateAfter (traceOf s .head) (pastOf s) .events) (wordsIn (stateAfter (traceOf s .head) (pastOf s)))
+        shape = unfold linesIn linesWith in refl
+
+        events : stateAfter (traceOf s .head) (pastOf s) .events ≡ length (eventsIn s)
+        events = events-same full (traceOf s .head) (pastOf s) (stateAfter (traceOf s .head) (pastOf s)) stood ∙ events-count s
+
+        head : linesWith (traceOf s .head) (length (eventsIn s)) (wordsOf (pastOf s)) ≡ stateLines (length (eventsIn s)) (memory (traceOf s .head) (wordsOf (pastOf s))) (copies (traceOf s .head) (wordsOf (pastOf s)))
+        head = unfold linesWith in rw (accepted-allowed s a) refl
+
+    -- so many bytes are enough for them and what comes after
+    pub lines-enough : (ends : List (List ℕ)) → length (textOf ends) ≤ 20000 → Enough (memoryLines s ++ ends)
+    unfolding memoryLines
+    lines-enough ends k = room-enough (traceOf s .head) (wordsOf (pastOf s)) (length (eventsIn s)) (accepted-allowed s a) (subst (λ (n : ℕ). n ≤ 2000) (events-count s) (past-few s)) ends k
+
+    pub count-events : countIn (ran .verdict) ≡ length (eventsIn s)
+    count-events = count-is s ran m a ∙ events-count s
 
 module _ (s : List ℕ) (places : ℕ) (out list scratch : List ℕ) (e : lentShort places (length out) (length list) (length scratch) ≡ false)
     (r : Outcome) (list′ scratch′ : List ℕ) (c : OrdersTrace s list scratch r list′ scratch′) where
@@ -98,14 +140,11 @@ module _ (s : List ℕ) (places : ℕ) (out list scratch : List ℕ) (e : lentSh
   gives : (o : Ordering) → o ≡ r .ordering → Given (cond (lentShort places (length out) (length list) (length scratch)) Lent (orderingOf s list scratch)) (entriesOf s) list scratch o list′ scratch′
   gives o q = subst (λ (x : Ordering). Given (cond (lentShort places (length out) (length list) (length scratch)) Lent (orderingOf s list scratch)) (entriesOf s) list scratch x list′ scratch′) (sym q) (rw e (c .gives))
 
-  row-is : r .ran .row ≡ rowOf (pastOf s)
-  row-is = ap (λ (x : Ran). x .row) (c .marks .ran) ∙ (unfold markedRan in refl)
-
   pub refused-reports : (number line w : ℕ) (out′ : List ℕ) (x : Whole) → number ≡ numberIn (reported (r .ran .verdict)) → (number ≡ 0 → ⊥) → line ≡ lineIn (reported (r .ran .verdict))
       → Wrote (room lineRoom (ended (refusedLine line number))) out w out′ → x ≡ wholeWith (Refused number line) (r .ordering) w (r .ran .row) 0
       → Reports s places out list scratch x out′ list′ scratch′
   refused-reports number line w out′ x en z el v q = record {
-    says = q ∙ (λ i. wholeWith (said i) (c .gives .answers i) (length-is i) (row-is i) (none i)) ∙ (unfold wholeOf in sym (rw e refl));
+    says = q ∙ (λ i. wholeWith (said i) (c .gives .answers i) (length-is i) (row-is s (r .ran) (c .marks) i) (none i)) ∙ (unfold wholeOf in sym (rw e refl));
     prints = v .bytes ∙ ap (λ (t : List ℕ). over t out) text ∙ sym (rw e refl);
     orders = gives (x .report .ordering) (ap (λ (y : Whole). y .report .ordering) q);
   }
@@ -119,7 +158,7 @@ module _ (s : List ℕ) (places : ℕ) (out list scratch : List ℕ) (e : lentSh
       text : room lineRoom (ended (refusedLine line number)) out ≡ listingOf s
       text = sym (room-yes lineRoom (ended (refusedLine line number)) out (omega (arith, lends .out-long)))
           ∙ sym (append-nil (ended (refusedLine line number)))
-          ∙ (unfold listingOf listingLines textOf in rw marked refl)
+          ∙ (unfold listingOf listingLines refusalLines textOf in rw marked refl)
 
       length-is : w ≡ length (listingOf s)
       length-is = v .count ∙ ap length text
@@ -127,39 +166,12 @@ module _ (s : List ℕ) (places : ℕ) (out list scratch : List ℕ) (e : lentSh
       none : 0 ≡ onMarked (markedOf s) (length (eventsIn s)) 0
       none = ap (λ (m : Marked). onMarked m (length (eventsIn s)) 0) (sym marked)
 
-  -- ---- an accepted trace
-
   module _ (a : markedOf s ≡ accepted) where
     abbrev h : Counts
     h = traceOf s .head
 
     abbrev guard : ℕ → ℕ
     guard = guardOf (traceOf s .guards .locks)
-
-    stood : Stands full h (pastOf s) (stateAfter h (pastOf s))
-    stood = stands full h (pastOf s) up-to-full (accepted-allowed s a) (past-clean s)
-
-    linesWith : Counts → ℕ → Words → List (List ℕ)
-    linesWith k n w = cond (allowed full k) (stateLines n (memory k w) (copies k w)) []
-
-    state-is : r .ran .state ≡ stateAfter h (pastOf s)
-    state-is = ap (λ (x : Ran). x .state) (c .marks .ran) ∙ (unfold markedRan in refl)
-
-    events-count : length (pastOf s) ≡ length (eventsIn s)
-    unfolding eventsIn
-    events-count = sym (length-reverse (pastOf s))
-
-    state-lines : linesIn (r .ran .state) ≡ stateLines (length (eventsIn s)) (memory h (wordsOf (pastOf s))) (copies h (wordsOf (pastOf s)))
-    state-lines = ap linesIn state-is ∙ shape ∙ (λ i. linesWith (stood .counts i) (events i) (stood .words i)) ∙ head
-      where
-        shape : linesIn (stateAfter h (pastOf s)) ≡ linesWith (stateAfter h (pastOf s) .counts) (stateAfter h (pastOf s) .events) (wordsIn (stateAfter h (pastOf s)))
-        shape = unfold linesIn linesWith in refl
-
-        events : stateAfter h (pastOf s) .events ≡ length (eventsIn s)
-        events = events-same full h (pastOf s) (stateAfter h (pastOf s)) stood ∙ events-count
-
-        head : linesWith h (length (eventsIn s)) (wordsOf (pastOf s)) ≡ stateLines (length (eventsIn s)) (memory h (wordsOf (pastOf s))) (copies h (wordsOf (pastOf s)))
-        head = unfold linesWith in rw (accepted-allowed s a) refl
 
     -- ---- the lines about the order
 
@@ -238,31 +250,27 @@ module _ (s : List ℕ) (places : ℕ) (out list scratch : List ℕ) (e : lentSh
         → Wrote (writeAll (linesIn (r .ran .state) ++ orderingLines (r .ordering) list′)) out w out′ → x ≡ wholeWith (Accepted n) (r .ordering) w (r .ran .row) n
         → Reports s places out list scratch x out′ list′ scratch′
     accepted-reports n w out′ x en v q = record {
-      says = q ∙ (λ i. wholeWith (said i) (c .gives .answers i) (length-is i) (row-is i) (all i)) ∙ (unfold wholeOf in sym (rw e refl));
+      says = q ∙ (λ i. wholeWith (said i) (c .gives .answers i) (length-is i) (row-is s (r .ran) (c .marks) i) (all i)) ∙ (unfold wholeOf in sym (rw e refl));
       prints = whole .1 ∙ ap (λ (t : List ℕ). over t out) text ∙ sym (rw e refl);
       orders = gives (x .report .ordering) (ap (λ (y : Whole). y .report .ordering) q);
     }
       where
-        count : n ≡ length (pastOf s)
-        count = en ∙ count-is s (r .ran) (c .marks) a
+        count : n ≡ length (eventsIn s)
+        count = en ∙ count-events s (r .ran) (c .marks) a
 
         said : Accepted n ≡ verdictFor (length (eventsIn s)) (markedOf s)
-        said = ap (λ (k : ℕ). Accepted k) (count ∙ events-count) ∙ ap (λ (m : Marked). verdictFor (length (eventsIn s)) m) (sym a)
+        said = ap (λ (k : ℕ). Accepted k) count ∙ ap (λ (m : Marked). verdictFor (length (eventsIn s)) m) (sym a)
 
         all : n ≡ onMarked (markedOf s) (length (eventsIn s)) 0
-        all = count ∙ events-count ∙ ap (λ (m : Marked). onMarked m (length (eventsIn s)) 0) (sym a)
+        all = count ∙ ap (λ (m : Marked). onMarked m (length (eventsIn s)) 0) (sym a)
 
-        lines : linesIn (r .ran .state) ++ orderingLines (r .ordering) list′ ≡ stateLines (length (eventsIn s)) (memory h (wordsOf (pastOf s))) (copies h (wordsOf (pastOf s))) ++ orderLines s
-        lines = λ i. state-lines i ++ order-lines i
+        lines : linesIn (r .ran .state) ++ orderingLines (r .ordering) list′ ≡ memoryLines s ++ orderLines s
+        lines = λ i. state-lines s (r .ran) (c .marks) a i ++ order-lines i
 
-        whole : (w ≡ length (textOf (stateLines (length (eventsIn s)) (memory h (wordsOf (pastOf s))) (copies h (wordsOf (pastOf s))) ++ orderLines s)))
-            × (out′ ≡ over (textOf (stateLines (length (eventsIn s)) (memory h (wordsOf (pastOf s))) (copies h (wordsOf (pastOf s))) ++ orderLines s)) out)
-        whole =
-            wrote-whole _ out out′ w
-            (room-enough h (wordsOf (pastOf s)) (length (eventsIn s)) (accepted-allowed s a) (subst (λ (k : ℕ). k ≤ 2000) events-count (past-few s)) (orderLines s) order-short)
-            (lends .out-long) (wrote-as _ _ out out′ w lines v)
+        whole : (w ≡ length (textOf (memoryLines s ++ orderLines s))) × (out′ ≡ over (textOf (memoryLines s ++ orderLines s)) out)
+        whole = wrote-whole _ out out′ w (lines-enough s (r .ran) (c .marks) a (orderLines s) order-short) (lends .out-long) (wrote-as _ _ out out′ w lines v)
 
-        text : textOf (stateLines (length (eventsIn s)) (memory h (wordsOf (pastOf s))) (copies h (wordsOf (pastOf s))) ++ orderLines s) ≡ listingOf s
+        text : textOf (memoryLines s ++ orderLines s) ≡ listingOf s
         text = unfold listingOf listingLines in rw a refl
 
         length-is : w ≡ length (listingOf s)

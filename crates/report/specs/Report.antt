@@ -25,6 +25,7 @@ use Rattle.report.specs.declared.Verdict.{Verdict}
 use Rattle.report.specs.declared.Verdict.the-variants.{Accepted, Refused}
 use Rattle.report.specs.declared.Report.{Report}
 use Rattle.report.specs.declared.Whole.{Whole}
+use Rattle.report.specs.declared.Brief.{Brief}
 
 -- 7. Lent too little (line 0): records under 2,000 places, output under 32,768 bytes; where an order is wanted, order list under 1,000
 -- places or scratch under 2,000.
@@ -44,15 +45,27 @@ orderLines s =
     cond (traceOf s .guards .given)
     (denialLines (denial (traceOf s .head) (guardOf (traceOf s .guards .locks)) (eventsIn s)) (sectionLines (order (traceOf s .head) (eventsIn s)))) []
 
--- Events; each declared variable and its value in main memory; each usable copy; each section. Otherwise only `refused line number`.
+-- Events; each declared variable and its value in main memory; each usable copy.
+unfoldable pub memoryLines : List ℕ → List (List ℕ)
+memoryLines s = stateLines (length (eventsIn s)) (memory (traceOf s .head) (wordsOf (pastOf s))) (copies (traceOf s .head) (wordsOf (pastOf s)))
+
+-- Otherwise only `refused line number`.
+unfoldable pub refusalLines : List ℕ → List (List ℕ)
+refusalLines s = refusedLine (lineIn (markedOf s)) (numberIn (markedOf s)) ∷ []
+
+-- where an order is wanted, each section too
 unfoldable pub listingLines : List ℕ → List (List ℕ)
-listingLines s =
-    onMarked (markedOf s)
-    (stateLines (length (eventsIn s)) (memory (traceOf s .head) (wordsOf (pastOf s))) (copies (traceOf s .head) (wordsOf (pastOf s))) ++ orderLines s)
-    (refusedLine (lineIn (markedOf s)) (numberIn (markedOf s)) ∷ [])
+listingLines s = onMarked (markedOf s) (memoryLines s ++ orderLines s) (refusalLines s)
+
+-- where no order is wanted
+unfoldable pub briefLines : List ℕ → List (List ℕ)
+briefLines s = onMarked (markedOf s) (memoryLines s) (refusalLines s)
 
 unfoldable pub listingOf : List ℕ → List ℕ
 listingOf s = textOf (listingLines s)
+
+unfoldable pub briefOf : List ℕ → List ℕ
+briefOf s = textOf (briefLines s)
 
 -- the lines about an order that is given in this list
 unfoldable pub orderingLines : Ordering → List ℕ → List (List ℕ)
@@ -102,3 +115,16 @@ pub record Fills (s records out list scratch : List ℕ) (r : Report) (records�
   pub reports : Reports s (length records) out list scratch whole out′ list′ scratch′
   pub says : r ≡ whole .report
   pub fills : records′ ≡ cond (lentShort (length records) (length out) (length list) (length scratch)) records (recordsAfter s records)
+
+-- ---- where no order is wanted
+
+abbrev pub briefShort : ℕ → ℕ → Bool
+briefShort records out = ltb records 2000 || ltb out 32768
+
+abbrev pub briefWith : Verdict → ℕ → Brief
+briefWith v written = record { verdict = v; written = written }
+
+pub record Briefs (s records out : List ℕ) (r : Brief) (records′ out′ : List ℕ) : Type 0 where
+  pub says : r ≡ cond (briefShort (length records) (length out)) (briefWith (Refused 7 0) 0) (briefWith (verdictFor (length (eventsIn s)) (markedOf s)) (length (briefOf s)))
+  pub fills : records′ ≡ cond (briefShort (length records) (length out)) records (recordsAfter s records)
+  pub prints : out′ ≡ cond (briefShort (length records) (length out)) out (over (briefOf s) out)

@@ -7,7 +7,7 @@ ghost use lib.ListN.{length, take};
 ghost use Rattle.decimal.specs.Text.{over, Wrote};
 ghost use Rattle.listing.specs.Listing.{linesIn, writeAll};
 ghost use Rattle.report.specs.declared.Verdict.the-variants.{Accepted, Refused};
-ghost use Rattle.report.specs.Report.{lentShort, orderingLines, shortWhole, wholeWith, Reports, Fills};
+ghost use Rattle.report.specs.Report.{lentShort, orderingLines, shortWhole, wholeWith, Reports, Fills, Briefs};
 use machine::State;
 use ordering::Ordering;
 
@@ -29,6 +29,12 @@ pub struct Whole {
     pub report: Report,
     pub row: [u64; 2000],
     pub count: usize,
+}
+
+// What is said of a trace where no order is wanted, and the length of the listing.
+pub struct Brief {
+    pub verdict: Verdict,
+    pub written: usize,
 }
 
 // 7. Lent too little: records, output, order list or scratch.
@@ -173,4 +179,38 @@ pub fn mark_trace(
     let n = whole.count;
     copy(records, &row[..n]);
     whole.report
+}
+
+// Marks a whole trace, with its records and its listing, where no order is wanted.
+pub fn mark_unordered(bytes: &[u8], records: &mut [u64], out: &mut [u8]) -> Brief
+    ensures { λ r. ⌜ Briefs (now (bytes .entry)) (now (records .entry)) (now (out .entry)) r (now (records .exit)) (now (out .exit)) ⌝ }
+{
+    if (records.len() < 2000) | (out.len() < 32768) {
+        let seven = Verdict::Refused(7, 0);
+        return Brief {
+            verdict: seven,
+            written: 0,
+        };
+    }
+    let ran = marking::mark(bytes);
+    let said = ran.verdict;
+    let number = marking::number_of(said);
+    if number != 0 {
+        let line = marking::line_of(said);
+        let length = listing::write_refused(out, line, number as usize);
+        let refused = Verdict::Refused(number, line);
+        return Brief {
+            verdict: refused,
+            written: length,
+        };
+    }
+    let n = marking::count_of(said);
+    let row = ran.row;
+    copy(records, &row[..n]);
+    let written = listing::write_state(out, ran.state);
+    let accepted = Verdict::Accepted(n);
+    Brief {
+        verdict: accepted,
+        written: written,
+    }
 }
