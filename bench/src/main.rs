@@ -22,12 +22,12 @@ fn paper(head: &str, guards: &str, lines: impl Iterator<Item = String>) -> Vec<u
     text.into_bytes()
 }
 
-/// Random accepted papers of a length.
-fn random(seed: u64, length: usize, number: usize) -> Vec<Vec<u8>> {
+/// Random accepted papers of a length; `orderly` ones have an order if it can be had.
+fn random(seed: u64, length: usize, number: usize, orderly: bool) -> Vec<Vec<u8>> {
     let mut rng = Rng::new(seed);
     (0..number)
         .map(|_| {
-            let (counts, guards, events) = generate::long(&mut rng, length, 0);
+            let (counts, guards, events) = generate::long(&mut rng, length, 0, orderly);
             generate::paper(counts, guards.as_deref(), &events)
         })
         .collect()
@@ -59,6 +59,19 @@ fn nested() -> Vec<Vec<u8>> {
     let locks = (0..1000).map(|i| format!("K 0 {}", i % 8));
     let unlocks = (0..1000).map(|i| format!("N 0 {}", i % 8));
     vec![paper("H 8 16 8", "G 0 0 0 0 0 0 0 0 0 0 0 0 0 0 0 0", locks.chain(unlocks))]
+}
+
+/// The same paper with no guards.
+fn unguarded(p: &[u8]) -> Vec<u8> {
+    let text = String::from_utf8(p.to_vec()).expect("ASCII");
+    let lines: Vec<&str> = text.lines().collect();
+    paper(lines[0], "G -", lines[2..lines.len() - 1].iter().map(|l| l.to_string()))
+}
+
+/// Papers that have an order.
+fn ordered(seed: u64, length: usize, number: usize) -> Vec<Vec<u8>> {
+    let has_order = |p: &Vec<u8>| incremental::mark(p).contains("section ");
+    random(seed, length, 4 * number, true).into_iter().filter(has_order).take(number).collect()
 }
 
 struct Times {
@@ -119,7 +132,7 @@ fn main() {
     println!("| papers of 2,000 events | proved, ns an event | B, ns an event | ratio |");
     println!("|---|---|---|---|");
     for seed in 1..=4 {
-        row(&format!("random, seed {seed}"), &random(seed, 2000, 5));
+        row(&format!("random, seed {seed}"), &random(seed, 2000, 5, seed % 2 == 0));
     }
     row("empty sections", &sections());
     row("uses in one section", &uses());
@@ -128,17 +141,27 @@ fn main() {
     println!("\n| events of a paper | proved, ns an event | B, ns an event | ratio |");
     println!("|---|---|---|---|");
     for n in [100, 200, 500, 1000, 2000] {
-        row(&n.to_string(), &random(50, n, 20));
+        row(&n.to_string(), &random(50, n, 20, false));
+    }
+    println!("\n| with an order, events of a paper | proved, ns an event | without guards, ns an event | 20 to 22, order and section lines |");
+    println!("|---|---|---|---|");
+    for n in [100, 500, 1000, 1900] {
+        let guarded = ordered(70, n, 5);
+        let plain: Vec<Vec<u8>> = guarded.iter().map(|p| unguarded(p)).collect();
+        let repeats = (400_000 / (n * guarded.len().max(1))).max(1);
+        let (a, b) = (times(&guarded, repeats), times(&plain, repeats));
+        let (x, y) = (a.proved / a.events as f64, b.proved / b.events as f64);
+        println!("| {n} | {x:.1} | {y:.1} | {:.1} |", x - y);
     }
     println!("\n| 1,000 short papers | proved, µs a paper | B, µs a paper | ratio |");
     println!("|---|---|---|---|");
     for n in [5, 10, 20, 40] {
-        let papers = random(90 + n as u64, n, 1000);
+        let papers = random(90 + n as u64, n, 1000, false);
         let t = times(&papers, 20);
         let k = 20.0 * 1000.0 * 1000.0;
         println!("| about {n} events | {:.2} | {:.2} | {:.2} |", t.proved / k, t.b / k, t.proved / t.b);
     }
-    let p = &random(1, 2000, 1)[0];
+    let p = &random(2, 2000, 1, true)[0];
     let (a, b) = (process(&mark, &[], p), process(&second, &["incremental"], p));
     println!("\n| one process, one paper of 2,000 events | µs |");
     println!("|---|---|");
