@@ -186,9 +186,14 @@ module _ (s : List ℕ) (a : markedOf s ≡ accepted) where
     serial (denied number line) q o p list′ w = subst (λ (x : Ordering). SerialTrace s x list′) (sym p) (nothing number line (whole (denied number line) q))
 
 -- Demand 3, for every byte sequence that marking accepts, with guards: what is said of its order and what then stands in the order
--- list are what `Demand3` demands.
-pub demand-3-bytes : (s list scratch : List ℕ) (r : Outcome) (list′ scratch′ : List ℕ) → OrdersTrace s list scratch r list′ scratch′
+-- list are what `Demand3` demands. The answer o and the list are those that are promised of a whole trace.
+pub demand-3-bytes : (s list scratch : List ℕ) (o : Ordering) (list′ scratch′ : List ℕ) → Given (orderingOf s list scratch) (entriesOf s) list scratch o list′ scratch′
+    → markedOf s ≡ accepted → traceOf s .guards .given ≡ true → lentShort list scratch ≡ false → SerialTrace s o list′
+demand-3-bytes s list scratch o list′ scratch′ c a g e =
+    serial s a g list scratch e (denial (traceOf s .head) (guardOf (traceOf s .guards .locks)) (eventsIn s)) refl o (c .answers ∙ said s a g list scratch e) list′
+    (c .lists ∙ ap (λ (x : Ordering). cond (ordered x) (entriesOf s ++ drop (length (entriesOf s)) list) list) (said s a g list scratch e))
+
+-- of `ordering::order_trace`
+pub demand-3-ordered : (s list scratch : List ℕ) (r : Outcome) (list′ scratch′ : List ℕ) → OrdersTrace s list scratch r list′ scratch′
     → markedOf s ≡ accepted → traceOf s .guards .given ≡ true → lentShort list scratch ≡ false → SerialTrace s (r .ordering) list′
-demand-3-bytes s list scratch r list′ scratch′ c a g e =
-    serial s a g list scratch e (denial (traceOf s .head) (guardOf (traceOf s .guards .locks)) (eventsIn s)) refl (r .ordering) (c .gives .answers ∙ said s a g list scratch e) list′
-    (c .gives .lists ∙ ap (λ (x : Ordering). cond (ordered x) (entriesOf s ++ drop (length (entriesOf s)) list) list) (said s a g list scratch e))
+demand-3-ordered s list scratch r list′ scratch′ c a g e = demand-3-bytes s list scratch (r .ordering) list′ scratch′ (c .gives) a g e

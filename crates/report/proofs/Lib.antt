@@ -1,3 +1,4 @@
 pub mod Lines
 pub mod Reported
 pub mod Briefed
+pub mod Serial
