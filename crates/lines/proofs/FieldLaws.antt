@@ -8,9 +8,9 @@ use native.Mathlib.Numerals.{add-one}
 use native.Mathlib.Omega.{arith}
 use borrow.Author.Tests.{eq-eqb, ne-eqb, eqb-true, eqb-false}
 use lib.Dec.{eqb}
-use lib.ListN.{length, getD, take, drop, drop-of-length-le}
-use lib.Seq.{drop-cons}
-use mathlib.Core.Logic.{⊎-elim}
+use lib.ListN.{length, getD, take, drop, drop-of-length-le, length-drop, List·getD-eq-default}
+use lib.Seq.{drop-cons, take-all, drop-drop}
+use mathlib.Core.Logic.{_⊎_, inl, inr, ⊎-elim}
 use Rattle.lines.proofs.PartLaws.{rest, lt-or-le}
 use Rattle.lines.specs.Lines.{before, upTo, splitOn, onFirst, ended, linesOf, letter}
 
@@ -135,6 +135,49 @@ split-length b (x ∷ xs) = by (eqb x b) (splitOn b xs) (split-length b xs)
 pub later : (f : List ℕ) (fs : List (List ℕ)) (j : ℕ) → 0 < j → getD (f ∷ fs) j [] ≡ getD fs (j - 1) []
 later f fs zero h = absurd (omega arith)
 later f fs (suc j) h = let e : j ≡ suc j - 1 = omega arith in ap (λ (k : ℕ). getD fs k []) e
+
+-- one more byte: it ends a field, or it does not
+more-fields : (b x : ℕ) (xs : List ℕ) → length (splitOn b (x ∷ xs)) ≡ cond (eqb x b) 1 0 + length (splitOn b xs)
+unfolding splitOn
+more-fields b x xs = by (eqb x b) (splitOn b xs) (split-some b xs)
+  where
+    by : (t : Bool) (l : List (List ℕ)) → (f : List ℕ) × (fs : List (List ℕ)) × (l ≡ f ∷ fs) → length (cond t ([] ∷ l) (onFirst x l)) ≡ cond t 1 0 + length l
+    by true l w = omega arith
+    by false [] w = absurd (omega (arith, ap length (w .2)))
+    by false (f ∷ fs) w = omega arith
+
+pub count-on : (b i : ℕ) (s : List ℕ) → i < length s → length (splitOn b (drop i s)) ≡ cond (eqb (getD s i 0) b) 1 0 + length (splitOn b (drop (i + 1) s))
+count-on b i s h = rw (drop-cons s i 0 h, add-one i) (more-fields b (getD s i 0) (drop (suc i) s))
+
+pub count-end : (b i : ℕ) (s : List ℕ) → length s ≤ i → length (splitOn b (drop i s)) ≡ 1
+unfolding splitOn
+count-end b i s h = rw (drop-of-length-le s h)
+
+-- the fields from `at` on, where the first of them ends at e: it, and those behind it
+module _ (b : ℕ) (s : List ℕ) (at e : ℕ) (q : e ≡ at + before b (drop at s)) where
+  pub inside : at ≤ length s → e ≤ length s
+  inside l = omega (arith, q, before-le b (drop at s), length-drop at s)
+
+  pub first-field : (k : ℕ) → k ≡ 0 → getD (splitOn b (drop at s)) k [] ≡ take (e - at) (drop at s)
+  first-field k z =
+      let n : e - at ≡ before b (drop at s) = omega (arith, q) in
+      rw (z, n) (by (lt-or-le (before b (drop at s)) (length (drop at s))))
+    where
+      by : (before b (drop at s) < length (drop at s)) ⊎ (length (drop at s) ≤ before b (drop at s))
+          → getD (splitOn b (drop at s)) 0 [] ≡ take (before b (drop at s)) (drop at s)
+      by (inl h) = rw (split-more b (drop at s) h)
+      by (inr h) = rw (split-last b (drop at s) h) (sym (take-all (before b (drop at s)) (drop at s) h))
+
+  pub no-field : (k : ℕ) → length s ≤ e → 0 < k → getD (splitOn b (drop at s)) k [] ≡ []
+  no-field k l h =
+      let d : length (drop at s) ≤ before b (drop at s) = omega (arith, q, length-drop at s) in
+      rw (split-last b (drop at s) d) (List·getD-eq-default (drop at s ∷ []) [] {n = k} (omega arith))
+
+  pub next-field : (k : ℕ) → e < length s → 0 < k → getD (splitOn b (drop at s)) k [] ≡ getD (splitOn b (drop (e + 1) s)) (k - 1) []
+  next-field k l h =
+      let d : before b (drop at s) < length (drop at s) = omega (arith, q, length-drop at s) in
+      let n : at + (before b (drop at s) + 1) ≡ e + 1 = omega (arith, q) in
+      rw (split-more b (drop at s) d, later _ (splitOn b (drop (before b (drop at s) + 1) (drop at s))) k h, drop-drop) (ap (λ (i : ℕ). getD (splitOn b (drop i s)) (k - 1) []) n)
 
 -- A text that is empty or ends in b. What is left of it from any place on is so too.
 ended-tail : (b x : ℕ) (xs : List ℕ) → upTo b (x ∷ xs) ≡ suc (length xs) → upTo b xs ≡ length xs
