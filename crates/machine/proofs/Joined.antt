@@ -13,7 +13,7 @@ use Rattle.machine.specs.declared.Ring.{Ring}
 use Rattle.machine.specs.declared.Cell.{Cell}
 use Rattle.machine.specs.declared.Hold.{Hold}
 use Rattle.machine.specs.declared.Main.{Main}
-use Rattle.machine.specs.declared.Facts.{Facts}
+use Rattle.machine.specs.declared.Checks.{Checks}
 use Rattle.machine.specs.declared.OnSome.{OnSome}
 use Rattle.machine.specs.declared.Places.{Places}
 use Rattle.machine.specs.declared.Seen.{Seen}
@@ -24,7 +24,7 @@ use Rattle.machine.specs.State.{noSlot, noHold, noMain, blank, queued, c
 use Rattle.machine.specs.Step.{nextCell, readAfter, storeAfter, holdAfter, mainAfter, lockedAfter, varOf, lockOf, behind, stepState}
 use Rattle.machine.specs.Range.{inRange}
 use Rattle.machine.specs.Stepped.{unchanged, stepped}
-use Rattle.machine.specs.Parts.{Within, allOf, placesOf, cellPlace, slotPlace, oldestOf, othersHold, useFacts, loadFacts, storeFacts, readFacts, writeFacts, lockFacts, unlockFacts, prescientStoreFacts, prescientAssignFacts, factsFor, table, kindOf, broken, firstOf, ruleFor, someOf, seenOf, holdFor}
+use Rattle.machine.specs.Parts.{Within, allOf, placesOf, cellPlace, slotPlace, oldestOf, othersHold, five, useChecks, loadChecks, storeChecks, readChecks, writeChecks, lockChecks, unlockChecks, prescientStoreChecks, prescientAssignChecks, checksFor, table, kindOf, anyOf, firstOf, ruleFor, someOf, seenOf, holdFor}
 use Rattle.machine.proofs.Rings.{queued-length, queued-none, queued-first}
 use Rattle.machine.proofs.StepWords.{Shape, holder-eqb}
 use Rattle.machine.proofs.Kept.{Range, Room, range, room, within}
@@ -39,42 +39,63 @@ use Rattle.rules.specs.Limits.{full, UpToFull, declared}
 use Rattle.rules.specs.Words.{first}
 use Rattle.rules.specs.Rules.{Words, some, noPartner, lockTaken, notHeld, pendingBars, notFresh, notStored, readBeforeWrite, unwritten, notWritten, notUsable, differs, eightAlready, breaks, rows, rowIn, firstBroken, judge}
 
--- ---- the ten rules as one record
-abbrev factsIn : Counts → Words → Event → Facts
-factsIn c w e = record {
-  partner = noPartner w e;
-  other = lockTaken c w e;
-  unheld = notHeld w e;
-  barred = pendingBars c w e;
-  stale = notFresh w e;
-  unstored = notStored c w e;
-  unwritten = notWritten c w e;
-  unusable = notUsable w e;
-  differs = differs w e;
-  full = eightAlready w e;
-}
+-- ---- a row is passed where no check is broken, and a broken check has a number
 
-first-same : (ns : List ℕ) (c : Counts) (w : Words) (e : Event) → firstOf (factsIn c w e) ns ≡ firstBroken ns c w e
-unfolding firstBroken broken breaks
-first-same [] c w e = refl
-first-same (n ∷ ns) c w e = ap (λ m. cond (breaks n c w e) n m) (first-same ns c w e)
+none-of : (a b c d e : Bool) (row : List ℕ) → (a || b || c || d || e) ≡ false → firstOf (five a b c d e) row ≡ 0
+none-of true b c d e row h = absurd (let z : _≡_ {A = ℕ} 0 1 = cc in omega arith)
+none-of false true c d e row h = absurd (let z : _≡_ {A = ℕ} 0 1 = cc in omega arith)
+none-of false false true d e row h = absurd (let z : _≡_ {A = ℕ} 0 1 = cc in omega arith)
+none-of false false false true e row h = absurd (let z : _≡_ {A = ℕ} 0 1 = cc in omega arith)
+none-of false false false false true row h = absurd (let z : _≡_ {A = ℕ} 0 1 = cc in omega arith)
+none-of false false false false false row h = refl
 
--- the table has the rows of the definitions: the zeros that fill a row break nothing
-row-same : (c : Counts) (w : Words) (e : Event) → firstBroken (getD table (kindOf (e .kind)) []) c w e ≡ judge c w e
-unfolding judge rows rowIn firstBroken breaks kindOf
-row-same c w e = go (e .kind)
-  where
-    go : (k : Kind) → firstBroken (getD table (kindOf k) []) c w e ≡ firstBroken (rowIn rows (letter k)) c w e
-    go (Use v x) = refl
-    go (Assign v x) = refl
-    go (Load v x) = refl
-    go (Store v x) = refl
-    go (Read v x) = refl
-    go (Write v x) = refl
-    go (Lock l) = refl
-    go (Unlock l) = refl
-    go (PrescientStore v x) = refl
-    go (PrescientAssign v x) = refl
+pub rule-none : (n : Seen) (t : ℕ) (k : Kind) (b : Checks) → b ≡ checksFor n t k → anyOf b ≡ false → ruleFor n t k ≡ 0
+unfolding ruleFor
+rule-none n t k b e h = ap (λ (x : Checks). firstOf x (getD table (kindOf k) [])) (sym e) ∙ none-of (b .first) (b .second) (b .third) (b .fourth) (b .fifth) (getD table (kindOf k) []) h
+
+-- a broken check stands at a number, which is not 0
+abbrev Numbered : Bool → ℕ → Type 0
+Numbered true n = 0 < n
+Numbered false n = Unit {0}
+
+some-five : (a b c d e : Bool) (row : List ℕ) → Numbered a (getD row 0 0) → Numbered b (getD row 1 0) → Numbered c (getD row 2 0) → Numbered d (getD row 3 0) → Numbered e (getD row 4 0)
+    → (a || b || c || d || e) ≡ true → 0 < firstOf (five a b c d e) row
+some-five true b c d e row p q r s u h = p
+some-five false true c d e row p q r s u h = q
+some-five false false true d e row p q r s u h = r
+some-five false false false true e row p q r s u h = s
+some-five false false false false true row p q r s u h = u
+some-five false false false false false row p q r s u h = absurd (let z : _≡_ {A = ℕ} 0 1 = cc in omega arith)
+
+some-of : (b : Checks) (row : List ℕ) → Numbered (b .first) (getD row 0 0) → Numbered (b .second) (getD row 1 0) → Numbered (b .third) (getD row 2 0) → Numbered (b .fourth) (getD row 3 0) → Numbered (b .fifth) (getD row 4 0)
+    → anyOf b ≡ true → 0 < firstOf b row
+some-of b row p q r s u h = some-five (b .first) (b .second) (b .third) (b .fourth) (b .fifth) row p q r s u h
+
+numbered : (b : Bool) (n : ℕ) → 0 < n → Numbered b n
+numbered true n h = h
+numbered false n h = tt
+
+rule-above : (n : Seen) (t : ℕ) (k : Kind) → anyOf (checksFor n t k) ≡ true → 0 < firstOf (checksFor n t k) (getD table (kindOf k) [])
+unfolding checksFor useChecks loadChecks storeChecks readChecks writeChecks lockChecks unlockChecks prescientStoreChecks prescientAssignChecks kindOf
+rule-above n t (Use v x) h = let b = checksFor n t (Use v x) in some-of b (getD table 0 []) (numbered (b .first) 17 (omega arith)) (numbered (b .second) 18 (omega arith)) tt tt tt h
+rule-above n t (Assign v x) h = let b = checksFor n t (Assign v x) in some-of b (getD table 1 []) tt tt tt tt tt h
+rule-above n t (Load v x) h = let b = checksFor n t (Load v x) in some-of b (getD table 2 []) (numbered (b .first) 10 (omega arith)) (numbered (b .second) 13 (omega arith)) (numbered (b .third) 15 (omega arith)) (numbered (b .fourth) 16 (omega arith)) (numbered (b .fifth) 18 (omega arith)) h
+rule-above n t (Store v x) h = let b = checksFor n t (Store v x) in some-of b (getD table 3 []) (numbered (b .first) 13 (omega arith)) (numbered (b .second) 14 (omega arith)) (numbered (b .third) 17 (omega arith)) (numbered (b .fourth) 18 (omega arith)) (numbered (b .fifth) 19 (omega arith)) h
+rule-above n t (Read v x) h = let b = checksFor n t (Read v x) in some-of b (getD table 4 []) (numbered (b .first) 18 (omega arith)) (numbered (b .second) 19 (omega arith)) tt tt tt h
+rule-above n t (Write v x) h = let b = checksFor n t (Write v x) in some-of b (getD table 5 []) (numbered (b .first) 10 (omega arith)) (numbered (b .second) 18 (omega arith)) tt tt tt h
+rule-above n t (Lock l) h = let b = checksFor n t (Lock l) in some-of b (getD table 6 []) (numbered (b .first) 11 (omega arith)) (numbered (b .second) 13 (omega arith)) tt tt tt h
+rule-above n t (Unlock l) h = let b = checksFor n t (Unlock l) in some-of b (getD table 7 []) (numbered (b .first) 12 (omega arith)) (numbered (b .second) 15 (omega arith)) (numbered (b .third) 16 (omega arith)) tt tt h
+rule-above n t (PrescientStore v x) h = let b = checksFor n t (PrescientStore v x) in some-of b (getD table 8 []) (numbered (b .first) 13 (omega arith)) (numbered (b .second) 19 (omega arith)) tt tt tt h
+rule-above n t (PrescientAssign v x) h = let b = checksFor n t (PrescientAssign v x) in some-of b (getD table 9 []) (numbered (b .first) 10 (omega arith)) (numbered (b .second) 18 (omega arith)) tt tt tt h
+
+-- the rule of broken checks
+module _ (n : Seen) (t : ℕ) (k : Kind) (b : Checks) (e : b ≡ checksFor n t k) (rule : ℕ) (er : rule ≡ firstOf b (getD table (kindOf k) [])) where
+  pub rule-is-for : rule ≡ ruleFor n t k
+  unfolding ruleFor
+  rule-is-for = er ∙ ap (λ (x : Checks). firstOf x (getD table (kindOf k) [])) e
+
+  pub rule-some : anyOf b ≡ true → rule ≡ 0 → ⊥
+  rule-some h z = let q : 0 < rule = subst (λ (r : ℕ). 0 < r) (sym (er ∙ ap (λ (x : Checks). firstOf x (getD table (kindOf k) [])) e)) (rule-above n t k (ap (λ (x : Checks). anyOf x) (sym e) ∙ h)) in omega arith
 
 -- ---- rule 11, from the holder alone
 others-below : (a : Hold) (t n : ℕ) → n ≤ 8 → some n (λ u. not (eqb u t) && ltb 0 (depthOf a u)) ≡ (ltb 0 (a .holder) && leb (a .holder) n && (not (eqb (a .holder) (t + 1)) && ltb 0 (a .depth)))
@@ -114,32 +135,30 @@ others-same a n t l m = rw (others-below a t n m, lt-ltb t 8 l) (assoc (ltb 0 (a
     assoc true b c = refl
     assoc false b c = refl
 
--- ---- the facts of the parts are the rules over the state's words
+-- ---- the checks of the parts are the rules over the state's words
 
 stored-same : (s : State) (t n : ℕ) → some n (λ v. not (eqb (cellAt s t v .stores .len) 0)) ≡ some n (λ v. unwritten (wordsIn s) t v)
 unfolding unwritten wordsIn storesAt
 stored-same s t n = ap (λ (f : ℕ → Bool). some n f) (λ i. λ v. not (sym (queued-none (s .stores) (16 * t + v) (cellAt s t v .stores)) i))
 
-facts-same : (s : State) (t n : ℕ) (k : Kind) → t < 8 → s .counts .threads ≤ 8
-    → factsFor (seenOf s t k) t k ≡ factsIn (s .counts) (wordsIn s) (record { thread = t; line = n; kind = k })
-unfolding factsFor useFacts loadFacts storeFacts readFacts writeFacts lockFacts unlockFacts prescientStoreFacts prescientAssignFacts seenOf someOf allOf varOf lockOf noPartner lockTaken notHeld pendingBars notFresh notStored readBeforeWrite notWritten notUsable differs eightAlready is wordsIn readsAt storesAt
-facts-same s t n (Use v x) h m = simp or-false
-facts-same s t n (Assign v x) h m = simp or-false
-facts-same s t n (Load v x) h m = rw (queued-none (s .reads) (16 * t + v) (cellAt s t v .reads), queued-none (s .stores) (16 * t + v) (cellAt s t v .stores)) (simp or-false)
-facts-same s t n (Store v x) h m = rw (queued-length (s .stores) (16 * t + v) (cellAt s t v .stores)) (simp or-false)
-facts-same s t n (Read v x) h m = rw (queued-length (s .reads) (16 * t + v) (cellAt s t v .reads)) (simp or-false)
-facts-same s t n (Write v x) h m = rw (queued-none (s .stores) (16 * t + v) (cellAt s t v .stores)) (simp or-false)
-facts-same s t n (Lock l) h m = rw (others-same (getD (s .holds) l noHold) (s .counts .threads) t h m) (simp or-false)
-facts-same s t n (Unlock l) h m = rw (stored-same s t (s .counts .variables)) (simp or-false)
-facts-same s t n (PrescientStore v x) h m = rw (queued-length (s .stores) (16 * t + v) (cellAt s t v .stores)) (simp or-false)
-facts-same s t n (PrescientAssign v x) h m = simp or-false
+rule-kind : (s : State) (t n : ℕ) (k : Kind) → t < 8 → s .counts .threads ≤ 8
+    → firstOf (checksFor (seenOf s t k) t k) (getD table (kindOf k) []) ≡ judge (s .counts) (wordsIn s) (record { thread = t; line = n; kind = k })
+unfolding checksFor useChecks loadChecks storeChecks readChecks writeChecks lockChecks unlockChecks prescientStoreChecks prescientAssignChecks seenOf someOf allOf varOf lockOf kindOf judge rows rowIn firstBroken breaks noPartner lockTaken notHeld pendingBars notFresh notStored readBeforeWrite notWritten notUsable differs eightAlready is wordsIn readsAt storesAt
+rule-kind s t n (Use v x) h m = simp or-false
+rule-kind s t n (Assign v x) h m = refl
+rule-kind s t n (Load v x) h m = rw (queued-none (s .reads) (16 * t + v) (cellAt s t v .reads), queued-none (s .stores) (16 * t + v) (cellAt s t v .stores)) (simp or-false)
+rule-kind s t n (Store v x) h m = rw (queued-length (s .stores) (16 * t + v) (cellAt s t v .stores)) (simp or-false)
+rule-kind s t n (Read v x) h m = rw (queued-length (s .reads) (16 * t + v) (cellAt s t v .reads)) (simp or-false)
+rule-kind s t n (Write v x) h m = rw (queued-none (s .stores) (16 * t + v) (cellAt s t v .stores)) (simp or-false)
+rule-kind s t n (Lock l) h m = rw (others-same (getD (s .holds) l noHold) (s .counts .threads) t h m) (simp or-false)
+rule-kind s t n (Unlock l) h m = rw (stored-same s t (s .counts .variables)) refl
+rule-kind s t n (PrescientStore v x) h m = rw (queued-length (s .stores) (16 * t + v) (cellAt s t v .stores)) (simp or-false)
+rule-kind s t n (PrescientAssign v x) h m = refl
 
 -- the rule that the parts give is the state's verdict
 pub rule-same : (s : State) (e : Event) → e .thread < 8 → s .counts .threads ≤ 8 → ruleFor (seenOf s (e .thread) (e .kind)) (e .thread) (e .kind) ≡ judge (s .counts) (wordsIn s) e
 unfolding ruleFor
-rule-same s e h m =
-    ap (λ (f : Facts). firstOf f (getD table (kindOf (e .kind)) [])) (facts-same s (e .thread) (e .line) (e .kind) h m)
-    ∙ first-same (getD table (kindOf (e .kind)) []) (s .counts) (wordsIn s) e ∙ row-same (s .counts) (wordsIn s) e
+rule-same s e h m = rule-kind s (e .thread) (e .line) (e .kind) h m
 
 -- ---- the parts read
 

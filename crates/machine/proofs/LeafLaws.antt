@@ -12,12 +12,13 @@ use lib.Seq.{drop-cons}
 use borrow.Author.Tests.{lt-ltb, ltb-true, eqb-true, eqb-false}
 use Rattle.machine.specs.declared.Ring.{Ring}
 use Rattle.machine.specs.declared.Hold.{Hold}
-use Rattle.machine.specs.declared.Facts.{Facts}
 use Rattle.machine.specs.declared.State.{State}
 use Rattle.machine.specs.State.{blank, cellAt, depthOf}
 use Rattle.machine.specs.Range.{every}
 use Rattle.machine.specs.Step.{popped}
-use Rattle.machine.specs.Parts.{cellPlace, table, broken, firstOf}
+use Rattle.machine.specs.Parts.{cellPlace, table, kindOf}
+use Rattle.rules.specs.declared.Kind.{Kind}
+use Rattle.rules.specs.declared.Kind.the-variants.{Use, Assign, Load, Store, Read, Write, Lock, Unlock, PrescientStore, PrescientAssign}
 use Rattle.rules.specs.Rules.{some}
 
 pub cond-same : {A : Type 0} (b : Bool) (x : A) → cond b x x ≡ x
@@ -100,6 +101,15 @@ pub rows-five : (k : ℕ) → k < 10 → length (getD table k []) ≡ 5
 unfolding every
 rows-five k h = eqb-true _ 5 (every-at 10 (λ i. eqb (length (getD table i [])) 5) refl k h)
 
-pub first-at : (f : Facts) (row : List ℕ) (j : ℕ) → j < length row
-    → firstOf f (drop j row) ≡ cond (broken f (getD row j 0)) (getD row j 0) (firstOf f (drop (j + 1) row))
-first-at f row j h = rw (add-one, drop-cons row j 0)
+pub kind-in : (k : Kind) → kindOf k < 10
+unfolding kindOf
+kind-in (Use v x) = omega arith
+kind-in (Assign v x) = omega arith
+kind-in (Load v x) = omega arith
+kind-in (Store v x) = omega arith
+kind-in (Read v x) = omega arith
+kind-in (Write v x) = omega arith
+kind-in (Lock l) = omega arith
+kind-in (Unlock l) = omega arith
+kind-in (PrescientStore v x) = omega arith
+kind-in (PrescientAssign v x) = omega arith

@@ -10,7 +10,7 @@ use Rattle.machine.specs.declared.Ring.{Ring}
 use Rattle.machine.specs.declared.Cell.{Cell}
 use Rattle.machine.specs.declared.Hold.{Hold}
 use Rattle.machine.specs.declared.Main.{Main}
-use Rattle.machine.specs.declared.Facts.{Facts}
+use Rattle.machine.specs.declared.Checks.{Checks}
 use Rattle.machine.specs.declared.OnSome.{OnSome}
 use Rattle.machine.specs.declared.Places.{Places}
 use Rattle.machine.specs.declared.Seen.{Seen}
@@ -56,47 +56,51 @@ oldestOf q r = cond (eqb (q .len) 0) noSlot r
 unfoldable pub othersHold : Hold → ℕ → ℕ → Bool
 othersHold a n t = cond (ltb t 8) (ltb 0 (a .holder) && leb (a .holder) n && not (eqb (a .holder) (t + 1)) && ltb 0 (a .depth)) false
 
-abbrev pub noFacts : Facts
-noFacts = record { partner = false; other = false; unheld = false; barred = false; stale = false; unstored = false; unwritten = false; unusable = false; differs = false; full = false }
+-- which checks of its row an event breaks, in the row's order; false fills them
+abbrev pub five : Bool → Bool → Bool → Bool → Bool → Checks
+five a b c d e = record { first = a; second = b; third = c; fourth = d; fifth = e }
 
-unfoldable pub useFacts : Cell → ℕ → ℤ → Facts
-useFacts c p x = record { partner = false; other = false; unheld = false; barred = false; stale = false; unstored = false; unwritten = false; unusable = not (ltb p (c .source)); differs = not (eqZ x (c .copy)); full = false }
+abbrev pub noChecks : Checks
+noChecks = five false false false false false
 
-unfoldable pub loadFacts : Cell → Slot → ℤ → Facts
-loadFacts c r x = record { partner = eqb (c .reads .len) 0; other = false; unheld = false; barred = c .pending; stale = false; unstored = c .fresh; unwritten = not (eqb (c .stores .len) 0) || ltb (r .position) (c .written); unusable = false; differs = not (eqZ x (r .value)); full = false }
+unfoldable pub useChecks : Cell → ℕ → ℤ → Checks
+useChecks c p x = five (not (ltb p (c .source))) (not (eqZ x (c .copy))) false false false
 
-unfoldable pub storeFacts : Cell → ℕ → ℤ → Facts
-storeFacts c p x = record { partner = false; other = false; unheld = false; barred = c .pending; stale = not (c .fresh); unstored = false; unwritten = false; unusable = not (ltb p (c .source)); differs = not (eqZ x (c .copy)); full = leb 8 (c .stores .len) }
+unfoldable pub loadChecks : Cell → Slot → ℤ → Checks
+loadChecks c r x = five (eqb (c .reads .len) 0) (c .pending) (c .fresh) (not (eqb (c .stores .len) 0) || ltb (r .position) (c .written)) (not (eqZ x (r .value)))
 
-unfoldable pub readFacts : Cell → Main → ℤ → Facts
-readFacts c m x = record { partner = false; other = false; unheld = false; barred = false; stale = false; unstored = false; unwritten = false; unusable = false; differs = not (eqZ x (m .value)); full = leb 8 (c .reads .len) }
+unfoldable pub storeChecks : Cell → ℕ → ℤ → Checks
+storeChecks c p x = five (c .pending) (not (c .fresh)) (not (ltb p (c .source))) (not (eqZ x (c .copy))) (leb 8 (c .stores .len))
 
-unfoldable pub writeFacts : Cell → Slot → ℤ → Facts
-writeFacts c r x = record { partner = eqb (c .stores .len) 0; other = false; unheld = false; barred = false; stale = false; unstored = false; unwritten = false; unusable = false; differs = not (eqZ x (r .value)); full = false }
+unfoldable pub readChecks : Cell → Main → ℤ → Checks
+readChecks c m x = five (not (eqZ x (m .value))) (leb 8 (c .reads .len)) false false false
 
-unfoldable pub lockFacts : Hold → ℕ → OnSome → ℕ → Facts
-lockFacts a n w t = record { partner = false; other = othersHold a n t; unheld = false; barred = w .pending; stale = false; unstored = false; unwritten = false; unusable = false; differs = false; full = false }
+unfoldable pub writeChecks : Cell → Slot → ℤ → Checks
+writeChecks c r x = five (eqb (c .stores .len) 0) (not (eqZ x (r .value))) false false false
 
-unfoldable pub unlockFacts : Hold → OnSome → ℕ → Facts
-unlockFacts a w t = record { partner = false; other = false; unheld = not (ltb 0 (depthOf a t)); barred = false; stale = false; unstored = w .fresh; unwritten = w .stored; unusable = false; differs = false; full = false }
+unfoldable pub lockChecks : Hold → ℕ → OnSome → ℕ → Checks
+lockChecks a n w t = five (othersHold a n t) (w .pending) false false false
 
-unfoldable pub prescientStoreFacts : Cell → Facts
-prescientStoreFacts c = record { partner = false; other = false; unheld = false; barred = c .pending; stale = false; unstored = false; unwritten = false; unusable = false; differs = false; full = leb 8 (c .stores .len) }
+unfoldable pub unlockChecks : Hold → OnSome → ℕ → Checks
+unlockChecks a w t = five (not (ltb 0 (depthOf a t))) (w .fresh) (w .stored) false false
 
-unfoldable pub prescientAssignFacts : Cell → ℤ → Facts
-prescientAssignFacts c x = record { partner = not (c .pending); other = false; unheld = false; barred = false; stale = false; unstored = false; unwritten = false; unusable = false; differs = not (eqZ x (c .announced)); full = false }
+unfoldable pub prescientStoreChecks : Cell → Checks
+prescientStoreChecks c = five (c .pending) (leb 8 (c .stores .len)) false false false
 
-unfoldable pub factsFor : Seen → ℕ → Kind → Facts
-factsFor n t (Use v x) = useFacts (n .cell) (n .locked) x
-factsFor n t (Assign v x) = noFacts
-factsFor n t (Load v x) = loadFacts (n .cell) (n .read) x
-factsFor n t (Store v x) = storeFacts (n .cell) (n .locked) x
-factsFor n t (Read v x) = readFacts (n .cell) (n .main) x
-factsFor n t (Write v x) = writeFacts (n .cell) (n .store) x
-factsFor n t (Lock l) = lockFacts (n .hold) (n .threads) (n .any) t
-factsFor n t (Unlock l) = unlockFacts (n .hold) (n .any) t
-factsFor n t (PrescientStore v x) = prescientStoreFacts (n .cell)
-factsFor n t (PrescientAssign v x) = prescientAssignFacts (n .cell) x
+unfoldable pub prescientAssignChecks : Cell → ℤ → Checks
+prescientAssignChecks c x = five (not (c .pending)) (not (eqZ x (c .announced))) false false false
+
+unfoldable pub checksFor : Seen → ℕ → Kind → Checks
+checksFor n t (Use v x) = useChecks (n .cell) (n .locked) x
+checksFor n t (Assign v x) = noChecks
+checksFor n t (Load v x) = loadChecks (n .cell) (n .read) x
+checksFor n t (Store v x) = storeChecks (n .cell) (n .locked) x
+checksFor n t (Read v x) = readChecks (n .cell) (n .main) x
+checksFor n t (Write v x) = writeChecks (n .cell) (n .store) x
+checksFor n t (Lock l) = lockChecks (n .hold) (n .threads) (n .any) t
+checksFor n t (Unlock l) = unlockChecks (n .hold) (n .any) t
+checksFor n t (PrescientStore v x) = prescientStoreChecks (n .cell)
+checksFor n t (PrescientAssign v x) = prescientAssignChecks (n .cell) x
 
 -- ---- the rows as a table; 0 fills a row
 abbrev pub table : List (List ℕ)
@@ -117,19 +121,17 @@ kindOf (Unlock l) = 7
 kindOf (PrescientStore v x) = 8
 kindOf (PrescientAssign v x) = 9
 
--- whether a rule is broken, by its number
-unfoldable pub broken : Facts → ℕ → Bool
-broken f r =
-    cond (eqb r 10) (f .partner) (cond (eqb r 11) (f .other) (cond (eqb r 12) (f .unheld) (cond (eqb r 13) (f .barred) (cond (eqb r 14) (f .stale)
-    (cond (eqb r 15) (f .unstored) (cond (eqb r 16) (f .unwritten) (cond (eqb r 17) (f .unusable) (cond (eqb r 18) (f .differs) (cond (eqb r 19) (f .full) false)))))))))
+-- whether a check is broken
+abbrev pub anyOf : Checks → Bool
+anyOf b = b .first || b .second || b .third || b .fourth || b .fifth
 
--- the first rule of a row that is broken, 0 where none is
-abbrev pub firstOf : Facts → List ℕ → ℕ
-firstOf f [] = 0
-firstOf f (r ∷ rs) = cond (broken f r) r (firstOf f rs)
+-- the rule of a row at its first broken check, 0 where none is
+abbrev pub firstOf : Checks → List ℕ → ℕ
+firstOf b row =
+    cond (b .first) (getD row 0 0) (cond (b .second) (getD row 1 0) (cond (b .third) (getD row 2 0) (cond (b .fourth) (getD row 3 0) (cond (b .fifth) (getD row 4 0) 0))))
 
 unfoldable pub ruleFor : Seen → ℕ → Kind → ℕ
-ruleFor n t k = firstOf (factsFor n t k) (getD table (kindOf k) [])
+ruleFor n t k = firstOf (checksFor n t k) (getD table (kindOf k) [])
 
 -- ---- what an event looks at
 

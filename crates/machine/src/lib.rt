@@ -18,19 +18,20 @@ ghost use Rattle.machine.specs.Parts.{
   slotPlace,
   oldestOf,
   othersHold,
-  noFacts,
-  useFacts,
-  loadFacts,
-  storeFacts,
-  readFacts,
-  writeFacts,
-  lockFacts,
-  unlockFacts,
-  prescientStoreFacts,
-  prescientAssignFacts,
-  ruleFor,
+  noChecks,
+  useChecks,
+  loadChecks,
+  storeChecks,
+  readChecks,
+  writeChecks,
+  lockChecks,
+  unlockChecks,
+  prescientStoreChecks,
+  prescientAssignChecks,
+  checksFor,
   table,
-  broken,
+  kindOf,
+  anyOf,
   firstOf,
   someOf,
   seenOf,
@@ -380,19 +381,13 @@ pub fn places_of(k: Kind) -> Places
 
 // ---- The rules, from the parts of the state that an event looks at.
 
-// True where the rule is broken: 10 partner, 11 other, 12 unheld, 13 barred, 14 stale, 15 unstored, 16 unwritten, 17 unusable,
-// 18 differs, 19 full.
-pub struct Facts {
-    pub partner: bool,
-    pub other: bool,
-    pub unheld: bool,
-    pub barred: bool,
-    pub stale: bool,
-    pub unstored: bool,
-    pub unwritten: bool,
-    pub unusable: bool,
-    pub differs: bool,
-    pub full: bool,
+// Which checks of its row an event breaks, in the row's order. Those that a row does not have are false.
+pub struct Checks {
+    pub first: bool,
+    pub second: bool,
+    pub third: bool,
+    pub fourth: bool,
+    pub fifth: bool,
 }
 
 // What some variable of a thread has: a pending prescient store, a fresh assign, an outstanding store.
@@ -402,20 +397,15 @@ pub struct OnSome {
     pub stored: bool,
 }
 
-fn none_broken() -> Facts
-    ensures { λ r. ⌜ r ≡ noFacts ⌝ }
+fn none_broken() -> Checks
+    ensures { λ r. ⌜ r ≡ noChecks ⌝ }
 {
-    Facts {
-        partner: false,
-        other: false,
-        unheld: false,
-        barred: false,
-        stale: false,
-        unstored: false,
-        unwritten: false,
-        unusable: false,
-        differs: false,
-        full: false,
+    Checks {
+        first: false,
+        second: false,
+        third: false,
+        fourth: false,
+        fifth: false,
     }
 }
 
@@ -465,106 +455,106 @@ fn others_hold(a: Hold, n: usize, t: usize) -> bool
     false
 }
 
-fn use_facts(c: Cell, p: u32, x: Value) -> Facts
-    ensures { λ r. ⌜ r ≡ useFacts c p x ⌝ }
+fn use_checks(c: Cell, p: u32, x: Value) -> Checks
+    ensures { λ r. ⌜ r ≡ useChecks c p x ⌝ }
 {
     let same = same_copy(x, c);
-    let mut f = none_broken();
-    f.unusable = !(p < c.source);
-    f.differs = !same;
-    f
+    let mut b = none_broken();
+    b.first = !(p < c.source);
+    b.second = !same;
+    b
 }
 
-fn load_facts(c: Cell, s: Slot, x: Value) -> Facts
-    ensures { λ r. ⌜ r ≡ loadFacts c s x ⌝ }
+fn load_checks(c: Cell, s: Slot, x: Value) -> Checks
+    ensures { λ r. ⌜ r ≡ loadChecks c s x ⌝ }
 {
     let q = c.reads;
     let o = c.stores;
     let same = same_slot(x, s);
-    let mut f = none_broken();
-    f.partner = q.len == 0;
-    f.barred = c.pending;
-    f.unstored = c.fresh;
-    f.unwritten = (o.len != 0) | (s.position < c.written);
-    f.differs = !same;
-    f
+    Checks {
+        first: q.len == 0,
+        second: c.pending,
+        third: c.fresh,
+        fourth: (o.len != 0) | (s.position < c.written),
+        fifth: !same,
+    }
 }
 
-fn store_facts(c: Cell, p: u32, x: Value) -> Facts
-    ensures { λ r. ⌜ r ≡ storeFacts c p x ⌝ }
+fn store_checks(c: Cell, p: u32, x: Value) -> Checks
+    ensures { λ r. ⌜ r ≡ storeChecks c p x ⌝ }
 {
     let o = c.stores;
     let same = same_copy(x, c);
-    let mut f = none_broken();
-    f.barred = c.pending;
-    f.stale = !c.fresh;
-    f.unusable = !(p < c.source);
-    f.differs = !same;
-    f.full = 8 <= o.len;
-    f
+    Checks {
+        first: c.pending,
+        second: !c.fresh,
+        third: !(p < c.source),
+        fourth: !same,
+        fifth: 8 <= o.len,
+    }
 }
 
-fn read_facts(c: Cell, m: Main, x: Value) -> Facts
-    ensures { λ r. ⌜ r ≡ readFacts c m x ⌝ }
+fn read_checks(c: Cell, m: Main, x: Value) -> Checks
+    ensures { λ r. ⌜ r ≡ readChecks c m x ⌝ }
 {
     let q = c.reads;
     let same = same_main(x, m);
-    let mut f = none_broken();
-    f.differs = !same;
-    f.full = 8 <= q.len;
-    f
+    let mut b = none_broken();
+    b.first = !same;
+    b.second = 8 <= q.len;
+    b
 }
 
-fn write_facts(c: Cell, s: Slot, x: Value) -> Facts
-    ensures { λ r. ⌜ r ≡ writeFacts c s x ⌝ }
+fn write_checks(c: Cell, s: Slot, x: Value) -> Checks
+    ensures { λ r. ⌜ r ≡ writeChecks c s x ⌝ }
 {
     let o = c.stores;
     let same = same_slot(x, s);
-    let mut f = none_broken();
-    f.partner = o.len == 0;
-    f.differs = !same;
-    f
+    let mut b = none_broken();
+    b.first = o.len == 0;
+    b.second = !same;
+    b
 }
 
-fn lock_facts(a: Hold, n: usize, w: OnSome, t: usize) -> Facts
-    ensures { λ r. ⌜ r ≡ lockFacts a n w t ⌝ }
+fn lock_checks(a: Hold, n: usize, w: OnSome, t: usize) -> Checks
+    ensures { λ r. ⌜ r ≡ lockChecks a n w t ⌝ }
 {
     let other = others_hold(a, n, t);
-    let mut f = none_broken();
-    f.other = other;
-    f.barred = w.pending;
-    f
+    let mut b = none_broken();
+    b.first = other;
+    b.second = w.pending;
+    b
 }
 
-fn unlock_facts(a: Hold, w: OnSome, t: usize) -> Facts
-    ensures { λ r. ⌜ r ≡ unlockFacts a w t ⌝ }
+fn unlock_checks(a: Hold, w: OnSome, t: usize) -> Checks
+    ensures { λ r. ⌜ r ≡ unlockChecks a w t ⌝ }
 {
     let n = depth_of(a, t);
-    let mut f = none_broken();
-    f.unheld = !(0 < n);
-    f.unstored = w.fresh;
-    f.unwritten = w.stored;
-    f
+    let mut b = none_broken();
+    b.first = !(0 < n);
+    b.second = w.fresh;
+    b.third = w.stored;
+    b
 }
 
-fn prescient_store_facts(c: Cell) -> Facts
-    ensures { λ r. ⌜ r ≡ prescientStoreFacts c ⌝ }
+fn prescient_store_checks(c: Cell) -> Checks
+    ensures { λ r. ⌜ r ≡ prescientStoreChecks c ⌝ }
 {
     let o = c.stores;
-    let mut f = none_broken();
-    f.barred = c.pending;
-    f.full = 8 <= o.len;
-    f
+    let mut b = none_broken();
+    b.first = c.pending;
+    b.second = 8 <= o.len;
+    b
 }
 
-fn prescient_assign_facts(c: Cell, x: Value) -> Facts
-    ensures { λ r. ⌜ r ≡ prescientAssignFacts c x ⌝ }
+fn prescient_assign_checks(c: Cell, x: Value) -> Checks
+    ensures { λ r. ⌜ r ≡ prescientAssignChecks c x ⌝ }
 {
     let same = same_announced(x, c);
-    let mut f = none_broken();
-    f.partner = !c.pending;
-    f.differs = !same;
-    f
+    let mut b = none_broken();
+    b.first = !c.pending;
+    b.second = !same;
+    b
 }
 
 // The rows of U, A, L, S, R, W, K, N, P, B; 0 fills a row.
@@ -581,36 +571,50 @@ const ROWS: [[u8; 5]; 10] = [
     [10, 18, 0, 0, 0],
 ];
 
-fn is_broken(f: Facts, r: u8) -> bool
-    ensures { λ b. ⌜ b ≡ broken f r ⌝ }
+// Whether a check is broken.
+pub fn is_broken(b: Checks) -> bool
+    ensures { λ r. ⌜ r ≡ anyOf b ⌝ }
 {
-    match r {
-        10 => f.partner,
-        11 => f.other,
-        12 => f.unheld,
-        13 => f.barred,
-        14 => f.stale,
-        15 => f.unstored,
-        16 => f.unwritten,
-        17 => f.unusable,
-        18 => f.differs,
-        19 => f.full,
-        _ => false,
+    b.first | b.second | b.third | b.fourth | b.fifth
+}
+
+fn row_number(k: Kind) -> usize
+    ensures { λ r. ⌜ r ≡ kindOf k ⌝ }
+{
+    match k {
+        Kind::Use(_, _) => 0,
+        Kind::Assign(_, _) => 1,
+        Kind::Load(_, _) => 2,
+        Kind::Store(_, _) => 3,
+        Kind::Read(_, _) => 4,
+        Kind::Write(_, _) => 5,
+        Kind::Lock(_) => 6,
+        Kind::Unlock(_) => 7,
+        Kind::PrescientStore(_, _) => 8,
+        Kind::PrescientAssign(_, _) => 9,
     }
 }
 
-fn first_broken(k: usize, f: Facts) -> u8
-    requires { ⌜ k < 10 ⌝ }
-    ensures { λ r. ⌜ r ≡ firstOf f (getD table k []) ⌝ }
+// The rule of the first broken check of the event's row. Asked only where one is broken.
+pub fn rule_of(k: Kind, b: Checks) -> u8
+    ensures { λ r. ⌜ r ≡ firstOf b (getD table (kindOf k) []) ⌝ }
 {
-    let row = ROWS[k];
-    let mut j: usize = 0;
-    while j < 5 {
-        let r = row[j];
-        if is_broken(f, r) {
-            return r;
-        }
-        j += 1;
+    let i = row_number(k);
+    let row = ROWS[i];
+    if b.first {
+        return row[0];
+    }
+    if b.second {
+        return row[1];
+    }
+    if b.third {
+        return row[2];
+    }
+    if b.fourth {
+        return row[3];
+    }
+    if b.fifth {
+        return row[4];
     }
     0
 }
@@ -628,34 +632,34 @@ pub struct Seen {
     pub threads: usize,
 }
 
-// The first rule of the event's row that is broken. The row's number is in each arm.
-pub fn rule_for(n: Seen, t: usize, k: Kind) -> u8
-    ensures { λ r. ⌜ r ≡ ruleFor n t k ⌝ }
+// The checks of the event's row.
+pub fn checks_for(n: Seen, t: usize, k: Kind) -> Checks
+    ensures { λ r. ⌜ r ≡ checksFor n t k ⌝ }
 {
     let c = n.cell;
     let a = n.hold;
     let w = n.any;
     let p = n.locked;
     match k {
-        Kind::Use(_, x) => first_broken(0, use_facts(c, p, x)),
-        Kind::Assign(_, _) => first_broken(1, none_broken()),
+        Kind::Use(_, x) => use_checks(c, p, x),
+        Kind::Assign(_, _) => none_broken(),
         Kind::Load(_, x) => {
             let s = n.read;
-            first_broken(2, load_facts(c, s, x))
+            load_checks(c, s, x)
         }
-        Kind::Store(_, x) => first_broken(3, store_facts(c, p, x)),
+        Kind::Store(_, x) => store_checks(c, p, x),
         Kind::Read(_, x) => {
             let m = n.main;
-            first_broken(4, read_facts(c, m, x))
+            read_checks(c, m, x)
         }
         Kind::Write(_, x) => {
             let s = n.store;
-            first_broken(5, write_facts(c, s, x))
+            write_checks(c, s, x)
         }
-        Kind::Lock(_) => first_broken(6, lock_facts(a, n.threads, w, t)),
-        Kind::Unlock(_) => first_broken(7, unlock_facts(a, w, t)),
-        Kind::PrescientStore(_, _) => first_broken(8, prescient_store_facts(c)),
-        Kind::PrescientAssign(_, x) => first_broken(9, prescient_assign_facts(c, x)),
+        Kind::Lock(_) => lock_checks(a, n.threads, w, t),
+        Kind::Unlock(_) => unlock_checks(a, w, t),
+        Kind::PrescientStore(_, _) => prescient_store_checks(c),
+        Kind::PrescientAssign(_, x) => prescient_assign_checks(c, x),
     }
 }
 
@@ -1171,8 +1175,9 @@ pub fn step(s: State, e: Event) -> Answer
     let t = e.thread;
     let k = e.kind;
     let seen = seen_by(s, t, k);
-    let rule = rule_for(seen, t, k);
-    if rule != 0 {
+    let checks = checks_for(seen, t, k);
+    if is_broken(checks) {
+        let rule = rule_of(k, checks);
         return refuse(s, Verdict::Broken(rule, line));
     }
     let next = put_back(s, e, seen);

@@ -2,11 +2,11 @@ use mathlib.Core.Path.{refl}
 use mir.Syntax.{w32}
 use mir.ValLaws.{toZ-ofZ}
 use borrow.Author.Needs.{needs}
-use Rattle.machine.specs.Parts.{writeFacts}
-use Rattle.machine.proofs.write_facts.Statement.{statement}
-use Rattle.machine.proofs.write_facts.Tie as tie
-use Rattle.machine.proofs.write_facts.Reads as reads
-use Rattle.machine.proofs.write_facts.Lts as lts
+use Rattle.machine.specs.Parts.{writeChecks}
+use Rattle.machine.proofs.write_checks.Statement.{statement}
+use Rattle.machine.proofs.write_checks.Tie as tie
+use Rattle.machine.proofs.write_checks.Reads as reads
+use Rattle.machine.proofs.write_checks.Lts as lts
 use Rattle.machine.proofs.none_broken.Reads as none-broken-reads
 use Rattle.machine.proofs.same_slot.Reads as same-slot-reads
 
@@ -17,7 +17,7 @@ none-broken-requires : tie.Need-none-broken-requires
 none-broken-requires c κs = search needs
 
 returns : tie.Need-returns
-unfolding writeFacts
+unfolding writeChecks
 returns c =
     rw (
       c .before .none-broken .ensures,
@@ -25,5 +25,5 @@ returns c =
       toZ-ofZ w32 _ (c .before .before .before .before .fits .x),
     ) refl
 
-pub write-facts-spec : {M : Type 1} → statement M
-write-facts-spec = tie.close (tie.spec same-slot-requires none-broken-requires returns)
+pub write-checks-spec : {M : Type 1} → statement M
+write-checks-spec = tie.close (tie.spec same-slot-requires none-broken-requires returns)
