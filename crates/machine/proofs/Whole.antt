@@ -31,7 +31,7 @@ same-all zero i a = refl
 same-all (suc n) zero a = refl
 same-all (suc n) (suc i) a = same-all n i a
 
-start-cell : (h : Counts) (t v : ℕ) → cellAt (start h) t v ≡ blank
+pub start-cell : (h : Counts) (t v : ℕ) → cellAt (start h) t v ≡ blank
 unfolding cellAt start
 start-cell h t v = rw (same-all 128 (16 * t + v) blank) (cond-same (ltb t 8 && ltb v 16) blank)
 

@@ -1,6 +1,6 @@
 pub mod PartLines
 pub mod Tags
-pub mod Scanning
+pub mod Tallies
 pub mod Turns
 pub mod Whole
 pub mod Rows

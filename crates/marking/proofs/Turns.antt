@@ -147,6 +147,9 @@ module _ (h : Counts) (bytes : List ℕ) (s : State) (row : List ℕ) (at : ℕ)
   pub shaped : Shape s
   shaped = stood .shape
 
+  pub room : allowed full (s .counts) ≡ true
+  room = ap (λ (c : Counts). allowed full c) (stood .counts) ∙ t .head
+
   pub wide : length row ≡ 2000
   wide = ap (λ (xs : List ℕ). length xs) (t .kept) ∙ row-length (t .past)
 

@@ -3,10 +3,13 @@
 ghost use mathlib.Core.Path.{_≡_};
 ghost use mathlib.Core.Bool.{cond};
 ghost use mathlib.Core.List.{[]};
+ghost use Prim.Native.Nat.{_≤_};
 ghost use Rattle.machine.specs.State.{start};
 ghost use Rattle.records.specs.Records.{rowOf};
 ghost use Rattle.marking.specs.Marking.{reported, numberIn, lineIn, countIn, ranOf, Marks};
+ghost use Rattle.marking.specs.Tallies.{moved, tallyAfter, Small, someIn};
 use events::Reading;
+use machine::Cell;
 use machine::OnSome;
 use machine::Seen;
 use machine::State;
@@ -36,6 +39,54 @@ pub struct Ran {
     pub row: [u64; 2000],
 }
 
+// How many of a thread's declared variables have a pending prescient store, a fresh assign, an outstanding store.
+pub struct Tally {
+    pub pending: u32,
+    pub fresh: u32,
+    pub stored: u32,
+}
+
+fn one(b: bool) -> u32
+    ensures { λ r. ⌜ r ≡ cond b 1 0 ⌝ }
+{
+    if b { 1 } else { 0 }
+}
+
+// n things have it, of which one had it or not and has it or not now.
+fn moved(n: u32, was: bool, is: bool) -> u32
+    requires { ⌜ n ≤ 16 ⌝ }
+    ensures { λ r. ⌜ r ≡ moved n was is ⌝ }
+{
+    let w = one(was);
+    let m = n + one(is);
+    if m < w { 0 } else { m - w }
+}
+
+// A tally after a cell of its thread, c, became d.
+fn tally_after(a: Tally, c: Cell, d: Cell) -> Tally
+    requires { ⌜ Small a ⌝ }
+    ensures { λ r. ⌜ r ≡ tallyAfter a c d ⌝ }
+{
+    let q = c.stores;
+    let o = d.stores;
+    Tally {
+        pending: moved(a.pending, c.pending, d.pending),
+        fresh: moved(a.fresh, c.fresh, d.fresh),
+        stored: moved(a.stored, q.len != 0, o.len != 0),
+    }
+}
+
+// What some variable has, where it is asked.
+fn some_in(all: bool, a: Tally) -> OnSome
+    ensures { λ r. ⌜ r ≡ someIn all a ⌝ }
+{
+    OnSome {
+        pending: all & (0 < a.pending),
+        fresh: all & (0 < a.fresh),
+        stored: all & (0 < a.stored),
+    }
+}
+
 // Marks the lines of a part that holds events, with these counts declared: line by line 4, 9, 5 and the row.
 pub fn mark_part(h: Counts, part: &[u8]) -> Ran
     ensures { λ r. ⌜ r ≡ ranOf h (now (part .entry)) ⌝ }
@@ -50,6 +101,12 @@ pub fn mark_part(h: Counts, part: &[u8]) -> Ran
             row: row,
         };
     }
+    let none = Tally {
+        pending: 0,
+        fresh: 0,
+        stored: 0,
+    };
+    let mut tallies = [none; 8];
     let mut at: usize = 0;
     while at < part.len() {
         let n = s.events;
@@ -99,26 +156,8 @@ pub fn mark_part(h: Counts, part: &[u8]) -> Ran
         let hold = s.holds[lock];
         let main = s.memory[v];
         let locked = s.locked[t];
-        // What the declared variables of its thread have; no turns where the kind does not ask it.
-        let mut pending = false;
-        let mut fresh = false;
-        let mut stored = false;
-        let end = machine::span(places.all, counts.variables);
-        let mut j: usize = 0;
-        while j < end {
-            let x = machine::cell_place(t, j);
-            let d = s.cells[x];
-            let w = d.stores;
-            pending = d.pending | pending;
-            fresh = d.fresh | fresh;
-            stored = (w.len != 0) | stored;
-            j += 1;
-        }
-        let any = OnSome {
-            pending: pending,
-            fresh: fresh,
-            stored: stored,
-        };
+        let tally = tallies[t];
+        let any = some_in(places.all, tally);
         let seen = Seen {
             cell: c,
             read: read,
@@ -129,8 +168,9 @@ pub fn mark_part(h: Counts, part: &[u8]) -> Ran
             any: any,
             threads: counts.threads,
         };
-        let rule = machine::rule_for(seen, t, k);
-        if rule != 0 {
+        let checks = machine::checks_for(seen, t, k);
+        if machine::is_broken(checks) {
+            let rule = machine::rule_of(k, checks);
             let broken = Verdict::Broken(rule, line);
             return Ran {
                 verdict: broken,
@@ -150,6 +190,7 @@ pub fn mark_part(h: Counts, part: &[u8]) -> Ran
         let locked_left = machine::locked_after(locked, k, p);
         let hold_left = machine::hold_after(hold, t, k);
         let main_left = machine::main_after(main, k);
+        let tally_left = tally_after(tally, c, cell_left);
         s.events = p;
         s.cells[i] = cell_left;
         s.reads[behind_reads] = read_left;
@@ -157,6 +198,7 @@ pub fn mark_part(h: Counts, part: &[u8]) -> Ran
         s.locked[t] = locked_left;
         s.holds[lock] = hold_left;
         s.memory[v] = main_left;
+        tallies[t] = tally_left;
         let record = records::pack(e);
         row[n as usize] = record;
         at = l.next;
