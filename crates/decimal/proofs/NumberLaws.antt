@@ -1,17 +1,18 @@
 -- Laws of a number up to a byte: the scan of its digits, and what a leading zero and an empty field do.
 -- Assumes nothing.
 use mathlib.Core.Path.{_≡_, refl, sym, ap, _∙_}
-use mathlib.Core.Bool.{Bool, true, false, cond}
+use mathlib.Core.Bool.{Bool, true, false, not, cond, _&&_}
 use mathlib.Core.List.{List, [], _∷_}
 use Prim.Native.Nat.{ℕ, zero, suc, _≤_, _<_, _+_, _-_, _*_, min}
 use native.Mathlib.Omega.{arith}
-use borrow.Author.Tests.{lt-ltb, le-ltb, eq-eqb, ne-eqb, ltb-true}
-use lib.Dec.{eqb, ltb}
+use native.Mathlib.Numerals.{add-one}
+use borrow.Author.Tests.{lt-ltb, le-ltb, le-leb, eq-eqb, ne-eqb, ltb-true, leb-true, eqb-false}
+use lib.Dec.{eqb, ltb, leb}
 use lib.ListN.{length, getD, take, drop, drop-of-length-le}
-use lib.Seq.{getD-take, getD-drop, length-take-le}
+use lib.Seq.{getD-take, getD-drop, length-take-le, drop-cons}
 use Rattle.decimal.specs.declared.Natural.{Natural}
 use Rattle.decimal.specs.declared.Natural.the-variants as natural
-use Rattle.decimal.specs.Decimal.{isDigit, digitsFrom, naturalOf}
+use Rattle.decimal.specs.Decimal.{cap, isDigit, digitsFrom, naturalOf}
 use Rattle.lines.specs.Lines.{before}
 use Rattle.lines.proofs.FieldLaws.{before-le}
 use Rattle.decimal.specs.declared.Reached.{Reached}
@@ -161,3 +162,41 @@ until-one d at s g h =
 pub until-out : (d at : ℕ) (s : List ℕ) → length s ≤ at → nowhere ≡ numberUntil d at (drop at s)
 unfolding numberUntil before
 until-out d at s h = rw (drop-of-length-le s h)
+
+-- one digit
+natural-digit : (b : ℕ) → 48 ≤ b → b ≤ 57 → naturalOf (b ∷ []) ≡ natural.Of (b - 48)
+unfolding naturalOf digitsFrom
+natural-digit b g h =
+    let m : min cap (0 * 10 + (b - 48)) ≡ b - 48 = omega arith in
+    rw (le-leb 48 b g, le-leb b 57 h, m) (by (eqb b 48))
+  where
+    by : (t : Bool) → cond (cond t (ltb 1 1) false) natural.Bad (natural.Of (b - 48)) ≡ natural.Of (b - 48)
+    by true = refl
+    by false = refl
+
+until-short : (b d at : ℕ) (t : List ℕ) → 48 ≤ b → b ≤ 57 → (b ≡ d → ⊥) → record { number = natural.Of (b - 48); next = at + 1 + 1 } ≡ numberUntil d at (b ∷ d ∷ t)
+unfolding numberUntil before
+until-short b d at t g h e = sym (rw (ne-eqb b d e, eq-eqb d d refl, lt-ltb 1 (suc (suc (length t))) (omega arith), natural-digit b g h) refl)
+
+pub digit-low : (b d : ℕ) → (leb 48 b && leb b 57 && not (eqb b d)) ≡ true → 48 ≤ b
+digit-low b d q = by (leb 48 b) (leb b 57) (not (eqb b d)) refl q
+  where
+    by : (x y z : Bool) → leb 48 b ≡ x → (x && y && z) ≡ true → 48 ≤ b
+    by true y z e r = leb-true 48 b e
+    by false y z e r = absurd (let z : _≡_ {A = ℕ} 0 1 = cc in omega arith)
+
+pub until-digit : (d at : ℕ) (s : List ℕ) → at + 1 < length s → getD s (at + 1) 0 ≡ d → (leb 48 (getD s at 0) && leb (getD s at 0) 57 && not (eqb (getD s at 0) d)) ≡ true
+    → record { number = natural.Of (getD s at 0 - 48); next = at + 1 + 1 } ≡ numberUntil d at (drop at s)
+until-digit d at s h e q = by (leb 48 (getD s at 0)) (leb (getD s at 0) 57) (eqb (getD s at 0) d) refl refl refl q
+  where
+    two : drop at s ≡ getD s at 0 ∷ d ∷ drop (suc (suc at)) s
+    two = drop-cons s at 0 (omega arith) ∙ ap (λ (l : List ℕ). getD s at 0 ∷ l) (drop-cons s (suc at) 0 (omega arith) ∙ ap (λ (x : ℕ). x ∷ drop (suc (suc at)) s) (ap (λ (i : ℕ). getD s i 0) (sym (add-one at)) ∙ e))
+
+    by : (x y z : Bool) → leb 48 (getD s at 0) ≡ x → leb (getD s at 0) 57 ≡ y → eqb (getD s at 0) d ≡ z → (x && y && not z) ≡ true
+        → record { number = natural.Of (getD s at 0 - 48); next = at + 1 + 1 } ≡ numberUntil d at (drop at s)
+    by true true false f g k r =
+        until-short (getD s at 0) d at (drop (suc (suc at)) s) (leb-true 48 (getD s at 0) f) (leb-true (getD s at 0) 57 g) (eqb-false (getD s at 0) d k)
+        ∙ ap (λ (l : List ℕ). numberUntil d at l) (sym two)
+    by true true true f g k r = absurd (let z : _≡_ {A = ℕ} 0 1 = cc in omega arith)
+    by true false z f g k r = absurd (let z : _≡_ {A = ℕ} 0 1 = cc in omega arith)
+    by false y z f g k r = absurd (let z : _≡_ {A = ℕ} 0 1 = cc in omega arith)

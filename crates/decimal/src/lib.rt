@@ -1,8 +1,10 @@
 // Numbers in base ten: read from a whole field, and written into the front of what remains of an output.
 use rules::Value;
 ghost use mathlib.Core.Path.{_≡_};
+ghost use mathlib.Core.Bool.{not, _&&_};
 ghost use mathlib.Core.List.{[], _∷_};
 ghost use Prim.Native.Nat.{_+_, _*_, _-_, _≤_, _<_, min};
+ghost use lib.Dec.{eqb, leb};
 ghost use lib.IntN.{natAbs};
 ghost use lib.ListN.{length, drop};
 ghost use Rattle.decimal.specs.Decimal.{cap, digitsFrom, naturalOf, positiveOf, negativeOf, integerOf, nowhere, scan, numberUntil};
@@ -119,8 +121,8 @@ fn scan_digits(s: &[u8], at: usize, d: u8) -> Reached
     nothing()
 }
 
-// The number from `at` up to the byte d: digits, at least one, and no leading zero.
-pub fn number_until(s: &[u8], at: usize, d: u8) -> Reached
+// The number from `at` up to the byte d, of any length: digits, at least one, and no leading zero.
+fn long_number(s: &[u8], at: usize, d: u8) -> Reached
     ensures { λ r. ⌜ r ≡ numberUntil d at (drop at (now (s .entry))) ⌝ }
 {
     if s.len() <= at {
@@ -137,6 +139,35 @@ pub fn number_until(s: &[u8], at: usize, d: u8) -> Reached
         }
     }
     r
+}
+
+// Whether b is a digit and does not end a number itself.
+fn is_digit(b: u8, d: u8) -> bool
+    ensures { λ r. ⌜ r ≡ (leb 48 b && leb b 57 && not (eqb b d)) ⌝ }
+{
+    (48 <= b) & (b <= 57) & (b != d)
+}
+
+// The number from `at` up to the byte d. One digit, as most numbers have, is read at once.
+pub fn number_until(s: &[u8], at: usize, d: u8) -> Reached
+    ensures { λ r. ⌜ r ≡ numberUntil d at (drop at (now (s .entry))) ⌝ }
+{
+    if s.len() <= at {
+        return nothing();
+    }
+    let b = s[at];
+    let e = at + 1;
+    if e < s.len() {
+        if s[e] == d {
+            if is_digit(b, d) {
+                return Reached {
+                    number: Natural::Of(wide(b) - 48),
+                    next: e + 1,
+                };
+            }
+        }
+    }
+    long_number(s, at, d)
 }
 
 // The value of a number without a minus.
