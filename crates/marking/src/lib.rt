@@ -6,6 +6,7 @@ ghost use mathlib.Core.List.{[]};
 ghost use Prim.Native.Nat.{_≤_};
 ghost use Rattle.machine.specs.State.{start};
 ghost use Rattle.records.specs.Records.{rowOf};
+ghost use Rattle.trace.specs.Trace.{traceOf};
 ghost use Rattle.marking.specs.Marking.{reported, numberIn, lineIn, countIn, ranOf, Marks};
 ghost use Rattle.marking.specs.Tallies.{moved, tallyAfter, Small, someIn};
 use events::Reading;
@@ -14,6 +15,7 @@ use machine::OnSome;
 use machine::Seen;
 use machine::State;
 use rules::Counts;
+use trace::Trace;
 
 // What is said of a trace: the number of its events, or a refusal. The number and the line of each case are in
 // specs/Marking.antt.
@@ -223,20 +225,30 @@ fn refuse(h: Counts, v: Verdict) -> Ran
     }
 }
 
-// Marks a whole trace: 1, 2, 3, 6, then line by line 4, 9, 5 and the row.
-pub fn mark(bytes: &[u8]) -> Ran
+// Marks a whole trace that was looked for: 1, 2, 3, 6, then line by line 4, 9, 5 and the row.
+pub fn mark_found(bytes: &[u8], t: Trace) -> Ran
+    requires { ⌜ t ≡ traceOf (now bytes) ⌝ }
     ensures { λ r. ⌜ Marks (now (bytes .entry)) r ⌝ }
 {
-    let t = trace::find(bytes);
     let v = t.verdict;
     let h = t.head;
+    let from = t.from;
+    let to = t.to;
     match v {
-        trace::Verdict::Found => mark_part(h, trace::find_events(bytes)),
+        trace::Verdict::Found => mark_part(h, &bytes[from..to]),
         trace::Verdict::TooLong => refuse(h, Verdict::TooLong),
         trace::Verdict::WrongTrailer => refuse(h, Verdict::WrongTrailer),
         trace::Verdict::WrongHead => refuse(h, Verdict::WrongHead),
         trace::Verdict::WrongGuards => refuse(h, Verdict::WrongGuards),
     }
+}
+
+// Marks a whole trace.
+pub fn mark(bytes: &[u8]) -> Ran
+    ensures { λ r. ⌜ Marks (now (bytes .entry)) r ⌝ }
+{
+    let t = trace::find(bytes);
+    mark_found(bytes, t)
 }
 
 // The number of a verdict; 0 where it is accepted.

@@ -323,6 +323,32 @@ fn give(h: Counts, row: &[u64], list: &mut [u64], scratch: &mut [u64]) -> usize
     c
 }
 
+// The order of the events of a row that is a trace's.
+fn order_known(
+    h: Counts,
+    g: Guards,
+    row: &[u64],
+    list: &mut [u64],
+    scratch: &mut [u64],
+) -> Ordering
+    requires { ⌜ Fits h (now row) ⌝ }
+    ensures { λ r. ⌜ Given (answer h g (now (row .entry)) (now (list .entry)) (now (scratch .entry))) (entries h (now (row .entry))) (now (list .entry)) (now (scratch .entry)) r (now (list .exit)) (now (scratch .exit)) ⌝ }
+{
+    if (list.len() < 1000) | (scratch.len() < 2000) {
+        return Ordering::Lent;
+    }
+    let locks = g.locks;
+    if !g.given {
+        return Ordering::NoGuards;
+    }
+    let d = deny(h, locks, row);
+    if let Denied::By(rule, line) = d {
+        return Ordering::Unordered(rule, line);
+    }
+    let c = give(h, row, list, scratch);
+    Ordering::Ordered(c)
+}
+
 // The order of a row's events, to the front of the list. Nothing lent is written unless the answer is `Ordered`.
 pub fn order_row(
     h: Counts,
@@ -345,16 +371,7 @@ pub fn order_row(
     if !all_declared(h, row) {
         return Ordering::NoTrace;
     }
-    let locks = g.locks;
-    if !g.given {
-        return Ordering::NoGuards;
-    }
-    let d = deny(h, locks, row);
-    if let Denied::By(rule, line) = d {
-        return Ordering::Unordered(rule, line);
-    }
-    let c = give(h, row, list, scratch);
-    Ordering::Ordered(c)
+    order_known(h, g, row, list, scratch)
 }
 
 // What is said of the order of a trace that is refused.
@@ -371,7 +388,8 @@ fn refuse(list: usize, scratch: usize) -> Ordering
 pub fn order_trace(bytes: &[u8], list: &mut [u64], scratch: &mut [u64]) -> Outcome
     ensures { λ r. ⌜ OrdersTrace (now (bytes .entry)) (now (list .entry)) (now (scratch .entry)) r (now (list .exit)) (now (scratch .exit)) ⌝ }
 {
-    let ran = marking::mark(bytes);
+    let t = trace::find(bytes);
+    let ran = marking::mark_found(bytes, t);
     let said = ran.verdict;
     if marking::number_of(said) != 0 {
         let none = refuse(list.len(), scratch.len());
@@ -382,8 +400,7 @@ pub fn order_trace(bytes: &[u8], list: &mut [u64], scratch: &mut [u64]) -> Outco
     }
     let n = marking::count_of(said);
     let row = ran.row;
-    let t = trace::find(bytes);
-    let given = order_row(t.head, t.guards, &row[..n], list, scratch);
+    let given = order_known(t.head, t.guards, &row[..n], list, scratch);
     Outcome {
         ran: ran,
         ordering: given,
