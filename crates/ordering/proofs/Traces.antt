@@ -35,6 +35,7 @@ use Rattle.sections.specs.Entries.{entryCode}
 use Rattle.ordering.specs.declared.Ordering.{Ordering}
 use Rattle.ordering.specs.declared.Ordering.the-variants.{NoGuards, Lent, NoTrace}
 use Rattle.ordering.specs.declared.Outcome.{Outcome}
+use Rattle.ordering.specs.Parts.{Fits}
 use Rattle.ordering.specs.Answer.{lentShort, allDeclared, noTrace, guardOf, answerOf, answer, entries, ordered, Given}
 use Rattle.ordering.specs.Traces.{onMarked, orderingOf, entriesOf, OrdersTrace}
 
@@ -145,6 +146,11 @@ module _ (s : List ℕ) (ran : Ran) (m : Marks s ran) where
     is-trace : noTrace (traceOf s .head) front ≡ false
     unfolding noTrace
     is-trace = rw (accepted-allowed s a, le-ltb 2000 (length front) front-few, front-events, events-known s) refl
+
+    -- the row is a trace's
+    pub front-fits : (t : Trace) → t ≡ traceOf s → (n : ℕ) → n ≡ countIn (ran .verdict) → Fits (t .head) (take n (ran .row))
+    front-fits t e n q = subst (λ (m : ℕ). Fits (t .head) (take m (ran .row))) (sym q) (subst (λ (x : Trace). Fits (x .head) front) (sym e)
+        (record { head = accepted-allowed s a; few = front-few; known = ap (λ (es : List Event). allDeclared (traceOf s .head) es) front-events ∙ events-known s }))
 
     answer-is : (list scratch : List ℕ) → answer (traceOf s .head) (traceOf s .guards) front list scratch ≡ orderingOf s list scratch
     unfolding answer orderingOf
