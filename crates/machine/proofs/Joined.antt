@@ -231,7 +231,7 @@ seen-is s t k w at i c fr fs r o n any ea ei ec er es eo ep en ey = λ j. record
 
 -- ---- the parts put back
 
-hold-same : (a : Hold) (t : ℕ) (k : Kind) → t < 8 → a .depth < 2000 → holdFor a t k ≡ holdAfter a t k
+pub hold-same : (a : Hold) (t : ℕ) (k : Kind) → t < 8 → a .depth < 2000 → holdFor a t k ≡ holdAfter a t k
 unfolding holdFor
 hold-same a t k h l = rw (lt-ltb t 8 h, lt-ltb (a .depth) 2000 l) refl
 

@@ -7,3 +7,4 @@ pub mod Rings
 pub mod Steps
 pub mod StepWords
 pub mod Whole
+pub mod Sides

@@ -102,6 +102,31 @@ checksFor n t (Unlock l) = unlockChecks (n .hold) (n .any) t
 checksFor n t (PrescientStore v x) = prescientStoreChecks (n .cell)
 checksFor n t (PrescientAssign v x) = prescientAssignChecks (n .cell) x
 
+-- the same from the parts of an event on a variable, and of one on a lock
+unfoldable pub variableChecks : Cell → Slot → Slot → Main → ℕ → Kind → Checks
+variableChecks c r s m p (Use v x) = useChecks c p x
+variableChecks c r s m p (Assign v x) = noChecks
+variableChecks c r s m p (Load v x) = loadChecks c r x
+variableChecks c r s m p (Store v x) = storeChecks c p x
+variableChecks c r s m p (Read v x) = readChecks c m x
+variableChecks c r s m p (Write v x) = writeChecks c s x
+variableChecks c r s m p (Lock l) = noChecks
+variableChecks c r s m p (Unlock l) = noChecks
+variableChecks c r s m p (PrescientStore v x) = prescientStoreChecks c
+variableChecks c r s m p (PrescientAssign v x) = prescientAssignChecks c x
+
+unfoldable pub holdChecks : Hold → ℕ → OnSome → ℕ → Kind → Checks
+holdChecks a n w t (Use v x) = noChecks
+holdChecks a n w t (Assign v x) = noChecks
+holdChecks a n w t (Load v x) = noChecks
+holdChecks a n w t (Store v x) = noChecks
+holdChecks a n w t (Read v x) = noChecks
+holdChecks a n w t (Write v x) = noChecks
+holdChecks a n w t (Lock l) = lockChecks a n w t
+holdChecks a n w t (Unlock l) = unlockChecks a w t
+holdChecks a n w t (PrescientStore v x) = noChecks
+holdChecks a n w t (PrescientAssign v x) = noChecks
+
 -- ---- the rows as a table; 0 fills a row
 abbrev pub table : List (List ℕ)
 table =

@@ -29,6 +29,8 @@ ghost use Rattle.machine.specs.Parts.{
   prescientStoreChecks,
   prescientAssignChecks,
   checksFor,
+  variableChecks,
+  holdChecks,
   table,
   kindOf,
   anyOf,
@@ -660,6 +662,42 @@ pub fn checks_for(n: Seen, t: usize, k: Kind) -> Checks
         Kind::Unlock(_) => unlock_checks(a, w, t),
         Kind::PrescientStore(_, _) => prescient_store_checks(c),
         Kind::PrescientAssign(_, x) => prescient_assign_checks(c, x),
+    }
+}
+
+// The same for the loop over a whole trace, from the parts that an event on a variable or on a lock looks at; none for the others.
+
+pub fn variable_checks(c: Cell, r: Slot, s: Slot, m: Main, p: u32, k: Kind) -> Checks
+    ensures { λ b. ⌜ b ≡ variableChecks c r s m p k ⌝ }
+{
+    match k {
+        Kind::Use(_, x) => use_checks(c, p, x),
+        Kind::Assign(_, _) => none_broken(),
+        Kind::Load(_, x) => load_checks(c, r, x),
+        Kind::Store(_, x) => store_checks(c, p, x),
+        Kind::Read(_, x) => read_checks(c, m, x),
+        Kind::Write(_, x) => write_checks(c, s, x),
+        Kind::Lock(_) => none_broken(),
+        Kind::Unlock(_) => none_broken(),
+        Kind::PrescientStore(_, _) => prescient_store_checks(c),
+        Kind::PrescientAssign(_, x) => prescient_assign_checks(c, x),
+    }
+}
+
+pub fn hold_checks(a: Hold, n: usize, w: OnSome, t: usize, k: Kind) -> Checks
+    ensures { λ b. ⌜ b ≡ holdChecks a n w t k ⌝ }
+{
+    match k {
+        Kind::Use(_, _) => none_broken(),
+        Kind::Assign(_, _) => none_broken(),
+        Kind::Load(_, _) => none_broken(),
+        Kind::Store(_, _) => none_broken(),
+        Kind::Read(_, _) => none_broken(),
+        Kind::Write(_, _) => none_broken(),
+        Kind::Lock(_) => lock_checks(a, n, w, t),
+        Kind::Unlock(_) => unlock_checks(a, w, t),
+        Kind::PrescientStore(_, _) => none_broken(),
+        Kind::PrescientAssign(_, _) => none_broken(),
     }
 }
 

@@ -23,8 +23,9 @@ use Rattle.machine.specs.declared.Seen.{Seen}
 use Rattle.machine.specs.declared.State.{State}
 use Rattle.machine.specs.State.{cellAt, readsAt, start}
 use Rattle.machine.specs.Step.{varOf, nextCell, stepState}
-use Rattle.machine.specs.Parts.{Within, someOf, seenOf}
+use Rattle.machine.specs.Parts.{Within, allOf, someOf, seenOf}
 use Rattle.machine.proofs.StepWords.{Shape, cell-after}
+use Rattle.machine.proofs.Sides.{cells-kept}
 use Rattle.machine.proofs.Whole.{start-cell}
 use Rattle.marking.specs.declared.Tally.{Tally}
 use Rattle.marking.specs.Tallies.{number, noTally, sent, tallyOf, moved, tallyAfter, Small, someIn}
@@ -128,17 +129,16 @@ pub tallied-start : (h : Counts) (s : State) → s ≡ start h → Tallied s (re
 tallied-start h s e = record { eight = length-replicate 8 noTally; each = λ t l. getD-replicate 8 t noTally noTally l ∙ sym (ap (λ (z : State). tallyOf z t) e ∙ start-tally h t) }
 
 -- what K and N ask for
-pub some-is : (s : State) (t n : ℕ) (b : Bool) (a : Tally) (any : OnSome) → a ≡ tallyOf s t → any ≡ someIn b a → n ≡ cond b (s .counts .variables) 0 → any ≡ someOf s t n
-unfolding someIn tallyOf someOf some
-some-is s t n b a any ea ey en = ey ∙ ap (λ (x : Tally). someIn b x) ea ∙ by b ∙ ap (λ (x : ℕ). someOf s t x) (sym en)
+pub some-is : (s : State) (t : ℕ) (b : Bool) (a : Tally) (any : OnSome) → a ≡ tallyOf s t → any ≡ someIn a → b ≡ true → any ≡ someOf s t (cond b (s .counts .variables) 0)
+unfolding someIn tallyOf someOf
+some-is s t b a any ea ey eb = ey ∙ ap (λ (x : Tally). someIn x) ea ∙ is ∙ sym (ap (λ (x : Bool). someOf s t (cond x (s .counts .variables) 0)) eb)
   where
-    by : (b : Bool) → someIn b (tallyOf s t) ≡ someOf s t (cond b (s .counts .variables) 0)
-    by true = λ i. record {
+    is : someIn (tallyOf s t) ≡ someOf s t (s .counts .variables)
+    is = λ i. record {
       pending = number-some (s .counts .variables) (λ v. cellAt s t v .pending) i;
       fresh = number-some (s .counts .variables) (λ v. cellAt s t v .fresh) i;
       stored = number-some (s .counts .variables) (λ v. sent (cellAt s t v)) i;
     }
-    by false = refl
 
 pub small : (s : State) (t : ℕ) (a : Tally) → s .counts .variables ≤ 16 → a ≡ tallyOf s t → Small a
 small s t a m e = subst Small (sym e) (unfold tallyOf in record {
@@ -198,3 +198,18 @@ module _ (s : State) (e : Event) (shape : Shape s) (w : Within (e .thread) (e .k
           let k : e .thread < length xs = omega (arith, t .eight, w .thread) in
           rw (eqb-true u (e .thread) q) (getD-set-same xs (e .thread) a noTally k ∙ is ∙ sym own)
       by u l false q = getD-set-other xs (e .thread) u a noTally (eqb-false u (e .thread) q) ∙ t .each u l ∙ sym (others u (eqb-false u (e .thread) q))
+
+-- K and N leave all cells
+pub tallied-lock : (s : State) (e : Event) → Shape s → Within (e .thread) (e .kind) → allOf (e .kind) ≡ true → (xs : List Tally) → Tallied s xs
+    → (s′ : State) → s′ ≡ stepState s e → Tallied s′ xs
+tallied-lock s e shape w a xs t s′ es = subst (λ (z : State). Tallied z xs) (sym es) (record { eight = t .eight; each = λ u l. t .each u l ∙ sym (same u) })
+  where
+    counts : stepState s e .counts ≡ s .counts
+    counts = unfold stepState in refl
+
+    same : (u : ℕ) → tallyOf (stepState s e) u ≡ tallyOf s u
+    same u = unfold tallyOf in λ i. record {
+      pending = number (counts i .variables) (λ v. cells-kept s e shape w a u v i .pending);
+      fresh = number (counts i .variables) (λ v. cells-kept s e shape w a u v i .fresh);
+      stored = number (counts i .variables) (λ v. sent (cells-kept s e shape w a u v i));
+    }

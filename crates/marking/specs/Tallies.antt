@@ -1,7 +1,7 @@
 -- How many of a thread's declared variables have what K and N ask for. The loop keeps these numbers beside the state; no contract of `mark` or
 -- `mark_part` names anything here.
 use Prim.Native.Nat.{ℕ, zero, suc, _+_, _-_, _≤_}
-use mathlib.Core.Bool.{Bool, true, false, not, cond, _&&_}
+use mathlib.Core.Bool.{Bool, true, false, not, cond}
 use lib.Dec.{eqb, ltb}
 use Rattle.machine.specs.declared.Cell.{Cell}
 use Rattle.machine.specs.declared.OnSome.{OnSome}
@@ -41,6 +41,6 @@ pub record Small (a : Tally) : Type 0 where
   pub fresh : a .fresh ≤ 16
   pub stored : a .stored ≤ 16
 
--- what some variable has, where it is asked
-unfoldable pub someIn : Bool → Tally → OnSome
-someIn all a = record { pending = all && ltb 0 (a .pending); fresh = all && ltb 0 (a .fresh); stored = all && ltb 0 (a .stored) }
+-- what some variable has
+unfoldable pub someIn : Tally → OnSome
+someIn a = record { pending = ltb 0 (a .pending); fresh = ltb 0 (a .fresh); stored = ltb 0 (a .stored) }

@@ -12,7 +12,6 @@ ghost use Rattle.marking.specs.Tallies.{moved, tallyAfter, Small, someIn
 use events::Reading;
 use machine::Cell;
 use machine::OnSome;
-use machine::Seen;
 use machine::State;
 use rules::Counts;
 use trace::Trace;
@@ -78,14 +77,14 @@ fn tally_after(a: Tally, c: Cell, d: Cell) -> Tally
     }
 }
 
-// What some variable has, where it is asked.
-fn some_in(all: bool, a: Tally) -> OnSome
-    ensures { λ r. ⌜ r ≡ someIn all a ⌝ }
+// What some variable has.
+fn some_in(a: Tally) -> OnSome
+    ensures { λ r. ⌜ r ≡ someIn a ⌝ }
 {
     OnSome {
-        pending: all & (0 < a.pending),
-        fresh: all & (0 < a.fresh),
-        stored: all & (0 < a.stored),
+        pending: 0 < a.pending,
+        fresh: 0 < a.fresh,
+        stored: 0 < a.stored,
     }
 }
 
@@ -141,69 +140,78 @@ pub fn mark_part(h: Counts, part: &[u8]) -> Ran
         }
         let t = e.thread;
         let k = e.kind;
-        // What the event looks at.
         let places = machine::places_of(k);
-        let v = places.variable;
-        let lock = places.lock;
-        let i = machine::cell_place(t, v);
-        let c = s.cells[i];
-        let q = c.reads;
-        let o = c.stores;
-        let front_read = machine::slot_place(i, q, 0);
-        let front_store = machine::slot_place(i, o, 0);
-        let r0 = s.reads[front_read];
-        let s0 = s.stores[front_store];
-        let read = machine::oldest(q, r0);
-        let store = machine::oldest(o, s0);
-        let hold = s.holds[lock];
-        let main = s.memory[v];
-        let locked = s.locked[t];
-        let tally = tallies[t];
-        let any = some_in(places.all, tally);
-        let seen = Seen {
-            cell: c,
-            read: read,
-            store: store,
-            hold: hold,
-            main: main,
-            locked: locked,
-            any: any,
-            threads: counts.threads,
-        };
-        let checks = machine::checks_for(seen, t, k);
-        if machine::is_broken(checks) {
-            let rule = machine::rule_of(k, checks);
-            let broken = Verdict::Broken(rule, line);
-            return Ran {
-                verdict: broken,
-                state: s,
-                row: row,
-            };
-        }
-        // What it leaves.
         let p = n + 1;
-        let behind_reads = machine::slot_place(i, q, q.len);
-        let behind_stores = machine::slot_place(i, o, o.len);
-        let r1 = s.reads[behind_reads];
-        let s1 = s.stores[behind_stores];
-        let cell_left = machine::cell_after(c, read, k, p);
-        let read_left = machine::read_after(r1, k, p);
-        let store_left = machine::store_after(s1, k, p);
-        let locked_left = machine::locked_after(locked, k, p);
-        let hold_left = machine::hold_after(hold, t, k);
-        let main_left = machine::main_after(main, k);
-        let tally_left = tally_after(tally, c, cell_left);
-        s.events = p;
-        s.cells[i] = cell_left;
-        s.reads[behind_reads] = read_left;
-        s.stores[behind_stores] = store_left;
-        s.locked[t] = locked_left;
-        s.holds[lock] = hold_left;
-        s.memory[v] = main_left;
-        tallies[t] = tally_left;
-        let record = records::pack(e);
-        row[n as usize] = record;
-        at = l.next;
+        if places.all {
+            // A lock, and what the variables of the thread have.
+            let lock = places.lock;
+            let hold = s.holds[lock];
+            let tally = tallies[t];
+            let any = some_in(tally);
+            let lock_checks = machine::hold_checks(hold, counts.threads, any, t, k);
+            if machine::is_broken(lock_checks) {
+                let rule = machine::rule_of(k, lock_checks);
+                let broken = Verdict::Broken(rule, line);
+                return Ran {
+                    verdict: broken,
+                    state: s,
+                    row: row,
+                };
+            }
+            let last = s.locked[t];
+            let last_left = machine::locked_after(last, k, p);
+            let hold_left = machine::hold_after(hold, t, k);
+            s.events = p;
+            s.locked[t] = last_left;
+            s.holds[lock] = hold_left;
+            let record = records::pack(e);
+            row[n as usize] = record;
+            at = l.next;
+        } else {
+            // A cell, its queues, and the variable in main memory.
+            let v = places.variable;
+            let i = machine::cell_place(t, v);
+            let c = s.cells[i];
+            let q = c.reads;
+            let o = c.stores;
+            let front_read = machine::slot_place(i, q, 0);
+            let front_store = machine::slot_place(i, o, 0);
+            let r0 = s.reads[front_read];
+            let s0 = s.stores[front_store];
+            let read = machine::oldest(q, r0);
+            let store = machine::oldest(o, s0);
+            let main = s.memory[v];
+            let locked = s.locked[t];
+            let checks = machine::variable_checks(c, read, store, main, locked, k);
+            if machine::is_broken(checks) {
+                let rule = machine::rule_of(k, checks);
+                let broken = Verdict::Broken(rule, line);
+                return Ran {
+                    verdict: broken,
+                    state: s,
+                    row: row,
+                };
+            }
+            let behind_reads = machine::slot_place(i, q, q.len);
+            let behind_stores = machine::slot_place(i, o, o.len);
+            let r1 = s.reads[behind_reads];
+            let s1 = s.stores[behind_stores];
+            let cell_left = machine::cell_after(c, read, k, p);
+            let read_left = machine::read_after(r1, k, p);
+            let store_left = machine::store_after(s1, k, p);
+            let main_left = machine::main_after(main, k);
+            let count = tallies[t];
+            let count_left = tally_after(count, c, cell_left);
+            s.events = p;
+            s.cells[i] = cell_left;
+            s.reads[behind_reads] = read_left;
+            s.stores[behind_stores] = store_left;
+            s.memory[v] = main_left;
+            tallies[t] = count_left;
+            let record = records::pack(e);
+            row[n as usize] = record;
+            at = l.next;
+        }
     }
     let all = Verdict::Accepted(s.events as usize);
     Ran {
