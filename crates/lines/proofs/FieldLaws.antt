@@ -9,7 +9,7 @@ use native.Mathlib.Omega.{arith}
 use borrow.Author.Tests.{eq-eqb, ne-eqb, eqb-true, eqb-false}
 use lib.Dec.{eqb}
 use lib.ListN.{length, getD, take, drop, drop-of-length-le, length-drop, List·getD-eq-default}
-use lib.Seq.{drop-cons, take-all, drop-drop}
+use lib.Seq.{drop-cons, take-all, drop-drop, getD-drop}
 use mathlib.Core.Logic.{_⊎_, inl, inr, ⊎-elim}
 use Rattle.lines.proofs.PartLaws.{rest, lt-or-le}
 use Rattle.lines.specs.Lines.{before, upTo, splitOn, onFirst, ended, linesOf, letter}
@@ -215,3 +215,41 @@ unfolding linesOf ended
 lines-more s h =
     let w = split-some 10 (drop (before 10 s + 1) s) in
     rw (split-more 10 s h, w .2)
+
+-- A walk along the fields of a line: the i-th ends at e.
+pub record Along (s : List ℕ) (i e : ℕ) : Type 0 where
+  pub start : ℕ
+  pub low : start ≤ length s
+  pub ends : e ≡ start + before 32 (drop start s)
+  pub fields : drop i (splitOn 32 s) ≡ splitOn 32 (drop start s)
+
+pub along-start : (s : List ℕ) (e : ℕ) → e ≡ 0 + before 32 s → Along s 0 e
+along-start s e q = record { start = 0; low = omega arith; ends = q; fields = refl }
+
+module _ (s : List ℕ) (i e : ℕ) (w : Along s i e) where
+  pub along-more : i + 1 < length (splitOn 32 s) → e < length s
+  along-more h = by (lt-or-le e (length s))
+    where
+      by : (e < length s) ⊎ (length s ≤ e) → e < length s
+      by (inl l) = l
+      by (inr l) =
+          let d : length (drop (w .start) s) ≤ before 32 (drop (w .start) s) = omega (arith, w .ends, length-drop (w .start) s) in
+          let one = ap length (w .fields ∙ split-last 32 (drop (w .start) s) d) in
+          absurd (omega (arith, one, length-drop i (splitOn 32 s)))
+
+  module _ (l : e < length s) (e′ : ℕ) (q : e′ ≡ e + 1 + before 32 (drop (e + 1) s)) where
+    behind-e : drop (i + 1) (splitOn 32 s) ≡ splitOn 32 (drop (e + 1) s)
+    behind-e =
+        let d : before 32 (drop (w .start) s) < length (drop (w .start) s) = omega (arith, w .ends, length-drop (w .start) s) in
+        let n : w .start + (before 32 (drop (w .start) s) + 1) ≡ e + 1 = omega (arith, w .ends) in
+        sym (drop-drop 1 i (splitOn 32 s)) ∙ ap (λ (fs : List (List ℕ)). drop 1 fs) (w .fields ∙ split-more 32 (drop (w .start) s) d)
+        ∙ ap (λ (x : List ℕ). splitOn 32 x) (drop-drop (before 32 (drop (w .start) s) + 1) (w .start) s) ∙ ap (λ (k : ℕ). splitOn 32 (drop k s)) n
+
+    pub along-next : Along s (i + 1) e′
+    along-next = record { start = e + 1; low = omega arith; ends = q; fields = behind-e }
+
+    pub along-field : getD (splitOn 32 s) (i + 1) [] ≡ take (e′ - (e + 1)) (drop (e + 1) s)
+    along-field =
+        let z : i + 1 + 0 ≡ i + 1 = omega arith in
+        sym (ap (λ (k : ℕ). getD (splitOn 32 s) k []) z) ∙ sym (getD-drop (i + 1) (splitOn 32 s) 0 []) ∙ ap (λ (fs : List (List ℕ)). getD fs 0 []) behind-e
+        ∙ first-field 32 s (e + 1) e′ q 0 refl

@@ -161,9 +161,12 @@ fn read_locks(s: &[u8], v: usize, l: usize) -> GuardLine
     ensures { λ r. ⌜ r ≡ locksFrom 0 noLocks l (drop 1 (splitOn 32 (now (s .entry)))) ⌝ }
 {
     let mut g = [0usize; 16];
+    let mut e = lines::space_from(s, 0);
     let mut i: usize = 0;
     while i < v {
-        let Natural::Of(n) = read_lock(lines::field(s, i + 1), l) else {
+        let a = e + 1;
+        e = lines::space_from(s, a);
+        let Natural::Of(n) = read_lock(&s[a..e], l) else {
             return bad_line();
         };
         g[i] = n;
