@@ -16,7 +16,7 @@ use Rattle.machine.specs.declared.Seen.{Seen}
 use Rattle.machine.specs.declared.State.{State}
 use Rattle.machine.specs.State.{noSlot, noHold, noMain, blank, cellAt, readsAt, depthOf}
 use Rattle.machine.specs.Step.{nextCell, readAfter, storeAfter, holdAfter, mainAfter, lockedAfter, varOf, lockOf, behind, stepState}
-use Rattle.machine.specs.Parts.{Within, allOf, placesOf, cellPlace, slotPlace, noChecks, checksFor, variableChecks, holdChecks, seenOf, holdFor}
+use Rattle.machine.specs.Parts.{Within, allOf, placesOf, cellPlace, slotPlace, noChecks, queueOf, checksFor, cellChecks, readsChecks, storesChecks, holdChecks, onQueue, seenOf, holdFor}
 use Rattle.machine.proofs.LeafLaws.{cond-same}
 use Rattle.machine.proofs.StepWords.{Shape, cell-after}
 use Rattle.machine.proofs.Joined.{put-is, hold-same}
@@ -37,18 +37,44 @@ back xs i d x e = sym (ap (λ y. set xs i y) e ∙ set-getD xs i d)
 
 -- ---- the checks
 
-pub variable-checks-is : (n : Seen) (t : ℕ) (k : Kind) → allOf k ≡ false → variableChecks (n .cell) (n .read) (n .store) (n .main) (n .locked) k ≡ checksFor n t k
-unfolding allOf variableChecks checksFor
-variable-checks-is n t (Use v x) h = refl
-variable-checks-is n t (Assign v x) h = refl
-variable-checks-is n t (Load v x) h = refl
-variable-checks-is n t (Store v x) h = refl
-variable-checks-is n t (Read v x) h = refl
-variable-checks-is n t (Write v x) h = refl
-variable-checks-is n t (Lock l) h = absurd (let z : _≡_ {A = ℕ} 0 1 = cc in omega arith)
-variable-checks-is n t (Unlock l) h = absurd (let z : _≡_ {A = ℕ} 0 1 = cc in omega arith)
-variable-checks-is n t (PrescientStore v x) h = refl
-variable-checks-is n t (PrescientAssign v x) h = refl
+pub cell-checks-is : (n : Seen) (t : ℕ) (k : Kind) → allOf k ≡ false → (queueOf k ≡ 1 → ⊥) → (queueOf k ≡ 2 → ⊥) → cellChecks (n .cell) (n .locked) k ≡ checksFor n t k
+unfolding allOf queueOf cellChecks checksFor
+cell-checks-is n t (Use v x) h r s = refl
+cell-checks-is n t (Assign v x) h r s = refl
+cell-checks-is n t (Load v x) h r s = absurd (r refl)
+cell-checks-is n t (Store v x) h r s = absurd (s refl)
+cell-checks-is n t (Read v x) h r s = absurd (r refl)
+cell-checks-is n t (Write v x) h r s = absurd (s refl)
+cell-checks-is n t (Lock l) h r s = absurd (let z : _≡_ {A = ℕ} 0 1 = cc in omega arith)
+cell-checks-is n t (Unlock l) h r s = absurd (let z : _≡_ {A = ℕ} 0 1 = cc in omega arith)
+cell-checks-is n t (PrescientStore v x) h r s = absurd (s refl)
+cell-checks-is n t (PrescientAssign v x) h r s = refl
+
+pub reads-checks-is : (n : Seen) (t : ℕ) (k : Kind) → queueOf k ≡ 1 → readsChecks (n .cell) (n .read) (n .main) k ≡ checksFor n t k
+unfolding queueOf readsChecks checksFor
+reads-checks-is n t (Use v x) h = absurd (omega arith)
+reads-checks-is n t (Assign v x) h = absurd (omega arith)
+reads-checks-is n t (Load v x) h = refl
+reads-checks-is n t (Store v x) h = absurd (omega arith)
+reads-checks-is n t (Read v x) h = refl
+reads-checks-is n t (Write v x) h = absurd (omega arith)
+reads-checks-is n t (Lock l) h = absurd (omega arith)
+reads-checks-is n t (Unlock l) h = absurd (omega arith)
+reads-checks-is n t (PrescientStore v x) h = absurd (omega arith)
+reads-checks-is n t (PrescientAssign v x) h = absurd (omega arith)
+
+pub stores-checks-is : (n : Seen) (t : ℕ) (k : Kind) → queueOf k ≡ 2 → storesChecks (n .cell) (n .store) (n .locked) k ≡ checksFor n t k
+unfolding queueOf storesChecks checksFor
+stores-checks-is n t (Use v x) h = absurd (omega arith)
+stores-checks-is n t (Assign v x) h = absurd (omega arith)
+stores-checks-is n t (Load v x) h = absurd (omega arith)
+stores-checks-is n t (Store v x) h = refl
+stores-checks-is n t (Read v x) h = absurd (omega arith)
+stores-checks-is n t (Write v x) h = refl
+stores-checks-is n t (Lock l) h = absurd (omega arith)
+stores-checks-is n t (Unlock l) h = absurd (omega arith)
+stores-checks-is n t (PrescientStore v x) h = refl
+stores-checks-is n t (PrescientAssign v x) h = absurd (omega arith)
 
 pub hold-checks-is : (n : Seen) (t : ℕ) (k : Kind) → allOf k ≡ true → holdChecks (n .hold) (n .threads) (n .any) t k ≡ checksFor n t k
 unfolding allOf holdChecks checksFor
@@ -91,7 +117,7 @@ hold-kept (Unlock l) a t h = absurd (let z : _≡_ {A = ℕ} 0 1 = cc in omega a
 hold-kept (PrescientStore v x) a t h = cond-same (ltb t 8 && ltb (a .depth) 2000) a
 hold-kept (PrescientAssign v x) a t h = cond-same (ltb t 8 && ltb (a .depth) 2000) a
 
-pub put-variable : (s : State) (e : Event) → Within (e .thread) (e .kind) → getD (s .holds) (lockOf (e .kind)) noHold .depth < 2000 → allOf (e .kind) ≡ false
+put-variable : (s : State) (e : Event) → Within (e .thread) (e .kind) → getD (s .holds) (lockOf (e .kind)) noHold .depth < 2000 → allOf (e .kind) ≡ false
     → (n : Seen) → n ≡ seenOf s (e .thread) (e .kind)
     → (at : Places) (i rb sb : ℕ) (cell : Cell) (r1 s1 : Slot) (value : Main)
     → at ≡ placesOf (e .kind) → i ≡ cellPlace (e .thread) (at .variable)
@@ -118,6 +144,145 @@ put-variable s e w deep a n en at i rb sb cell r1 s1 value ea ei er es ec e1 e2 
     (sym (ap (λ (x : Seen). lockedAfter (x .locked) (e .kind) (s .events + 1)) en ∙ locked-kept (e .kind) (getD (s .locked) (e .thread) 0) (s .events + 1) a))
     (ap (λ (x : Places). getD (s .holds) (x .lock) noHold) ea ∙ sym (ap (λ (x : Seen). holdFor (x .hold) (e .thread) (e .kind)) en ∙ hold-kept (e .kind) (getD (s .holds) (lockOf (e .kind)) noHold) (e .thread) a))
     ev
+
+-- ---- an event that is not on a queue leaves it; one that is not on the stores leaves main memory
+
+read-left : (k : Kind) (r : Slot) (p : ℕ) → (queueOf k ≡ 1 → ⊥) → readAfter r k p ≡ r
+unfolding queueOf readAfter
+read-left (Use v x) r p h = refl
+read-left (Assign v x) r p h = refl
+read-left (Load v x) r p h = absurd (h refl)
+read-left (Store v x) r p h = refl
+read-left (Read v x) r p h = absurd (h refl)
+read-left (Write v x) r p h = refl
+read-left (Lock l) r p h = refl
+read-left (Unlock l) r p h = refl
+read-left (PrescientStore v x) r p h = refl
+read-left (PrescientAssign v x) r p h = refl
+
+store-left : (k : Kind) (r : Slot) (p : ℕ) → (queueOf k ≡ 2 → ⊥) → storeAfter r k p ≡ r
+unfolding queueOf storeAfter
+store-left (Use v x) r p h = refl
+store-left (Assign v x) r p h = refl
+store-left (Load v x) r p h = refl
+store-left (Store v x) r p h = absurd (h refl)
+store-left (Read v x) r p h = refl
+store-left (Write v x) r p h = absurd (h refl)
+store-left (Lock l) r p h = refl
+store-left (Unlock l) r p h = refl
+store-left (PrescientStore v x) r p h = absurd (h refl)
+store-left (PrescientAssign v x) r p h = refl
+
+main-left : (k : Kind) (m : Main) → (queueOf k ≡ 2 → ⊥) → mainAfter m k ≡ m
+unfolding queueOf mainAfter
+main-left (Use v x) m h = refl
+main-left (Assign v x) m h = refl
+main-left (Load v x) m h = refl
+main-left (Store v x) m h = absurd (h refl)
+main-left (Read v x) m h = refl
+main-left (Write v x) m h = absurd (h refl)
+main-left (Lock l) m h = refl
+main-left (Unlock l) m h = refl
+main-left (PrescientStore v x) m h = absurd (h refl)
+main-left (PrescientAssign v x) m h = refl
+
+-- the cell of each arm is the next one
+alone-is : (k : Kind) (p : ℕ) (r : Slot) (c : Cell) → (queueOf k ≡ 1 → ⊥) → (queueOf k ≡ 2 → ⊥) → onQueue 0 p noSlot k c ≡ nextCell p r k c
+unfolding queueOf onQueue nextCell
+alone-is (Use v x) p r c g h = refl
+alone-is (Assign v x) p r c g h = refl
+alone-is (Load v x) p r c g h = absurd (g refl)
+alone-is (Store v x) p r c g h = absurd (h refl)
+alone-is (Read v x) p r c g h = absurd (g refl)
+alone-is (Write v x) p r c g h = absurd (h refl)
+alone-is (Lock l) p r c g h = refl
+alone-is (Unlock l) p r c g h = refl
+alone-is (PrescientStore v x) p r c g h = absurd (h refl)
+alone-is (PrescientAssign v x) p r c g h = refl
+
+reads-is : (k : Kind) (p : ℕ) (r : Slot) (c : Cell) → queueOf k ≡ 1 → onQueue 1 0 r k c ≡ nextCell p r k c
+unfolding queueOf onQueue nextCell
+reads-is (Use v x) p r c h = absurd (omega arith)
+reads-is (Assign v x) p r c h = absurd (omega arith)
+reads-is (Load v x) p r c h = refl
+reads-is (Store v x) p r c h = absurd (omega arith)
+reads-is (Read v x) p r c h = refl
+reads-is (Write v x) p r c h = absurd (omega arith)
+reads-is (Lock l) p r c h = absurd (omega arith)
+reads-is (Unlock l) p r c h = absurd (omega arith)
+reads-is (PrescientStore v x) p r c h = absurd (omega arith)
+reads-is (PrescientAssign v x) p r c h = absurd (omega arith)
+
+stores-is : (k : Kind) (p : ℕ) (r : Slot) (c : Cell) → queueOf k ≡ 2 → onQueue 2 p noSlot k c ≡ nextCell p r k c
+unfolding queueOf onQueue nextCell
+stores-is (Use v x) p r c h = absurd (omega arith)
+stores-is (Assign v x) p r c h = absurd (omega arith)
+stores-is (Load v x) p r c h = absurd (omega arith)
+stores-is (Store v x) p r c h = refl
+stores-is (Read v x) p r c h = absurd (omega arith)
+stores-is (Write v x) p r c h = refl
+stores-is (Lock l) p r c h = absurd (omega arith)
+stores-is (Unlock l) p r c h = absurd (omega arith)
+stores-is (PrescientStore v x) p r c h = refl
+stores-is (PrescientAssign v x) p r c h = absurd (omega arith)
+
+module _ (s : State) (e : Event) (w : Within (e .thread) (e .kind)) (deep : getD (s .holds) (lockOf (e .kind)) noHold .depth < 2000) (a : allOf (e .kind) ≡ false)
+    (n : Seen) (en : n ≡ seenOf s (e .thread) (e .kind)) (at : Places) (i : ℕ) (ea : at ≡ placesOf (e .kind)) (ei : i ≡ cellPlace (e .thread) (at .variable)) (cell : Cell) where
+  abbrev rb : ℕ
+  rb = slotPlace i (n .cell .reads) (n .cell .reads .len)
+
+  abbrev sb : ℕ
+  sb = slotPlace i (n .cell .stores) (n .cell .stores .len)
+
+  main-same : (queueOf (e .kind) ≡ 2 → ⊥) → getD (s .memory) (at .variable) noMain ≡ mainAfter (n .main) (e .kind)
+  unfolding placesOf seenOf
+  main-same h = ap (λ (x : Places). getD (s .memory) (x .variable) noMain) ea ∙ sym (ap (λ (x : Seen). mainAfter (x .main) (e .kind)) en ∙ main-left (e .kind) (getD (s .memory) (varOf (e .kind)) noMain) h)
+
+  pub next-alone : (queueOf (e .kind) ≡ 1 → ⊥) → (queueOf (e .kind) ≡ 2 → ⊥) → cell ≡ onQueue 0 (s .events + 1) noSlot (e .kind) (n .cell) → cell ≡ nextCell (s .events + 1) (n .read) (e .kind) (n .cell)
+  next-alone g h ec = ec ∙ alone-is (e .kind) (s .events + 1) (n .read) (n .cell) g h
+
+  pub next-reads : queueOf (e .kind) ≡ 1 → cell ≡ onQueue 1 0 (n .read) (e .kind) (n .cell) → cell ≡ nextCell (s .events + 1) (n .read) (e .kind) (n .cell)
+  next-reads g ec = ec ∙ reads-is (e .kind) (s .events + 1) (n .read) (n .cell) g
+
+  pub next-stores : queueOf (e .kind) ≡ 2 → cell ≡ onQueue 2 (s .events + 1) noSlot (e .kind) (n .cell) → cell ≡ nextCell (s .events + 1) (n .read) (e .kind) (n .cell)
+  next-stores g ec = ec ∙ stores-is (e .kind) (s .events + 1) (n .read) (n .cell) g
+
+  pub put-alone : (queueOf (e .kind) ≡ 1 → ⊥) → (queueOf (e .kind) ≡ 2 → ⊥) → cell ≡ nextCell (s .events + 1) (n .read) (e .kind) (n .cell)
+      → _≡_ {A = State} (record { counts = s .counts; events = s .events + 1; cells = set (s .cells) i cell; reads = s .reads; stores = s .stores; locked = s .locked; holds = s .holds; memory = s .memory }) (stepState s e)
+  put-alone g h ec =
+      (λ j. record { counts = s .counts; events = s .events + 1; cells = set (s .cells) i cell; reads = back (s .reads) rb noSlot _ refl j; stores = back (s .stores) sb noSlot _ refl j; locked = s .locked; holds = s .holds; memory = back (s .memory) (at .variable) noMain _ refl j })
+      ∙ put-variable s e w deep a n en at i rb sb cell (getD (s .reads) rb noSlot) (getD (s .stores) sb noSlot) (getD (s .memory) (at .variable) noMain) ea ei refl refl ec
+      (sym (read-left (e .kind) (getD (s .reads) rb noSlot) (s .events + 1) g)) (sym (store-left (e .kind) (getD (s .stores) sb noSlot) (s .events + 1) h)) (main-same h)
+
+  pub put-reads : (h : queueOf (e .kind) ≡ 2 → ⊥) → cell ≡ nextCell (s .events + 1) (n .read) (e .kind) (n .cell) → (r : ℕ) (r1 : Slot) → r ≡ slotPlace i (n .cell .reads) (n .cell .reads .len)
+      → r1 ≡ readAfter (getD (s .reads) r noSlot) (e .kind) (s .events + 1)
+      → _≡_ {A = State} (record { counts = s .counts; events = s .events + 1; cells = set (s .cells) i cell; reads = set (s .reads) r r1; stores = s .stores; locked = s .locked; holds = s .holds; memory = s .memory }) (stepState s e)
+  put-reads h ec r r1 er e1 =
+      (λ j. record { counts = s .counts; events = s .events + 1; cells = set (s .cells) i cell; reads = set (s .reads) r r1; stores = back (s .stores) sb noSlot _ refl j; locked = s .locked; holds = s .holds; memory = back (s .memory) (at .variable) noMain _ refl j })
+      ∙ put-variable s e w deep a n en at i r sb cell r1 (getD (s .stores) sb noSlot) (getD (s .memory) (at .variable) noMain) ea ei er refl ec
+      e1 (sym (store-left (e .kind) (getD (s .stores) sb noSlot) (s .events + 1) h)) (main-same h)
+
+  pub put-stores : (g : queueOf (e .kind) ≡ 1 → ⊥) → cell ≡ nextCell (s .events + 1) (n .read) (e .kind) (n .cell) → (r : ℕ) (s1 : Slot) (value : Main) → r ≡ slotPlace i (n .cell .stores) (n .cell .stores .len)
+      → s1 ≡ storeAfter (getD (s .stores) r noSlot) (e .kind) (s .events + 1) → value ≡ mainAfter (n .main) (e .kind)
+      → _≡_ {A = State} (record { counts = s .counts; events = s .events + 1; cells = set (s .cells) i cell; reads = s .reads; stores = set (s .stores) r s1; locked = s .locked; holds = s .holds; memory = set (s .memory) (at .variable) value }) (stepState s e)
+  put-stores g ec r s1 value er e1 ev =
+      (λ j. record { counts = s .counts; events = s .events + 1; cells = set (s .cells) i cell; reads = back (s .reads) rb noSlot _ refl j; stores = set (s .stores) r s1; locked = s .locked; holds = s .holds; memory = set (s .memory) (at .variable) value })
+      ∙ put-variable s e w deep a n en at i rb r cell (getD (s .reads) rb noSlot) s1 value ea ei refl er ec
+      (sym (read-left (e .kind) (getD (s .reads) rb noSlot) (s .events + 1) g)) e1 ev
+
+-- an event on the reads leaves what is tallied
+pub reads-tally : (k : Kind) (p : ℕ) (r : Slot) (c : Cell) → queueOf k ≡ 1 → (nextCell p r k c .pending ≡ c .pending) × (nextCell p r k c .fresh ≡ c .fresh) × (nextCell p r k c .stores ≡ c .stores)
+unfolding queueOf nextCell
+reads-tally (Use v x) p r c h = absurd (omega arith)
+reads-tally (Assign v x) p r c h = absurd (omega arith)
+reads-tally (Load v x) p r c h = (refl, refl, refl)
+reads-tally (Store v x) p r c h = absurd (omega arith)
+reads-tally (Read v x) p r c h = (refl, refl, refl)
+reads-tally (Write v x) p r c h = absurd (omega arith)
+reads-tally (Lock l) p r c h = absurd (omega arith)
+reads-tally (Unlock l) p r c h = absurd (omega arith)
+reads-tally (PrescientStore v x) p r c h = absurd (omega arith)
+reads-tally (PrescientAssign v x) p r c h = absurd (omega arith)
 
 -- ---- an event on a lock leaves the cells, their queues and main memory
 

@@ -17,7 +17,7 @@ use Rattle.machine.specs.declared.Seen.{Seen}
 use Rattle.machine.specs.declared.State.{State}
 use Rattle.machine.specs.State.{noSlot, noHold, noMain, cellAt, readsAt, storesAt, depthOf}
 use Rattle.machine.specs.Range.{every8}
-use Rattle.machine.specs.Step.{varOf, lockOf, holdAfter}
+use Rattle.machine.specs.Step.{nextCell, varOf, lockOf, holdAfter}
 use Rattle.rules.specs.declared.Slot.{Slot}
 use Rattle.rules.specs.declared.Kind.{Kind}
 use Rattle.rules.specs.declared.Kind.the-variants.{Use, Assign, Load, Store, Read, Write, Lock, Unlock, PrescientStore, PrescientAssign}
@@ -102,18 +102,55 @@ checksFor n t (Unlock l) = unlockChecks (n .hold) (n .any) t
 checksFor n t (PrescientStore v x) = prescientStoreChecks (n .cell)
 checksFor n t (PrescientAssign v x) = prescientAssignChecks (n .cell) x
 
--- the same from the parts of an event on a variable, and of one on a lock
-unfoldable pub variableChecks : Cell → Slot → Slot → Main → ℕ → Kind → Checks
-variableChecks c r s m p (Use v x) = useChecks c p x
-variableChecks c r s m p (Assign v x) = noChecks
-variableChecks c r s m p (Load v x) = loadChecks c r x
-variableChecks c r s m p (Store v x) = storeChecks c p x
-variableChecks c r s m p (Read v x) = readChecks c m x
-variableChecks c r s m p (Write v x) = writeChecks c s x
-variableChecks c r s m p (Lock l) = noChecks
-variableChecks c r s m p (Unlock l) = noChecks
-variableChecks c r s m p (PrescientStore v x) = prescientStoreChecks c
-variableChecks c r s m p (PrescientAssign v x) = prescientAssignChecks c x
+-- the queue of its cell that an event is on: 1 the reads, 2 the stores, 0 none
+unfoldable pub queueOf : Kind → ℕ
+queueOf (Use v x) = 0
+queueOf (Assign v x) = 0
+queueOf (Load v x) = 1
+queueOf (Store v x) = 2
+queueOf (Read v x) = 1
+queueOf (Write v x) = 2
+queueOf (Lock l) = 0
+queueOf (Unlock l) = 0
+queueOf (PrescientStore v x) = 2
+queueOf (PrescientAssign v x) = 0
+
+-- the same checks from the parts of an event on a cell alone, on its reads, on its stores, on a lock
+unfoldable pub cellChecks : Cell → ℕ → Kind → Checks
+cellChecks c p (Use v x) = useChecks c p x
+cellChecks c p (Assign v x) = noChecks
+cellChecks c p (Load v x) = noChecks
+cellChecks c p (Store v x) = noChecks
+cellChecks c p (Read v x) = noChecks
+cellChecks c p (Write v x) = noChecks
+cellChecks c p (Lock l) = noChecks
+cellChecks c p (Unlock l) = noChecks
+cellChecks c p (PrescientStore v x) = noChecks
+cellChecks c p (PrescientAssign v x) = prescientAssignChecks c x
+
+unfoldable pub readsChecks : Cell → Slot → Main → Kind → Checks
+readsChecks c r m (Use v x) = noChecks
+readsChecks c r m (Assign v x) = noChecks
+readsChecks c r m (Load v x) = loadChecks c r x
+readsChecks c r m (Store v x) = noChecks
+readsChecks c r m (Read v x) = readChecks c m x
+readsChecks c r m (Write v x) = noChecks
+readsChecks c r m (Lock l) = noChecks
+readsChecks c r m (Unlock l) = noChecks
+readsChecks c r m (PrescientStore v x) = noChecks
+readsChecks c r m (PrescientAssign v x) = noChecks
+
+unfoldable pub storesChecks : Cell → Slot → ℕ → Kind → Checks
+storesChecks c r p (Use v x) = noChecks
+storesChecks c r p (Assign v x) = noChecks
+storesChecks c r p (Load v x) = noChecks
+storesChecks c r p (Store v x) = storeChecks c p x
+storesChecks c r p (Read v x) = noChecks
+storesChecks c r p (Write v x) = writeChecks c r x
+storesChecks c r p (Lock l) = noChecks
+storesChecks c r p (Unlock l) = noChecks
+storesChecks c r p (PrescientStore v x) = prescientStoreChecks c
+storesChecks c r p (PrescientAssign v x) = noChecks
 
 unfoldable pub holdChecks : Hold → ℕ → OnSome → ℕ → Kind → Checks
 holdChecks a n w t (Use v x) = noChecks
@@ -179,6 +216,10 @@ seenOf s t k = record {
   any = someOf s t (cond (allOf k) (s .counts .variables) 0);
   threads = s .counts .threads;
 }
+
+-- ---- a cell after an event on this queue; as it was after another
+unfoldable pub onQueue : ℕ → ℕ → Slot → Kind → Cell → Cell
+onQueue q p r k c = cond (eqb (queueOf k) q) (nextCell p r k c) c
 
 -- ---- a lock, within the range of threads and depths
 unfoldable pub holdFor : Hold → ℕ → Kind → Hold

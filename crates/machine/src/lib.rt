@@ -8,7 +8,7 @@ ghost use lib.IntN.{pos};
 ghost use lib.ListN.{getD};
 ghost use Rattle.rules.specs.Events.{eqZ};
 ghost use Rattle.rules.specs.Limits.{full, lineAfter};
-ghost use Rattle.machine.specs.State.{noHold, depthOf, start};
+ghost use Rattle.machine.specs.State.{noSlot, noHold, depthOf, start};
 ghost use Rattle.machine.specs.Range.{holdOk, holdsOk, cellOk, cellsOk, readsOk, storesOk, inRange};
 ghost use Rattle.machine.specs.Step.{pushed, popped, nextCell, readAfter, storeAfter, mainAfter, lockedAfter, lockOf, stepState};
 ghost use Rattle.machine.specs.Stepped.{unchanged, stepped};
@@ -29,7 +29,11 @@ ghost use Rattle.machine.specs.Parts.{
   prescientStoreChecks,
   prescientAssignChecks,
   checksFor,
-  variableChecks,
+  queueOf,
+  cellChecks,
+  readsChecks,
+  storesChecks,
+  onQueue,
   holdChecks,
   table,
   kindOf,
@@ -665,22 +669,75 @@ pub fn checks_for(n: Seen, t: usize, k: Kind) -> Checks
     }
 }
 
-// The same for the loop over a whole trace, from the parts that an event on a variable or on a lock looks at; none for the others.
+// Which queue of its cell an event is on: 1 the reads, 2 the stores, 0 none.
+pub fn queue_of(k: Kind) -> u8
+    ensures { λ r. ⌜ r ≡ queueOf k ⌝ }
+{
+    match k {
+        Kind::Use(_, _) => 0,
+        Kind::Assign(_, _) => 0,
+        Kind::Load(_, _) => 1,
+        Kind::Store(_, _) => 2,
+        Kind::Read(_, _) => 1,
+        Kind::Write(_, _) => 2,
+        Kind::Lock(_) => 0,
+        Kind::Unlock(_) => 0,
+        Kind::PrescientStore(_, _) => 2,
+        Kind::PrescientAssign(_, _) => 0,
+    }
+}
 
-pub fn variable_checks(c: Cell, r: Slot, s: Slot, m: Main, p: u32, k: Kind) -> Checks
-    ensures { λ b. ⌜ b ≡ variableChecks c r s m p k ⌝ }
+// The same checks for the loop over a whole trace, from the parts that an event on a cell alone, on its reads, on its stores or on a lock
+// looks at; none for the others.
+
+pub fn cell_checks(c: Cell, p: u32, k: Kind) -> Checks
+    ensures { λ b. ⌜ b ≡ cellChecks c p k ⌝ }
 {
     match k {
         Kind::Use(_, x) => use_checks(c, p, x),
         Kind::Assign(_, _) => none_broken(),
-        Kind::Load(_, x) => load_checks(c, r, x),
-        Kind::Store(_, x) => store_checks(c, p, x),
+        Kind::Load(_, _) => none_broken(),
+        Kind::Store(_, _) => none_broken(),
+        Kind::Read(_, _) => none_broken(),
+        Kind::Write(_, _) => none_broken(),
+        Kind::Lock(_) => none_broken(),
+        Kind::Unlock(_) => none_broken(),
+        Kind::PrescientStore(_, _) => none_broken(),
+        Kind::PrescientAssign(_, x) => prescient_assign_checks(c, x),
+    }
+}
+
+pub fn reads_checks(c: Cell, s: Slot, m: Main, k: Kind) -> Checks
+    ensures { λ b. ⌜ b ≡ readsChecks c s m k ⌝ }
+{
+    match k {
+        Kind::Use(_, _) => none_broken(),
+        Kind::Assign(_, _) => none_broken(),
+        Kind::Load(_, x) => load_checks(c, s, x),
+        Kind::Store(_, _) => none_broken(),
         Kind::Read(_, x) => read_checks(c, m, x),
+        Kind::Write(_, _) => none_broken(),
+        Kind::Lock(_) => none_broken(),
+        Kind::Unlock(_) => none_broken(),
+        Kind::PrescientStore(_, _) => none_broken(),
+        Kind::PrescientAssign(_, _) => none_broken(),
+    }
+}
+
+pub fn stores_checks(c: Cell, s: Slot, p: u32, k: Kind) -> Checks
+    ensures { λ b. ⌜ b ≡ storesChecks c s p k ⌝ }
+{
+    match k {
+        Kind::Use(_, _) => none_broken(),
+        Kind::Assign(_, _) => none_broken(),
+        Kind::Load(_, _) => none_broken(),
+        Kind::Store(_, x) => store_checks(c, p, x),
+        Kind::Read(_, _) => none_broken(),
         Kind::Write(_, x) => write_checks(c, s, x),
         Kind::Lock(_) => none_broken(),
         Kind::Unlock(_) => none_broken(),
         Kind::PrescientStore(_, _) => prescient_store_checks(c),
-        Kind::PrescientAssign(_, x) => prescient_assign_checks(c, x),
+        Kind::PrescientAssign(_, _) => none_broken(),
     }
 }
 
@@ -767,6 +824,104 @@ pub fn cell_after(c: Cell, s: Slot, k: Kind, at: u32) -> Cell
             r.source = at;
             r
         }
+    }
+}
+
+// The cell, for the loop: after an event on it alone, on its reads, on its stores; as it was for the others.
+
+pub fn cell_alone(c: Cell, k: Kind, at: u32) -> Cell
+    ensures { λ r. ⌜ r ≡ onQueue 0 at noSlot k c ⌝ }
+{
+    let mut r = c;
+    match k {
+        Kind::Use(_, _) => c,
+        Kind::Assign(_, x) => {
+            r.copy = x;
+            r.fresh = true;
+            r.source = at;
+            r
+        }
+        Kind::Load(_, _) => c,
+        Kind::Store(_, _) => c,
+        Kind::Read(_, _) => c,
+        Kind::Write(_, _) => c,
+        Kind::Lock(_) => c,
+        Kind::Unlock(_) => c,
+        Kind::PrescientStore(_, _) => c,
+        Kind::PrescientAssign(_, x) => {
+            r.copy = x;
+            r.fresh = false;
+            r.pending = false;
+            r.source = at;
+            r
+        }
+    }
+}
+
+pub fn cell_reads(c: Cell, s: Slot, k: Kind) -> Cell
+    ensures { λ r. ⌜ r ≡ onQueue 1 0 s k c ⌝ }
+{
+    let mut r = c;
+    match k {
+        Kind::Use(_, _) => c,
+        Kind::Assign(_, _) => c,
+        Kind::Load(_, x) => {
+            let q = c.reads;
+            let rest = pop(q);
+            r.copy = x;
+            r.reads = rest;
+            r.source = later(c.source, s.position);
+            r
+        }
+        Kind::Store(_, _) => c,
+        Kind::Read(_, _) => {
+            let q = c.reads;
+            let more = push(q);
+            r.reads = more;
+            r
+        }
+        Kind::Write(_, _) => c,
+        Kind::Lock(_) => c,
+        Kind::Unlock(_) => c,
+        Kind::PrescientStore(_, _) => c,
+        Kind::PrescientAssign(_, _) => c,
+    }
+}
+
+pub fn cell_stores(c: Cell, k: Kind, at: u32) -> Cell
+    ensures { λ r. ⌜ r ≡ onQueue 2 at noSlot k c ⌝ }
+{
+    let mut r = c;
+    match k {
+        Kind::Use(_, _) => c,
+        Kind::Assign(_, _) => c,
+        Kind::Load(_, _) => c,
+        Kind::Store(_, _) => {
+            let q = c.stores;
+            let more = push(q);
+            r.fresh = false;
+            r.stores = more;
+            r
+        }
+        Kind::Read(_, _) => c,
+        Kind::Write(_, _) => {
+            let q = c.stores;
+            let rest = pop(q);
+            r.stores = rest;
+            r.written = at;
+            r
+        }
+        Kind::Lock(_) => c,
+        Kind::Unlock(_) => c,
+        Kind::PrescientStore(_, x) => {
+            let q = c.stores;
+            let more = push(q);
+            r.pending = true;
+            r.announced = x;
+            r.stores = more;
+            r
+        }
+        Kind::PrescientAssign(_, _) => c,
     }
 }
 

@@ -7,7 +7,7 @@ use mathlib.Core.Bool.{Bool, true, false, not, cond, _&&_, _||_}
 use mathlib.Core.List.{List}
 use lib.Dec.{eqb, ltb, leb}
 use lib.ListN.{length, getD, set, replicate, length-set, length-replicate, getD-replicate}
-use lib.Seq.{getD-set-same, getD-set-other}
+use lib.Seq.{getD-set-same, getD-set-other, set-getD}
 use borrow.Author.Tests.{lt-ltb, le-ltb, ltb-true, ltb-false, leb-true, eqb-true, eqb-false, eq-eqb, ne-eqb}
 use Rattle.rules.specs.declared.Event.{Event}
 use Rattle.rules.specs.declared.Counts.{Counts}
@@ -17,15 +17,16 @@ use Rattle.rules.specs.Events.{letter, place, onLock, is}
 use Rattle.rules.specs.Limits.{full, allowed, declared}
 use Rattle.rules.specs.Words.{first}
 use Rattle.rules.specs.Rules.{some}
+use Rattle.machine.specs.declared.Ring.{Ring}
 use Rattle.machine.specs.declared.Cell.{Cell}
 use Rattle.machine.specs.declared.OnSome.{OnSome}
 use Rattle.machine.specs.declared.Seen.{Seen}
 use Rattle.machine.specs.declared.State.{State}
 use Rattle.machine.specs.State.{cellAt, readsAt, start}
 use Rattle.machine.specs.Step.{varOf, nextCell, stepState}
-use Rattle.machine.specs.Parts.{Within, allOf, someOf, seenOf}
+use Rattle.machine.specs.Parts.{Within, allOf, queueOf, someOf, seenOf}
 use Rattle.machine.proofs.StepWords.{Shape, cell-after}
-use Rattle.machine.proofs.Sides.{cells-kept}
+use Rattle.machine.proofs.Sides.{cells-kept, reads-tally}
 use Rattle.machine.proofs.Whole.{start-cell}
 use Rattle.marking.specs.declared.Tally.{Tally}
 use Rattle.marking.specs.Tallies.{number, noTally, sent, tallyOf, moved, tallyAfter, Small, someIn}
@@ -198,6 +199,26 @@ module _ (s : State) (e : Event) (shape : Shape s) (w : Within (e .thread) (e .k
           let k : e .thread < length xs = omega (arith, t .eight, w .thread) in
           rw (eqb-true u (e .thread) q) (getD-set-same xs (e .thread) a noTally k ∙ is ∙ sym own)
       by u l false q = getD-set-other xs (e .thread) u a noTally (eqb-false u (e .thread) q) ∙ t .each u l ∙ sym (others u (eqb-false u (e .thread) q))
+
+-- R and L leave what is tallied
+tally-same : (a : Tally) (c d : Cell) → (d .pending ≡ c .pending) × (d .fresh ≡ c .fresh) × (d .stores ≡ c .stores) → tallyAfter a c d ≡ a
+unfolding tallyAfter
+tally-same a c d q = λ i. record {
+  pending = (ap (λ (b : Bool). moved (a .pending) (c .pending) b) (q .0) ∙ none (a .pending) (c .pending)) i;
+  fresh = (ap (λ (b : Bool). moved (a .fresh) (c .fresh) b) (q .1) ∙ none (a .fresh) (c .fresh)) i;
+  stored = (ap (λ (x : Ring). moved (a .stored) (sent c) (not (eqb (x .len) 0))) (q .2) ∙ none (a .stored) (sent c)) i;
+}
+  where
+    none : (n : ℕ) (b : Bool) → moved n b b ≡ n
+    none n true = omega arith
+    none n false = omega arith
+
+pub tallied-reads : (s : State) (e : Event) → Shape s → Within (e .thread) (e .kind) → varOf (e .kind) < s .counts .variables → queueOf (e .kind) ≡ 1 → (xs : List Tally) → Tallied s xs
+    → (n : Seen) → n ≡ seenOf s (e .thread) (e .kind) → (s′ : State) → s′ ≡ stepState s e → Tallied s′ xs
+tallied-reads s e shape w known q xs t n en s′ es =
+    subst (λ (ys : List Tally). Tallied s′ ys) (set-getD xs (e .thread) noTally)
+    (tallied-next s e shape w known xs t n en (nextCell (s .events + 1) (n .read) (e .kind) (n .cell)) refl (getD xs (e .thread) noTally)
+    (sym (tally-same (getD xs (e .thread) noTally) (n .cell) (nextCell (s .events + 1) (n .read) (e .kind) (n .cell)) (reads-tally (e .kind) (s .events + 1) (n .read) (n .cell) q))) s′ es)
 
 -- K and N leave all cells
 pub tallied-lock : (s : State) (e : Event) → Shape s → Within (e .thread) (e .kind) → allOf (e .kind) ≡ true → (xs : List Tally) → Tallied s xs

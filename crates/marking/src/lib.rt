@@ -168,49 +168,93 @@ pub fn mark_part(h: Counts, part: &[u8]) -> Ran
             row[n as usize] = record;
             at = l.next;
         } else {
-            // A cell, its queues, and the variable in main memory.
             let v = places.variable;
             let i = machine::cell_place(t, v);
             let c = s.cells[i];
-            let q = c.reads;
-            let o = c.stores;
-            let front_read = machine::slot_place(i, q, 0);
-            let front_store = machine::slot_place(i, o, 0);
-            let r0 = s.reads[front_read];
-            let s0 = s.stores[front_store];
-            let read = machine::oldest(q, r0);
-            let store = machine::oldest(o, s0);
-            let main = s.memory[v];
-            let locked = s.locked[t];
-            let checks = machine::variable_checks(c, read, store, main, locked, k);
-            if machine::is_broken(checks) {
-                let rule = machine::rule_of(k, checks);
-                let broken = Verdict::Broken(rule, line);
-                return Ran {
-                    verdict: broken,
-                    state: s,
-                    row: row,
-                };
+            let queue = machine::queue_of(k);
+            if queue == 1 {
+                // The reads of the cell.
+                let q = c.reads;
+                let front = machine::slot_place(i, q, 0);
+                let r0 = s.reads[front];
+                let read = machine::oldest(q, r0);
+                let main = s.memory[v];
+                let checks = machine::reads_checks(c, read, main, k);
+                if machine::is_broken(checks) {
+                    let rule = machine::rule_of(k, checks);
+                    let broken = Verdict::Broken(rule, line);
+                    return Ran {
+                        verdict: broken,
+                        state: s,
+                        row: row,
+                    };
+                }
+                let behind = machine::slot_place(i, q, q.len);
+                let r1 = s.reads[behind];
+                let cell_left = machine::cell_reads(c, read, k);
+                let read_left = machine::read_after(r1, k, p);
+                s.events = p;
+                s.cells[i] = cell_left;
+                s.reads[behind] = read_left;
+                let record = records::pack(e);
+                row[n as usize] = record;
+                at = l.next;
+            } else if queue == 2 {
+                // The stores of the cell, and the variable in main memory.
+                let o = c.stores;
+                let front = machine::slot_place(i, o, 0);
+                let s0 = s.stores[front];
+                let store = machine::oldest(o, s0);
+                let main = s.memory[v];
+                let locked = s.locked[t];
+                let checks = machine::stores_checks(c, store, locked, k);
+                if machine::is_broken(checks) {
+                    let rule = machine::rule_of(k, checks);
+                    let broken = Verdict::Broken(rule, line);
+                    return Ran {
+                        verdict: broken,
+                        state: s,
+                        row: row,
+                    };
+                }
+                let behind = machine::slot_place(i, o, o.len);
+                let s1 = s.stores[behind];
+                let cell_left = machine::cell_stores(c, k, p);
+                let store_left = machine::store_after(s1, k, p);
+                let main_left = machine::main_after(main, k);
+                let count = tallies[t];
+                let count_left = tally_after(count, c, cell_left);
+                s.events = p;
+                s.cells[i] = cell_left;
+                s.stores[behind] = store_left;
+                s.memory[v] = main_left;
+                tallies[t] = count_left;
+                let record = records::pack(e);
+                row[n as usize] = record;
+                at = l.next;
+            } else {
+                // The cell alone.
+                let locked = s.locked[t];
+                let checks = machine::cell_checks(c, locked, k);
+                if machine::is_broken(checks) {
+                    let rule = machine::rule_of(k, checks);
+                    let broken = Verdict::Broken(rule, line);
+                    return Ran {
+                        verdict: broken,
+                        state: s,
+                        row: row,
+                    };
+                }
+                let cell_left = machine::cell_alone(c, k, p);
+                let count = tallies[t];
+                let count_left = tally_after(count, c, cell_left);
+                s.events = p;
+                s.cells[i] = cell_left;
+                tallies[t] = count_left;
+                let record = records::pack(e);
+                row[n as usize] = record;
+                at = l.next;
             }
-            let behind_reads = machine::slot_place(i, q, q.len);
-            let behind_stores = machine::slot_place(i, o, o.len);
-            let r1 = s.reads[behind_reads];
-            let s1 = s.stores[behind_stores];
-            let cell_left = machine::cell_after(c, read, k, p);
-            let read_left = machine::read_after(r1, k, p);
-            let store_left = machine::store_after(s1, k, p);
-            let main_left = machine::main_after(main, k);
-            let count = tallies[t];
-            let count_left = tally_after(count, c, cell_left);
-            s.events = p;
-            s.cells[i] = cell_left;
-            s.reads[behind_reads] = read_left;
-            s.stores[behind_stores] = store_left;
-            s.memory[v] = main_left;
-            tallies[t] = count_left;
-            let record = records::pack(e);
-            row[n as usize] = record;
-            at = l.next;
         }
     }
     let all = Verdict::Accepted(s.events as usize);
