@@ -832,14 +832,14 @@ pub fn cell_after(c: Cell, s: Slot, k: Kind, at: u32) -> Cell
 pub fn cell_alone(c: Cell, k: Kind, at: u32) -> Cell
     ensures { λ r. ⌜ r ≡ onQueue 0 at noSlot k c ⌝ }
 {
-    let mut r = c;
+    let mut d = c;
     match k {
         Kind::Use(_, _) => c,
         Kind::Assign(_, x) => {
-            r.copy = x;
-            r.fresh = true;
-            r.source = at;
-            r
+            d.copy = x;
+            d.fresh = true;
+            d.source = at;
+            d
         }
         Kind::Load(_, _) => c,
         Kind::Store(_, _) => c,
@@ -849,11 +849,11 @@ pub fn cell_alone(c: Cell, k: Kind, at: u32) -> Cell
         Kind::Unlock(_) => c,
         Kind::PrescientStore(_, _) => c,
         Kind::PrescientAssign(_, x) => {
-            r.copy = x;
-            r.fresh = false;
-            r.pending = false;
-            r.source = at;
-            r
+            d.copy = x;
+            d.fresh = false;
+            d.pending = false;
+            d.source = at;
+            d
         }
     }
 }
@@ -861,24 +861,24 @@ pub fn cell_alone(c: Cell, k: Kind, at: u32) -> Cell
 pub fn cell_reads(c: Cell, s: Slot, k: Kind) -> Cell
     ensures { λ r. ⌜ r ≡ onQueue 1 0 s k c ⌝ }
 {
-    let mut r = c;
+    let mut d = c;
     match k {
         Kind::Use(_, _) => c,
         Kind::Assign(_, _) => c,
         Kind::Load(_, x) => {
             let q = c.reads;
             let rest = pop(q);
-            r.copy = x;
-            r.reads = rest;
-            r.source = later(c.source, s.position);
-            r
+            d.copy = x;
+            d.reads = rest;
+            d.source = later(c.source, s.position);
+            d
         }
         Kind::Store(_, _) => c,
         Kind::Read(_, _) => {
             let q = c.reads;
             let more = push(q);
-            r.reads = more;
-            r
+            d.reads = more;
+            d
         }
         Kind::Write(_, _) => c,
         Kind::Lock(_) => c,
@@ -891,7 +891,7 @@ pub fn cell_reads(c: Cell, s: Slot, k: Kind) -> Cell
 pub fn cell_stores(c: Cell, k: Kind, at: u32) -> Cell
     ensures { λ r. ⌜ r ≡ onQueue 2 at noSlot k c ⌝ }
 {
-    let mut r = c;
+    let mut d = c;
     match k {
         Kind::Use(_, _) => c,
         Kind::Assign(_, _) => c,
@@ -899,27 +899,27 @@ pub fn cell_stores(c: Cell, k: Kind, at: u32) -> Cell
         Kind::Store(_, _) => {
             let q = c.stores;
             let more = push(q);
-            r.fresh = false;
-            r.stores = more;
-            r
+            d.fresh = false;
+            d.stores = more;
+            d
         }
         Kind::Read(_, _) => c,
         Kind::Write(_, _) => {
             let q = c.stores;
             let rest = pop(q);
-            r.stores = rest;
-            r.written = at;
-            r
+            d.stores = rest;
+            d.written = at;
+            d
         }
         Kind::Lock(_) => c,
         Kind::Unlock(_) => c,
         Kind::PrescientStore(_, x) => {
             let q = c.stores;
             let more = push(q);
-            r.pending = true;
-            r.announced = x;
-            r.stores = more;
-            r
+            d.pending = true;
+            d.announced = x;
+            d.stores = more;
+            d
         }
         Kind::PrescientAssign(_, _) => c,
     }

@@ -324,13 +324,7 @@ fn give(h: Counts, row: &[u64], list: &mut [u64], scratch: &mut [u64]) -> usize
 }
 
 // The order of the events of a row that is a trace's.
-fn order_known(
-    h: Counts,
-    g: Guards,
-    row: &[u64],
-    list: &mut [u64],
-    scratch: &mut [u64],
-) -> Ordering
+fn order_known(h: Counts, g: Guards, row: &[u64], list: &mut [u64], scratch: &mut [u64]) -> Ordering
     requires { ⌜ Fits h (now row) ⌝ }
     ensures { λ r. ⌜ Given (answer h g (now (row .entry)) (now (list .entry)) (now (scratch .entry))) (entries h (now (row .entry))) (now (list .entry)) (now (scratch .entry)) r (now (list .exit)) (now (scratch .exit)) ⌝ }
 {

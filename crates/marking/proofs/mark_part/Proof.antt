@@ -201,8 +201,8 @@ returns-5 c =
     let x = c .before .before .before .before .before .before .before .before .before .before .before .before .before .before .before .before .before .before .before .before .loop .inv .1 .each (e .thread) (w .within .thread) in
     let any = some-is s (e .thread) (places .all) _ (c .before .before .before .before .some-in .result) x (c .before .before .before .before .some-in .ensures) (c .before .before .before .before .before .before .before .if4 .taken) in
     let en =
-        seen-is s (e .thread) (e .kind) (w .within) places i c0 fr fs (oldestOf (c0 .reads) (getD (s .reads) fr noSlot)) (oldestOf (c0 .stores) (getD (s .stores) fs noSlot)) (cond (places .all) (s .counts .variables) 0) (c .before .before .before .before .some-in .result)
-        (c .before .before .before .before .before .before .before .before .places-of .ensures) refl refl refl refl refl refl refl any in
+    seen-is s (e .thread) (e .kind) (w .within) places i c0 fr fs (oldestOf (c0 .reads) (getD (s .reads) fr noSlot)) (oldestOf (c0 .stores) (getD (s .stores) fs noSlot)) (cond (places .all) (s .counts .variables) 0) (c .before .before .before .before .some-in .result)
+    (c .before .before .before .before .before .before .before .before .places-of .ensures) refl refl refl refl refl refl refl any in
     let b = c .before .before .before .hold-checks .result in
     let eb = c .before .before .before .hold-checks .ensures ∙ hold-checks-is _ (e .thread) (e .kind) side in
     let good : allowed full (c .before .before .before .before .before .before .before .before .before .before .before .before .before .before .before .before .before .before .before .before .before .before .before .before .before .args .h) ≡ true = sym (c .before .before .before .before .before .before .before .before .before .before .before .before .before .before .before .before .before .before .before .before .before .before .is-allowed .ensures) ∙ not-false _ (c .before .before .before .before .before .before .before .before .before .before .before .before .before .before .before .before .before .before .before .before .before .if1 .left) in
@@ -365,15 +365,16 @@ loop-again c =
     let x = c .before .before .before .before .before .before .before .before .before .before .before .before .before .before .before .before .before .before .before .before .before .before .before .loop .inv .1 .each (e .thread) (w .within .thread) in
     let any = some-is s (e .thread) (places .all) _ (c .before .before .before .before .before .before .before .some-in .result) x (c .before .before .before .before .before .before .before .some-in .ensures) (c .before .before .before .before .before .before .before .before .before .before .if4 .taken) in
     let en =
-        seen-is s (e .thread) (e .kind) (w .within) places i c0 fr fs (oldestOf (c0 .reads) (getD (s .reads) fr noSlot)) (oldestOf (c0 .stores) (getD (s .stores) fs noSlot)) (cond (places .all) (s .counts .variables) 0) (c .before .before .before .before .before .before .before .some-in .result)
-        (c .before .before .before .before .before .before .before .before .before .before .before .places-of .ensures) refl refl refl refl refl refl refl any in
+    seen-is s (e .thread) (e .kind) (w .within) places i c0 fr fs (oldestOf (c0 .reads) (getD (s .reads) fr noSlot)) (oldestOf (c0 .stores) (getD (s .stores) fs noSlot)) (cond (places .all) (s .counts .variables) 0) (c .before .before .before .before .before .before .before .some-in .result)
+    (c .before .before .before .before .before .before .before .before .before .before .before .places-of .ensures) refl refl refl refl refl refl refl any in
     let b = c .before .before .before .before .before .before .hold-checks .result in
     let eb = c .before .before .before .before .before .before .hold-checks .ensures ∙ hold-checks-is _ (e .thread) (e .kind) side in
     let z = rule-none _ (e .thread) (e .kind) b eb (sym (c .before .before .before .before .before .is-broken .ensures) ∙ c .before .before .before .before .if5 .left) in
     let deep = shallow h bytes s row at tn e d (c .before .before .before .before .before .before .before .before .before .before .before .before .before .before .if2 .left) in
-    let next = put-lock s e (w .within) deep side places (c .before .before .locked-after .result) (c .before .hold-after .result) (c .before .before .before .before .before .before .before .before .before .before .before .places-of .ensures) (c .before .before .locked-after .ensures) (c .before .hold-after .ensures) in
-    (turn-more h bytes s row at tn line l e (c .before .before .before .before .before .before .before .before .before .before .before .before .before .before .before .before .before .before .before .before .next-line .ensures) (c .before .before .before .before .before .before .before .before .before .before .before .before .before .before .before .before .before .before .before .line-at .ensures) er (c .before .before .before .before .before .before .before .before .before .before .before .before .before .before .if2 .left) d _ en _ refl _ (c .pack .result) z next (c .pack .ensures),
-    tallied-lock s e (shaped h bytes s row at tn) (w .within) side (c .before .before .before .before .before .before .before .before .before .before .before .before .before .before .before .before .before .before .before .before .before .before .before .loop .tallies) (c .before .before .before .before .before .before .before .before .before .before .before .before .before .before .before .before .before .before .before .before .before .before .before .loop .inv .1) _ next)
+    let next = put-lock s e (w .within) deep side places (c .before .before .locked-after .result) (c .before .hold-after .result) (c .before .before .before .before .before .before .before .before .before .before .before .places-of .ensures) (c .before .before .locked-after .ensures) (c .before .hold-after .ensures) in (
+      turn-more h bytes s row at tn line l e (c .before .before .before .before .before .before .before .before .before .before .before .before .before .before .before .before .before .before .before .before .next-line .ensures) (c .before .before .before .before .before .before .before .before .before .before .before .before .before .before .before .before .before .before .before .line-at .ensures) er (c .before .before .before .before .before .before .before .before .before .before .before .before .before .before .if2 .left) d _ en _ refl _ (c .pack .result) z next (c .pack .ensures),
+      tallied-lock s e (shaped h bytes s row at tn) (w .within) side (c .before .before .before .before .before .before .before .before .before .before .before .before .before .before .before .before .before .before .before .before .before .before .before .loop .tallies) (c .before .before .before .before .before .before .before .before .before .before .before .before .before .before .before .before .before .before .before .before .before .before .before .loop .inv .1) _ next,
+    )
 
 cell-place-requires : tie.Need-cell-place-requires Inv-loop μ-loop
 cell-place-requires c κs = search needs
@@ -658,9 +659,10 @@ loop-again-2 c =
     let deep = shallow h bytes s row at tn e d (c .before .before .before .before .before .before .before .before .before .before .before .before .before .before .before .before .before .before .before .before .before .if2 .left) in
     let ec = next-reads s e (w .within) deep side _ en places i (c .before .before .before .before .before .before .before .before .before .before .before .before .before .before .before .before .before .before .places-of .ensures) (c .before .before .before .before .before .before .before .before .before .before .before .before .before .before .before .before .cell-place .ensures) (c .before .before .cell-reads .result) on (c .before .before .cell-reads .ensures) in
     let next = put-reads s e (w .within) deep side _ en places i (c .before .before .before .before .before .before .before .before .before .before .before .before .before .before .before .before .before .before .places-of .ensures) (c .before .before .before .before .before .before .before .before .before .before .before .before .before .before .before .before .cell-place .ensures) (c .before .before .cell-reads .result) not2 ec (c .before .before .before .before .slot-place2 .result) (c .before .read-after .result) (c .before .before .before .before .slot-place2 .ensures) (c .before .read-after .ensures) in
-    let known = variable-in (s .counts) e (room h bytes s row at tn) d in
-    (turn-more h bytes s row at tn line l e (c .before .before .before .before .before .before .before .before .before .before .before .before .before .before .before .before .before .before .before .before .before .before .before .before .before .before .before .next-line .ensures) (c .before .before .before .before .before .before .before .before .before .before .before .before .before .before .before .before .before .before .before .before .before .before .before .before .before .before .line-at .ensures) er (c .before .before .before .before .before .before .before .before .before .before .before .before .before .before .before .before .before .before .before .before .before .if2 .left) d _ en _ refl _ (c .pack2 .result) z next (c .pack2 .ensures),
-    tallied-reads s e (shaped h bytes s row at tn) (w .within) known on (c .before .before .before .before .before .before .before .before .before .before .before .before .before .before .before .before .before .before .before .before .before .before .before .before .before .before .before .before .before .before .loop .tallies) (c .before .before .before .before .before .before .before .before .before .before .before .before .before .before .before .before .before .before .before .before .before .before .before .before .before .before .before .before .before .before .loop .inv .1) _ en _ next)
+    let known = variable-in (s .counts) e (room h bytes s row at tn) d in (
+      turn-more h bytes s row at tn line l e (c .before .before .before .before .before .before .before .before .before .before .before .before .before .before .before .before .before .before .before .before .before .before .before .before .before .before .before .next-line .ensures) (c .before .before .before .before .before .before .before .before .before .before .before .before .before .before .before .before .before .before .before .before .before .before .before .before .before .before .line-at .ensures) er (c .before .before .before .before .before .before .before .before .before .before .before .before .before .before .before .before .before .before .before .before .before .if2 .left) d _ en _ refl _ (c .pack2 .result) z next (c .pack2 .ensures),
+      tallied-reads s e (shaped h bytes s row at tn) (w .within) known on (c .before .before .before .before .before .before .before .before .before .before .before .before .before .before .before .before .before .before .before .before .before .before .before .before .before .before .before .before .before .before .loop .tallies) (c .before .before .before .before .before .before .before .before .before .before .before .before .before .before .before .before .before .before .before .before .before .before .before .before .before .before .before .before .before .before .loop .inv .1) _ en _ next,
+    )
 
 slot-place-requires-3 : tie.Need-slot-place-requires-3 Inv-loop μ-loop
 slot-place-requires-3 c κs = search needs
@@ -1045,9 +1047,10 @@ loop-again-3 c =
     let deep = shallow h bytes s row at tn e d (c .before .before .before .before .before .before .before .before .before .before .before .before .before .before .before .before .before .before .before .before .before .before .before .before .before .before .if2 .left) in
     let ec = next-stores s e (w .within) deep side _ en places i (c .before .before .before .before .before .before .before .before .before .before .before .before .before .before .before .before .before .before .before .before .before .before .before .places-of .ensures) (c .before .before .before .before .before .before .before .before .before .before .before .before .before .before .before .before .before .before .before .before .before .cell-place .ensures) (c .before .before .before .before .before .cell-stores .result) on (c .before .before .before .before .before .cell-stores .ensures) in
     let next = put-stores s e (w .within) deep side _ en places i (c .before .before .before .before .before .before .before .before .before .before .before .before .before .before .before .before .before .before .before .before .before .before .before .places-of .ensures) (c .before .before .before .before .before .before .before .before .before .before .before .before .before .before .before .before .before .before .before .before .before .cell-place .ensures) (c .before .before .before .before .before .cell-stores .result) not1 ec (c .before .before .before .before .before .before .before .slot-place4 .result) (c .before .before .before .before .store-after .result) (c .before .before .before .main-after .result) (c .before .before .before .before .before .before .before .slot-place4 .ensures) (c .before .before .before .before .store-after .ensures) (c .before .before .before .main-after .ensures) in
-    let known = variable-in (s .counts) e (room h bytes s row at tn) d in
-    (turn-more h bytes s row at tn line l e (c .before .before .before .before .before .before .before .before .before .before .before .before .before .before .before .before .before .before .before .before .before .before .before .before .before .before .before .before .before .before .before .before .next-line .ensures) (c .before .before .before .before .before .before .before .before .before .before .before .before .before .before .before .before .before .before .before .before .before .before .before .before .before .before .before .before .before .before .before .line-at .ensures) er (c .before .before .before .before .before .before .before .before .before .before .before .before .before .before .before .before .before .before .before .before .before .before .before .before .before .before .if2 .left) d _ en _ refl _ (c .pack3 .result) z next (c .pack3 .ensures),
-    tallied-next s e (shaped h bytes s row at tn) (w .within) known (c .before .before .before .before .before .before .before .before .before .before .before .before .before .before .before .before .before .before .before .before .before .before .before .before .before .before .before .before .before .before .before .before .before .before .before .loop .tallies) (c .before .before .before .before .before .before .before .before .before .before .before .before .before .before .before .before .before .before .before .before .before .before .before .before .before .before .before .before .before .before .before .before .before .before .before .loop .inv .1) _ en (c .before .before .before .before .before .cell-stores .result) ec (c .before .tally-after .result) (c .before .tally-after .ensures) _ next)
+    let known = variable-in (s .counts) e (room h bytes s row at tn) d in (
+      turn-more h bytes s row at tn line l e (c .before .before .before .before .before .before .before .before .before .before .before .before .before .before .before .before .before .before .before .before .before .before .before .before .before .before .before .before .before .before .before .before .next-line .ensures) (c .before .before .before .before .before .before .before .before .before .before .before .before .before .before .before .before .before .before .before .before .before .before .before .before .before .before .before .before .before .before .before .line-at .ensures) er (c .before .before .before .before .before .before .before .before .before .before .before .before .before .before .before .before .before .before .before .before .before .before .before .before .before .before .if2 .left) d _ en _ refl _ (c .pack3 .result) z next (c .pack3 .ensures),
+      tallied-next s e (shaped h bytes s row at tn) (w .within) known (c .before .before .before .before .before .before .before .before .before .before .before .before .before .before .before .before .before .before .before .before .before .before .before .before .before .before .before .before .before .before .before .before .before .before .before .loop .tallies) (c .before .before .before .before .before .before .before .before .before .before .before .before .before .before .before .before .before .before .before .before .before .before .before .before .before .before .before .before .before .before .before .before .before .before .before .loop .inv .1) _ en (c .before .before .before .before .before .cell-stores .result) ec (c .before .tally-after .result) (c .before .tally-after .ensures) _ next,
+    )
 
 mul-locked-2 : tie.Need-mul-locked-2 Inv-loop μ-loop
 mul-locked-2 c =
@@ -1295,9 +1298,10 @@ loop-again-4 c =
     let deep = shallow h bytes s row at tn e d (c .before .before .before .before .before .before .before .before .before .before .before .before .before .before .before .before .before .if2 .left) in
     let ec = next-alone s e (w .within) deep side _ en places i (c .before .before .before .before .before .before .before .before .before .before .before .before .before .before .places-of .ensures) (c .before .before .before .before .before .before .before .before .before .before .before .before .cell-place .ensures) (c .before .before .before .cell-alone .result) not1 not2 (c .before .before .before .cell-alone .ensures) in
     let next = put-alone s e (w .within) deep side _ en places i (c .before .before .before .before .before .before .before .before .before .before .before .before .before .before .places-of .ensures) (c .before .before .before .before .before .before .before .before .before .before .before .before .cell-place .ensures) (c .before .before .before .cell-alone .result) not1 not2 ec in
-    let known = variable-in (s .counts) e (room h bytes s row at tn) d in
-    (turn-more h bytes s row at tn line l e (c .before .before .before .before .before .before .before .before .before .before .before .before .before .before .before .before .before .before .before .before .before .before .before .next-line .ensures) (c .before .before .before .before .before .before .before .before .before .before .before .before .before .before .before .before .before .before .before .before .before .before .line-at .ensures) er (c .before .before .before .before .before .before .before .before .before .before .before .before .before .before .before .before .before .if2 .left) d _ en _ refl _ (c .pack4 .result) z next (c .pack4 .ensures),
-    tallied-next s e (shaped h bytes s row at tn) (w .within) known (c .before .before .before .before .before .before .before .before .before .before .before .before .before .before .before .before .before .before .before .before .before .before .before .before .before .before .loop .tallies) (c .before .before .before .before .before .before .before .before .before .before .before .before .before .before .before .before .before .before .before .before .before .before .before .before .before .before .loop .inv .1) _ en (c .before .before .before .cell-alone .result) ec (c .before .tally-after2 .result) (c .before .tally-after2 .ensures) _ next)
+    let known = variable-in (s .counts) e (room h bytes s row at tn) d in (
+      turn-more h bytes s row at tn line l e (c .before .before .before .before .before .before .before .before .before .before .before .before .before .before .before .before .before .before .before .before .before .before .before .next-line .ensures) (c .before .before .before .before .before .before .before .before .before .before .before .before .before .before .before .before .before .before .before .before .before .before .line-at .ensures) er (c .before .before .before .before .before .before .before .before .before .before .before .before .before .before .before .before .before .if2 .left) d _ en _ refl _ (c .pack4 .result) z next (c .pack4 .ensures),
+      tallied-next s e (shaped h bytes s row at tn) (w .within) known (c .before .before .before .before .before .before .before .before .before .before .before .before .before .before .before .before .before .before .before .before .before .before .before .before .before .before .loop .tallies) (c .before .before .before .before .before .before .before .before .before .before .before .before .before .before .before .before .before .before .before .before .before .before .before .before .before .before .loop .inv .1) _ en (c .before .before .before .cell-alone .result) ec (c .before .tally-after2 .result) (c .before .tally-after2 .ensures) _ next,
+    )
 
 cast-t182 : tie.Need-cast-t182 Inv-loop μ-loop
 cast-t182 c =
