@@ -64,7 +64,6 @@ pub fn count_fields(s: &[u8]) -> usize
 
 // The place of the first space from `at` on, or the length where there is none.
 pub fn space_from(s: &[u8], at: usize) -> usize
-    requires { ⌜ at ≤ length (now s) ⌝ }
     ensures { λ r. ⌜ r ≡ at + before 32 (drop at (now (s .entry))) ⌝ }
 {
     let mut i = at;

@@ -278,7 +278,7 @@ fn refuse(h: Counts, v: Verdict) -> Ran
 }
 
 // Marks a whole trace that was looked for: 1, 2, 3, 6, then line by line 4, 9, 5 and the row.
-pub fn mark_found(bytes: &[u8], t: Trace) -> Ran
+fn mark_found(bytes: &[u8], t: Trace) -> Ran
     requires { ⌜ t ≡ traceOf (now bytes) ⌝ }
     ensures { λ r. ⌜ Marks (now (bytes .entry)) r ⌝ }
 {

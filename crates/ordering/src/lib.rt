@@ -383,7 +383,7 @@ pub fn order_trace(bytes: &[u8], list: &mut [u64], scratch: &mut [u64]) -> Outco
     ensures { λ r. ⌜ OrdersTrace (now (bytes .entry)) (now (list .entry)) (now (scratch .entry)) r (now (list .exit)) (now (scratch .exit)) ⌝ }
 {
     let t = trace::find(bytes);
-    let ran = marking::mark_found(bytes, t);
+    let ran = marking::mark(bytes);
     let said = ran.verdict;
     if marking::number_of(said) != 0 {
         let none = refuse(list.len(), scratch.len());

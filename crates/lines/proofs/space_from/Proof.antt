@@ -11,13 +11,13 @@ use Rattle.lines.proofs.space_from.Statement.{statement}
 use Rattle.lines.proofs.space_from.Tie as tie
 
 abbrev Inv-loop : tie.InvT-loop
-Inv-loop s at i₀ i = (i ≤ length s) × (at + before 32 (drop at s) ≡ i + before 32 (drop i s))
+Inv-loop s at i₀ i = at + before 32 (drop at s) ≡ i + before 32 (drop i s)
 
 abbrev μ-loop : tie.MeasureT-loop
 μ-loop s at i₀ i = length s - i
 
 loop-holds : tie.Need-loop-holds Inv-loop μ-loop
-loop-holds c = (omega arith, omega arith)
+loop-holds c = omega arith
 
 shared-slice-read-if1 : tie.Need-shared-slice-read-if1 Inv-loop μ-loop
 shared-slice-read-if1 c = omega arith
@@ -38,7 +38,7 @@ loop-again : tie.Need-loop-again Inv-loop μ-loop
 loop-again c =
     let l = c .before .before .before .loop in
     let s = now (c .before .before .before .before .args .s) in
-    (omega arith, omega (arith, before-on 32 (l .i) s (omega arith) (c .if1 .left)))
+    omega (arith, before-on 32 (l .i) s (omega arith) (c .if1 .left))
 
 returns-2 : tie.Need-returns-2 Inv-loop μ-loop
 returns-2 c =

@@ -18,8 +18,8 @@ use Rattle.ordering.proofs.order_trace.Tie as tie
 find-requires : tie.Need-find-requires
 find-requires c κs = search needs
 
-mark-found-requires : tie.Need-mark-found-requires
-mark-found-requires c κs = c .find .ensures
+mark-requires : tie.Need-mark-requires
+mark-requires c κs = search needs
 
 number-of-requires : tie.Need-number-of-requires
 number-of-requires c κs = search needs
@@ -30,7 +30,7 @@ refuse-requires c κs = search needs
 returns : tie.Need-returns
 returns c =
     let a = c .before .before .before .before .before .before .before .before .args in
-    let m = c .before .before .before .mark-found in
+    let m = c .before .before .before .mark in
     let z : numberIn (reported (m .result .verdict)) ≡ 0 → ⊥ = λ e. c .before .if1 .taken (c .before .before .number-of .ensures ∙ e) in
     gives-none (a .bytes .now) (m .result) (m .ensures) (a .list .now) (a .scratch .now) (c .refuse .result) z (c .refuse .ensures)
 
@@ -40,7 +40,7 @@ count-of-requires c κs = search needs
 array-share-prefix-row : tie.Need-array-share-prefix-row
 array-share-prefix-row c =
     let a = c .before .before .before .before .before .before .before .before .before .args in
-    let m = c .before .before .before .before .mark-found in
+    let m = c .before .before .before .before .mark in
     let z = is-accepted (a .bytes .now) (m .result) (m .ensures) (sym (c .before .before .before .number-of .ensures) ∙ c .before .before .if1 .left) in
     let n = c .before .count-of .ensures in
     let low = count-low (a .bytes .now) (m .result) (m .ensures) z in
@@ -50,7 +50,7 @@ array-share-prefix-row c =
 slice-aggregate-order-known : tie.Need-slice-aggregate-order-known
 slice-aggregate-order-known c =
     let a = c .before .before .before .before .before .before .before .before .before .before .args in
-    let m = c .before .before .before .before .before .mark-found in
+    let m = c .before .before .before .before .before .mark in
     let z = is-accepted (a .bytes .now) (m .result) (m .ensures) (sym (c .before .before .before .before .number-of .ensures) ∙ c .before .before .before .if1 .left) in
     let n = c .before .before .count-of .ensures in
     let low = count-low (a .bytes .now) (m .result) (m .ensures) z in
@@ -60,7 +60,7 @@ slice-aggregate-order-known c =
 order-known-requires : tie.Need-order-known-requires
 order-known-requires c κs =
     let a = c .before .before .before .before .before .before .before .before .before .before .before .before .args in
-    let m = c .before .before .before .before .before .before .before .mark-found in
+    let m = c .before .before .before .before .before .before .before .mark in
     let z = is-accepted (a .bytes .now) (m .result) (m .ensures) (sym (c .before .before .before .before .before .before .number-of .ensures) ∙ c .before .before .before .before .before .if1 .left) in
     let n = c .before .before .before .before .count-of .ensures in
     front-fits (a .bytes .now) (m .result) (m .ensures) z (c .before .before .before .before .before .before .before .before .find .result) (c .before .before .before .before .before .before .before .before .find .ensures) _ n
@@ -74,7 +74,7 @@ same-length-2 c = search needs
 returns-2 : tie.Need-returns-2
 returns-2 c =
     let a = c .before .before .before .before .before .before .before .before .before .before .before .before .before .before .before .before .before .args in
-    let m = c .before .before .before .before .before .before .before .before .before .before .before .before .mark-found in
+    let m = c .before .before .before .before .before .before .before .before .before .before .before .before .mark in
     let z = is-accepted (a .bytes .now) (m .result) (m .ensures) (sym (c .before .before .before .before .before .before .before .before .before .before .before .number-of .ensures) ∙ c .before .before .before .before .before .before .before .before .before .before .if1 .left) in
     let n = c .before .before .before .before .before .before .before .before .before .count-of .ensures in
     gives-trace (a .bytes .now) (m .result) (m .ensures) z (c .before .before .before .before .before .before .before .before .before .before .before .before .before .find .result) (a .list .now) (a .scratch .now) _ _ (c .before .before .before .before .order-known .result) (c .before .before .before .before .before .before .before .before .before .before .before .before .before .find .ensures) (rw (← n) (c .before .before .before .before .order-known .ensures))
@@ -84,7 +84,7 @@ order-trace-spec =
     tie.close
     (tie.spec
     find-requires
-    mark-found-requires
+    mark-requires
     number-of-requires
     refuse-requires
     returns
