@@ -2,7 +2,7 @@
 use Prim.Native.Nat.{ℕ, zero, suc, _≤_, _<_}
 use native.Mathlib.Omega.{arith}
 use native.Mathlib.Nat.{suc-ne-zero, not-suc-le-zero}
-use borrow.Author.Tests.{eqb-true, eqb-false, leb-false}
+use borrow.Author.Tests.{eqb-true, eqb-false, leb-false, not-true}
 use mathlib.Core.Path.{_≡_, refl, sym, ap, _∙_, subst}
 use mathlib.Core.Bool.{Bool, true, false, not, cond, _&&_, _||_, or-false}
 use mathlib.Core.List.{List, [], _∷_, _++_}
@@ -38,6 +38,11 @@ pub or-false-right : (a b : Bool) → (a || b) ≡ false → b ≡ false
 or-false-right true b h = absurd (subst T h tt)
 or-false-right false b h = h
 
+-- of two, where the first holds and not both, not the second
+pub other-false : (a b : Bool) → (a && b) ≡ false → T a → b ≡ false
+other-false true b h t = h
+other-false false b h t = absurd t
+
 -- ---- the rows
 
 -- none of these rules is broken
@@ -66,6 +71,15 @@ unfolding firstBroken
 accepts [] c w e u = refl
 accepts (n ∷ ns) c w e u = rw (u .0) (accepts ns c w e (u .1))
 
+-- a rule among them is not broken
+kept : (n : ℕ) (c : Counts) (w : Words) (e : Event) (ns : List ℕ) → Unbroken ns c w e → T (among ns n) → breaks n c w e ≡ false
+kept n c w e [] u h = absurd h
+kept n c w e (k ∷ ns) u h = go (eqb k n) refl h (kept n c w e ns (u .1))
+  where
+    go : (b : Bool) → eqb k n ≡ b → T (b || among ns n) → (T (among ns n) → breaks n c w e ≡ false) → breaks n c w e ≡ false
+    go true q h r = subst (λ i. breaks i c w e ≡ false) (eqb-true k n q) (u .0)
+    go false q h r = r h
+
 -- ---- the letter of an event is known
 
 -- is it this one letter
@@ -77,66 +91,76 @@ letter-is k e h = eqb→eq k (letter (e .kind)) (or-none (eqb k (letter (e .kind
     or-none true h = tt
     or-none false h = h
 
-pub load-row : (e : Event) → L ≡ letter (e .kind) → rowIn rows (letter (e .kind)) ≡ 10 ∷ 13 ∷ 15 ∷ 16 ∷ 18 ∷ []
-unfolding rowIn rows
-load-row e q = rw (← q)
+-- an accepted event keeps each rule of its row, wherever the rule stands in it
+pub row-kept : (n : ℕ) (c : Counts) (w : Words) (e : Event) → judge c w e ≡ 0 → T (among (rowIn rows (letter (e .kind))) n) → breaks n c w e ≡ false
+unfolding judge
+row-kept n c w e p h = kept n c w e (rowIn rows (letter (e .kind))) (unbroken (rowIn rows (letter (e .kind))) c w e p) h
 
-pub write-row : (e : Event) → W ≡ letter (e .kind) → rowIn rows (letter (e .kind)) ≡ 10 ∷ 18 ∷ []
-unfolding rowIn rows
-write-row e q = rw (← q)
+-- f holds of each of these numbers
+abbrev pub allOf : (ℕ → Bool) → List ℕ → Bool
+allOf f [] = true
+allOf f (k ∷ ks) = f k && allOf f ks
 
-pub unlock-row : (e : Event) → N ≡ letter (e .kind) → rowIn rows (letter (e .kind)) ≡ 12 ∷ 15 ∷ 16 ∷ []
-unfolding rowIn rows
-unlock-row e q = rw (← q)
+-- and so of one among them
+pub each-among : (f : ℕ → Bool) (ks : List ℕ) (n : ℕ) → T (allOf f ks) → T (among ks n) → T (f n)
+each-among f [] n a h = absurd h
+each-among f (k ∷ ks) n a h = go (eqb k n) refl h (each-among f ks n (and-right (f k) (allOf f ks) a))
+  where
+    go : (b : Bool) → eqb k n ≡ b → T (b || among ks n) → (T (among ks n) → T (f n)) → T (f n)
+    go true q h r = subst (λ i. T (f i)) (eqb-true k n q) (and-left (f k) (allOf f ks) a)
+    go false q h r = r h
 
-pub store-row : (e : Event) → S ≡ letter (e .kind) → rowIn rows (letter (e .kind)) ≡ 13 ∷ 14 ∷ 17 ∷ 18 ∷ 19 ∷ []
-unfolding rowIn rows
-store-row e q = rw (← q)
+-- an event with one of the letters ks has one of js, where each of ks is among js
+pub is-among : (ks js : List ℕ) (e : Event) → T (allOf (among js) ks) → T (is ks e) → T (is js e)
+unfolding is
+is-among ks js e m h = each-among (among js) ks (letter (e .kind)) m h
 
-pub read-row : (e : Event) → R ≡ letter (e .kind) → rowIn rows (letter (e .kind)) ≡ 18 ∷ 19 ∷ []
-unfolding rowIn rows
-read-row e q = rw (← q)
+-- and none of js, where none of ks is among js
+pub is-apart : (ks js : List ℕ) (e : Event) → T (allOf (λ n. not (among js n)) ks) → T (is ks e) → is js e ≡ false
+unfolding is
+is-apart ks js e m h = not-true (among js (letter (e .kind))) (is-true (each-among (λ n. not (among js n)) ks (letter (e .kind)) m h))
 
-pub lock-row : (e : Event) → K ≡ letter (e .kind) → rowIn rows (letter (e .kind)) ≡ 11 ∷ 13 ∷ []
-unfolding rowIn rows
-lock-row e q = rw (← q)
+-- rule n stands in the row of letter k
+abbrev pub inRow : ℕ → ℕ → Bool
+inRow n k = among (rowIn rows k) n
 
-pub prescient-store-row : (e : Event) → P ≡ letter (e .kind) → rowIn rows (letter (e .kind)) ≡ 13 ∷ 19 ∷ []
-unfolding rowIn rows
-prescient-store-row e q = rw (← q)
+-- an accepted event with one of these letters, in whose rows the rule stands, keeps it
+pub letter-kept : (n : ℕ) (ks : List ℕ) (c : Counts) (w : Words) (e : Event) → judge c w e ≡ 0 → T (allOf (inRow n) ks) → T (is ks e) → breaks n c w e ≡ false
+unfolding is
+letter-kept n ks c w e p r h = row-kept n c w e p (each-among (inRow n) ks (letter (e .kind)) r h)
 
 -- an accepted load has an outstanding read
 pub load-partner : (c : Counts) (w : Words) (e : Event) → judge c w e ≡ 0 → T (is (L ∷ []) e) → none? (w .reads (e .thread) (loc e)) ≡ false
-unfolding breaks noPartner is
-load-partner c w e p h = simp (← (letter-is L e h), or-false) at (judged c w e _ (load-row e (letter-is L e h)) p .0)
+unfolding breaks noPartner is rowIn rows
+load-partner c w e p h = simp (← (letter-is L e h), or-false) at (letter-kept 10 (L ∷ []) c w e p tt h)
 
 -- an accepted write has an outstanding store
 pub write-partner : (c : Counts) (w : Words) (e : Event) → judge c w e ≡ 0 → T (is (W ∷ []) e) → none? (w .stores (e .thread) (loc e)) ≡ false
-unfolding breaks noPartner is
-write-partner c w e p h = simp (← (letter-is W e h), or-false) at (judged c w e _ (write-row e (letter-is W e h)) p .0)
+unfolding breaks noPartner is rowIn rows
+write-partner c w e p h = simp (← (letter-is W e h), or-false) at (letter-kept 10 (W ∷ []) c w e p tt h)
 
 -- an accepted unlock is of a lock that is held
 pub unlock-held : (c : Counts) (w : Words) (e : Event) → judge c w e ≡ 0 → T (is (N ∷ []) e) → not (held w (e .thread) (loc e)) ≡ false
-unfolding breaks notHeld is
-unlock-held c w e p h = simp (← (letter-is N e h), or-false) at (judged c w e _ (unlock-row e (letter-is N e h)) p .0)
+unfolding breaks notHeld is rowIn rows
+unlock-held c w e p h = simp (← (letter-is N e h), or-false) at (letter-kept 12 (N ∷ []) c w e p tt h)
 
 -- a lock that an accepted lock event takes is held by no other thread
 pub lock-free : (c : Counts) (w : Words) (e : Event) → judge c w e ≡ 0 → T (is (K ∷ []) e) → some (c .threads) (λ t. not (eqb t (e .thread)) && held w t (loc e)) ≡ false
-unfolding breaks lockTaken is
-lock-free c w e p h = simp (← (letter-is K e h), or-false) at (judged c w e _ (lock-row e (letter-is K e h)) p .0)
+unfolding breaks lockTaken is rowIn rows
+lock-free c w e p h = simp (← (letter-is K e h), or-false) at (letter-kept 11 (K ∷ []) c w e p tt h)
 
 -- an accepted read or store has room
 pub read-room : (c : Counts) (w : Words) (e : Event) → judge c w e ≡ 0 → T (is (R ∷ []) e) → leb most (length (w .reads (e .thread) (loc e))) ≡ false
-unfolding breaks eightAlready is
-read-room c w e p h = simp (← (letter-is R e h), or-false) at (judged c w e _ (read-row e (letter-is R e h)) p .1 .0)
+unfolding breaks eightAlready is rowIn rows
+read-room c w e p h = simp (← (letter-is R e h), or-false) at (letter-kept 19 (R ∷ []) c w e p tt h)
 
 pub store-room : (c : Counts) (w : Words) (e : Event) → judge c w e ≡ 0 → T (is (S ∷ []) e) → leb most (length (w .stores (e .thread) (loc e))) ≡ false
-unfolding breaks eightAlready is
-store-room c w e p h = simp (← (letter-is S e h), or-false) at (judged c w e _ (store-row e (letter-is S e h)) p .1 .1 .1 .1 .0)
+unfolding breaks eightAlready is rowIn rows
+store-room c w e p h = simp (← (letter-is S e h), or-false) at (letter-kept 19 (S ∷ []) c w e p tt h)
 
 pub prescient-room : (c : Counts) (w : Words) (e : Event) → judge c w e ≡ 0 → T (is (P ∷ []) e) → leb most (length (w .stores (e .thread) (loc e))) ≡ false
-unfolding breaks eightAlready is
-prescient-room c w e p h = simp (← (letter-is P e h), or-false) at (judged c w e _ (prescient-store-row e (letter-is P e h)) p .1 .0)
+unfolding breaks eightAlready is rowIn rows
+prescient-room c w e p h = simp (← (letter-is P e h), or-false) at (letter-kept 19 (P ∷ []) c w e p tt h)
 
 -- ---- an accepted list
 
@@ -205,3 +229,11 @@ some-has (suc n) f u h q = go (eqb u n) refl (λ k. some-has n f u k q)
     go : (x : Bool) → eqb u n ≡ x → (u < n → some n f ≡ true) → (f n || some n f) ≡ true
     go true e r = rw (← (eqb-true u n e), q)
     go false e r = or-right (f n) (some n f) (r (below (eqb-false u n e)))
+
+-- where the search finds none, f holds of no number below n
+pub some-none : (n : ℕ) (f : ℕ → Bool) → some n f ≡ false → (u : ℕ) → u < n → f u ≡ false
+some-none n f p u h = go (f u) refl
+  where
+    go : (b : Bool) → f u ≡ b → b ≡ false
+    go true q = sym (some-has n f u h q) ∙ p
+    go false q = refl

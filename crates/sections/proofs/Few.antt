@@ -30,7 +30,7 @@ use Rattle.sections.specs.Places.{holdsSome}
 use Rattle.sections.specs.Order.{told, sections}
 use Rattle.sections.specs.Refusals.{unfinished}
 use Rattle.sections.proofs.Valid.{Numbered, Declared}
-use Rattle.sections.proofs.Judged.{some-none}
+use Rattle.rules.proofs.Laws.{some-none}
 use Rattle.sections.proofs.Ordered.{All-imp, sections-same, some-busy, settled}
 
 -- ---- each section has a K of its own

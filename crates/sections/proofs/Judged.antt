@@ -1,7 +1,6 @@
 -- An event that the rules accept is one that the theory allows.
-use Prim.Native.Nat.{ℕ, zero, suc, _≤_, _<_}
+use Prim.Native.Nat.{ℕ, _≤_, _<_}
 use native.Mathlib.Decide.{ℕ-discrete}
-use native.Mathlib.Omega.{arith}
 use mathlib.Core.Path.{_≡_, refl, sym, ap, _∙_, subst, subst₂}
 use mathlib.Core.Logic.{ite}
 use mathlib.Core.Bool.{Bool, true, false, not, cond, _&&_, _||_, or-false, true≢false, false≢true}
@@ -12,12 +11,12 @@ use borrow.Author.Tests.{ltb-false}
 use Rattle.rules.specs.declared.Event.{Event}
 use Rattle.rules.specs.declared.Kind.{Kind}
 use Rattle.rules.specs.declared.Kind.the-variants.{Use, Assign, Load, Store, Read, Write, Lock, Unlock, PrescientStore, PrescientAssign}
-use Rattle.rules.specs.Events.{A, B, K, L, N, P, R, S, U, W, letter, value, among, is, eqZ}
+use Rattle.rules.specs.Events.{letter, value, among, is, eqZ}
 use Rattle.rules.specs.declared.Slot.{Slot}
 use Rattle.rules.specs.Words.{first}
 use Rattle.rules.specs.declared.Counts.{Counts}
 use Rattle.rules.specs.Rules.{Words, none?, loc, some, onSome, readBeforeWrite, unwritten, noPartner, lockTaken, notHeld, pendingBars, notFresh, notStored, notWritten, notUsable, differs, eightAlready, breaks, rows, rowIn, judge}
-use Rattle.rules.proofs.Laws.{or-false-left, or-false-right, Unbroken, judged}
+use Rattle.rules.proofs.Laws.{or-false-left, or-false-right, row-kept, some-none}
 use Rattle.rules.proofs.Signed.{eqZ-true}
 use Rattle.serial.specs.Words as C
 use Rattle.serial.specs.Events as E
@@ -28,14 +27,9 @@ untrue : (b : Bool) → not b ≡ false → b ≡ true
 untrue true p = refl
 untrue false p = absurd (true≢false p)
 
-pub some-none : (n : ℕ) (f : ℕ → Bool) → some n f ≡ false → (v : ℕ) → v < n → f v ≡ false
-unfolding some
-some-none zero f p v h = absurd (omega arith)
-some-none (suc n) f p v h = go (ℕ-discrete v n) (some-none n f (or-false-right (f n) (some n f) p) v)
-  where
-    go : Dec (v ≡ n) → (v < n → f v ≡ false) → f v ≡ false
-    go (yes q) r = rw q (or-false-left (f n) (some n f) p)
-    go (no q) r = r (omega arith)
+none : (ss : List Slot) → none? ss ≡ true → map valued ss ≡ []
+none [] p = refl
+none (s ∷ ss) p = absurd (false≢true p)
 
 module _ (c : Counts) (w : Words) (u ln : ℕ) where
   abbrev ev : Kind → Event
@@ -44,37 +38,34 @@ module _ (c : Counts) (w : Words) (u ln : ℕ) where
   own-use : (v : ℕ) (x : ℤ) → judge c w (ev (Use v x)) ≡ 0 → C.Allowed (C.own E.Use x) (cellOf w u v) (w .main v)
   unfolding cellOf breaks notUsable differs is rowIn rows
   own-use v x p =
-      let b : Unbroken (17 ∷ 18 ∷ []) c w (ev (Use v x)) = judged c w (ev (Use v x)) (17 ∷ 18 ∷ []) refl p in
-      (untrue (w .usable u v) (b .0), eqZ-true x (w .copy u v) (untrue (eqZ x (w .copy u v)) (simp or-false at (b .1 .0))))
+      (untrue (w .usable u v) (row-kept 17 c w (ev (Use v x)) p tt), eqZ-true x (w .copy u v) (untrue (eqZ x (w .copy u v)) (simp or-false at (row-kept 18 c w (ev (Use v x)) p tt))))
 
   own-store : (v : ℕ) (x : ℤ) → judge c w (ev (Store v x)) ≡ 0 → C.Allowed (C.own E.Store x) (cellOf w u v) (w .main v)
   unfolding cellOf breaks pendingBars notFresh notUsable differs is rowIn rows
-  own-store v x p =
-      let b : Unbroken (13 ∷ 14 ∷ 17 ∷ 18 ∷ 19 ∷ []) c w (ev (Store v x)) = judged c w (ev (Store v x)) (13 ∷ 14 ∷ 17 ∷ 18 ∷ 19 ∷ []) refl p in
-      (b .0, untrue (w .fresh u v) (b .1 .0), untrue (w .usable u v) (b .1 .1 .0), eqZ-true x (w .copy u v) (untrue (eqZ x (w .copy u v)) (simp or-false at (b .1 .1 .1 .0))))
+  own-store v x p = (
+    row-kept 13 c w (ev (Store v x)) p tt,
+    untrue (w .fresh u v) (row-kept 14 c w (ev (Store v x)) p tt),
+    untrue (w .usable u v) (row-kept 17 c w (ev (Store v x)) p tt),
+    eqZ-true x (w .copy u v) (untrue (eqZ x (w .copy u v)) (simp or-false at (row-kept 18 c w (ev (Store v x)) p tt))),
+  )
 
   own-read : (v : ℕ) (x : ℤ) → judge c w (ev (Read v x)) ≡ 0 → C.Allowed (C.own E.Read x) (cellOf w u v) (w .main v)
   unfolding cellOf breaks differs is rowIn rows
-  own-read v x p =
-      let b : Unbroken (18 ∷ 19 ∷ []) c w (ev (Read v x)) = judged c w (ev (Read v x)) (18 ∷ 19 ∷ []) refl p in
-      eqZ-true x (w .main v) (untrue (eqZ x (w .main v)) (simp or-false at (b .0)))
+  own-read v x p = eqZ-true x (w .main v) (untrue (eqZ x (w .main v)) (simp or-false at (row-kept 18 c w (ev (Read v x)) p tt)))
 
   own-prescient-store : (v : ℕ) (x : ℤ) → judge c w (ev (PrescientStore v x)) ≡ 0 → C.Allowed (C.own E.PrescientStore x) (cellOf w u v) (w .main v)
   unfolding cellOf breaks pendingBars is rowIn rows
-  own-prescient-store v x p =
-      let b : Unbroken (13 ∷ 19 ∷ []) c w (ev (PrescientStore v x)) = judged c w (ev (PrescientStore v x)) (13 ∷ 19 ∷ []) refl p in b .0
+  own-prescient-store v x p = row-kept 13 c w (ev (PrescientStore v x)) p tt
 
   own-prescient-assign : (v : ℕ) (x : ℤ) → judge c w (ev (PrescientAssign v x)) ≡ 0 → C.Allowed (C.own E.PrescientAssign x) (cellOf w u v) (w .main v)
   unfolding cellOf breaks noPartner differs is rowIn rows
   own-prescient-assign v x p =
-      let b : Unbroken (10 ∷ 18 ∷ []) c w (ev (PrescientAssign v x)) = judged c w (ev (PrescientAssign v x)) (10 ∷ 18 ∷ []) refl p in
-      (untrue (w .pending u v) (b .0), eqZ-true x (w .announced u v) (untrue (eqZ x (w .announced u v)) (b .1 .0)))
+      (untrue (w .pending u v) (row-kept 10 c w (ev (PrescientAssign v x)) p tt), eqZ-true x (w .announced u v) (untrue (eqZ x (w .announced u v)) (row-kept 18 c w (ev (PrescientAssign v x)) p tt)))
 
   own-write : (v : ℕ) (x : ℤ) → judge c w (ev (Write v x)) ≡ 0 → C.Allowed (C.own E.Write x) (cellOf w u v) (w .main v)
   unfolding cellOf breaks noPartner differs is rowIn rows
   own-write v x p =
-      let b : Unbroken (10 ∷ 18 ∷ []) c w (ev (Write v x)) = judged c w (ev (Write v x)) (10 ∷ 18 ∷ []) refl p in
-      go (w .stores u v) (simp or-false at (b .0)) (untrue (eqZ x (first (w .stores u v) .value)) (simp or-false at (b .1 .0)))
+      go (w .stores u v) (simp or-false at (row-kept 10 c w (ev (Write v x)) p tt)) (untrue (eqZ x (first (w .stores u v) .value)) (simp or-false at (row-kept 18 c w (ev (Write v x)) p tt)))
     where
       go : (ss : List Slot) → none? ss ≡ false → eqZ x (first ss .value) ≡ true → (rest : List ℤ) × (map valued ss ≡ x ∷ rest)
       go [] a b = absurd (true≢false a)
@@ -83,37 +74,36 @@ module _ (c : Counts) (w : Words) (u ln : ℕ) where
   own-load : (v : ℕ) (x : ℤ) → judge c w (ev (Load v x)) ≡ 0 → C.Allowed (C.own E.Load x) (cellOf w u v) (w .main v)
   unfolding cellOf breaks noPartner pendingBars notStored notWritten readBeforeWrite differs is rowIn rows
   own-load v x p =
-      let b : Unbroken (10 ∷ 13 ∷ 15 ∷ 16 ∷ 18 ∷ []) c w (ev (Load v x)) = judged c w (ev (Load v x)) (10 ∷ 13 ∷ 15 ∷ 16 ∷ 18 ∷ []) refl p in
-      let q : (not (none? (w .stores u v)) || ltb (first (w .reads u v) .position) (w .lastWrite u v)) ≡ false = simp or-false at (b .1 .1 .1 .0) in
-      go (w .reads u v) (simp or-false at (b .0)) (b .1 .0) (simp or-false at (b .1 .1 .0))
+      let q : (not (none? (w .stores u v)) || ltb (first (w .reads u v) .position) (w .lastWrite u v)) ≡ false = simp or-false at (row-kept 16 c w (ev (Load v x)) p tt) in
+      go (w .reads u v) (simp or-false at (row-kept 10 c w (ev (Load v x)) p tt)) (row-kept 13 c w (ev (Load v x)) p tt) (simp or-false at (row-kept 15 c w (ev (Load v x)) p tt))
       (none (w .stores u v) (untrue (none? (w .stores u v)) (or-false-left (not (none? (w .stores u v))) (ltb (first (w .reads u v) .position) (w .lastWrite u v)) q)))
       (ltb-false (first (w .reads u v) .position) (w .lastWrite u v) (or-false-right (not (none? (w .stores u v))) (ltb (first (w .reads u v) .position) (w .lastWrite u v)) q))
-      (untrue (eqZ x (first (w .reads u v) .value)) (simp or-false at (b .1 .1 .1 .1 .0)))
+      (untrue (eqZ x (first (w .reads u v) .value)) (simp or-false at (row-kept 18 c w (ev (Load v x)) p tt)))
     where
-      none : (ss : List Slot) → none? ss ≡ true → map valued ss ≡ []
-      none [] p = refl
-      none (s ∷ ss) p = absurd (false≢true p)
-
       go : (ss : List Slot) → none? ss ≡ false → w .pending u v ≡ false → w .fresh u v ≡ false → map valued (w .stores u v) ≡ [] → w .lastWrite u v ≤ first ss .position → eqZ x (first ss .value) ≡ true
           → (r : C.Slot ℤ) × (rs : List (C.Slot ℤ)) × (map slotted ss ≡ r ∷ rs) × (w .pending u v ≡ false) × (w .fresh u v ≡ false) × (map valued (w .stores u v) ≡ []) × (w .lastWrite u v ≤ r .position) × (x ≡ r .value)
       go [] a ow fr st wr q = absurd (true≢false a)
       go (s ∷ ss) a ow fr st wr q = (slotted s, map slotted ss, refl, ow, fr, st, wr, eqZ-true x (s .value) q)
 
+  -- 13, at K: nothing is owed
+  bars-nothing : some (c .variables) (λ v. w .pending u v) ≡ false → (v : ℕ) → v < c .variables → C.Allowed C.locks (cellOf w u v) (w .main v)
+  unfolding cellOf
+  bars-nothing q v h = some-none (c .variables) (λ v. w .pending u v) q v h
+
   own-lock : (l : ℕ) → judge c w (ev (Lock l)) ≡ 0 → (v : ℕ) → v < c .variables → C.Allowed C.locks (cellOf w u v) (w .main v)
-  unfolding cellOf breaks pendingBars is rowIn rows
-  own-lock l p v h =
-      let b : Unbroken (11 ∷ 13 ∷ []) c w (ev (Lock l)) = judged c w (ev (Lock l)) (11 ∷ 13 ∷ []) refl p in
-      some-none (c .variables) (λ v. w .pending u v) (simp or-false at (b .1 .0)) v h
+  unfolding breaks pendingBars is rowIn rows
+  own-lock l p = bars-nothing (simp or-false at (row-kept 13 c w (ev (Lock l)) p tt))
+
+  -- 15 and 16, at N: nothing is fresh, and all is written
+  all-written : some (c .variables) (λ v. w .fresh u v) ≡ false → some (c .variables) (λ v. not (none? (w .stores u v))) ≡ false
+      → (v : ℕ) → v < c .variables → C.Allowed C.unlocks (cellOf w u v) (w .main v)
+  unfolding cellOf
+  all-written f s v h =
+      (some-none (c .variables) (λ v. w .fresh u v) f v h, λ o. none (w .stores u v) (untrue (none? (w .stores u v)) (some-none (c .variables) (λ v. not (none? (w .stores u v))) s v h)))
 
   own-unlock : (l : ℕ) → judge c w (ev (Unlock l)) ≡ 0 → (v : ℕ) → v < c .variables → C.Allowed C.unlocks (cellOf w u v) (w .main v)
-  unfolding cellOf breaks notStored notWritten unwritten is rowIn rows
-  own-unlock l p v h =
-      let b : Unbroken (12 ∷ 15 ∷ 16 ∷ []) c w (ev (Unlock l)) = judged c w (ev (Unlock l)) (12 ∷ 15 ∷ 16 ∷ []) refl p in
-      (some-none (c .variables) (λ v. w .fresh u v) (b .1 .0) v h, λ o. none (w .stores u v) (untrue (none? (w .stores u v)) (some-none (c .variables) (λ v. not (none? (w .stores u v))) (b .1 .1 .0) v h)))
-    where
-      none : (ss : List Slot) → none? ss ≡ true → map valued ss ≡ []
-      none [] p = refl
-      none (s ∷ ss) p = absurd (false≢true p)
+  unfolding breaks notStored notWritten unwritten is rowIn rows
+  own-unlock l p = all-written (row-kept 15 c w (ev (Unlock l)) p tt) (row-kept 16 c w (ev (Unlock l)) p tt)
 
 -- an own act is allowed at the thread and the variable that see it as theirs
 seen : (w : Words) (k : E.Kind) (u v′ t v : ℕ) (x : ℤ) → C.Allowed (C.own k x) (cellOf w u v′) (w .main v′) → C.Allowed (C.act t v (E.mem k u v′ x)) (cellOf w t v) (w .main v)
@@ -125,6 +115,20 @@ seen w k u v′ t v x a = go (ℕ-discrete u t) (ℕ-discrete v′ v)
     go (no p) (yes q) = tt
     go (no p) (no q) = tt
 
+seen-lock : (w : Words) (u t v : ℕ) → C.Allowed C.locks (cellOf w u v) (w .main v) → C.Allowed (ite {C = C.Act ℤ} (ℕ-discrete u t) C.locks C.nothing) (cellOf w t v) (w .main v)
+seen-lock w u t v a = go (ℕ-discrete u t)
+  where
+    go : (d : Dec (u ≡ t)) → C.Allowed (ite {C = C.Act ℤ} d C.locks C.nothing) (cellOf w t v) (w .main v)
+    go (yes q) = subst (λ i. C.Allowed C.locks (cellOf w i v) (w .main v)) q a
+    go (no q) = tt
+
+seen-unlock : (w : Words) (u t v : ℕ) → C.Allowed C.unlocks (cellOf w u v) (w .main v) → C.Allowed (ite {C = C.Act ℤ} (ℕ-discrete u t) C.unlocks C.nothing) (cellOf w t v) (w .main v)
+seen-unlock w u t v a = go (ℕ-discrete u t)
+  where
+    go : (d : Dec (u ≡ t)) → C.Allowed (ite {C = C.Act ℤ} d C.unlocks C.nothing) (cellOf w t v) (w .main v)
+    go (yes q) = subst (λ i. C.Allowed C.unlocks (cellOf w i v) (w .main v)) q a
+    go (no q) = tt
+
 pub allowed : (c : Counts) (w : Words) (k : Kind) (u ln : ℕ) → judge c w (record { thread = u; line = ln; kind = k }) ≡ 0 → (t v : ℕ) → v < c .variables → C.Allowed (C.act t v (viewed u k)) (cellOf w t v) (w .main v)
 allowed c w (Use v′ x) u ln p t v h = seen w E.Use u v′ t v x (own-use c w u ln v′ x p)
 allowed c w (Assign v′ x) u ln p t v h = seen w E.Assign u v′ t v x tt
@@ -132,15 +136,7 @@ allowed c w (Load v′ x) u ln p t v h = seen w E.Load u v′ t v x (own-load c 
 allowed c w (Store v′ x) u ln p t v h = seen w E.Store u v′ t v x (own-store c w u ln v′ x p)
 allowed c w (Read v′ x) u ln p t v h = seen w E.Read u v′ t v x (own-read c w u ln v′ x p)
 allowed c w (Write v′ x) u ln p t v h = seen w E.Write u v′ t v x (own-write c w u ln v′ x p)
-allowed c w (Lock l) u ln p t v h = go (ℕ-discrete u t)
-  where
-    go : (d : Dec (u ≡ t)) → C.Allowed (ite {C = C.Act ℤ} d C.locks C.nothing) (cellOf w t v) (w .main v)
-    go (yes q) = subst (λ i. C.Allowed C.locks (cellOf w i v) (w .main v)) q (own-lock c w u ln l p v h)
-    go (no q) = tt
-allowed c w (Unlock l) u ln p t v h = go (ℕ-discrete u t)
-  where
-    go : (d : Dec (u ≡ t)) → C.Allowed (ite {C = C.Act ℤ} d C.unlocks C.nothing) (cellOf w t v) (w .main v)
-    go (yes q) = subst (λ i. C.Allowed C.unlocks (cellOf w i v) (w .main v)) q (own-unlock c w u ln l p v h)
-    go (no q) = tt
+allowed c w (Lock l) u ln p t v h = seen-lock w u t v (own-lock c w u ln l p v h)
+allowed c w (Unlock l) u ln p t v h = seen-unlock w u t v (own-unlock c w u ln l p v h)
 allowed c w (PrescientStore v′ x) u ln p t v h = seen w E.PrescientStore u v′ t v x (own-prescient-store c w u ln v′ x p)
 allowed c w (PrescientAssign v′ x) u ln p t v h = seen w E.PrescientAssign u v′ t v x (own-prescient-assign c w u ln v′ x p)

@@ -19,7 +19,7 @@ use Rattle.rules.specs.Words.{by, count, pending, main, latest, letterIn}
 use Rattle.rules.specs.Rules as Rules
 use Rattle.rules.specs.Rules.{wordsOf, held}
 use Rattle.rules.specs.Limits.{lineAfter}
-use Rattle.rules.proofs.Laws.{is-true, and-left, and-right, or-false-left, or-false-right, some-has}
+use Rattle.rules.proofs.Laws.{is-true, and-left, and-right, or-false-left, or-false-right, some-has, some-none}
 use Rattle.serial.specs.Words as C
 use Rattle.serial.specs.Events as E
 use Rattle.serial.specs.Sections as Q
@@ -36,7 +36,6 @@ use Rattle.sections.specs.Refusals.{afterUnlock, notUnder, lateLock, unf
 use Rattle.sections.specs.Order.{told, sections}
 use Rattle.sections.proofs.Valid.{Valid, Numbered, Declared}
 use Rattle.sections.proofs.Cells.{cellOf, cells, mains, length-view, eqb-yes, eqb-no}
-use Rattle.sections.proofs.Judged.{some-none}
 use Rattle.sections.proofs.Whole.{accepted, exclusive, to-held, from-held, holds-below}
 
 -- no event of the list breaks 20 or 21

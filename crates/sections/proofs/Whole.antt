@@ -14,8 +14,8 @@ use Rattle.rules.specs.declared.Kind.the-variants.{Use, Assign, Load, Store, Re
 use Rattle.rules.specs.Events.{A, B, K, L, N, P, R, S, U, W, letter, is, of, on, locks, unlocks}
 use Rattle.rules.specs.declared.Counts.{Counts}
 use Rattle.rules.specs.Words.{acquires, releases, count, depth}
-use Rattle.rules.specs.Rules.{Words, wordsOf, held, some, lockTaken, breaks, rows, rowIn, judge}
-use Rattle.rules.proofs.Laws.{and-left, and-right, Unbroken, judged}
+use Rattle.rules.specs.Rules.{Words, wordsOf, loc, held, judge}
+use Rattle.rules.proofs.Laws.{and-left, and-right, lock-free, some-none}
 use Rattle.serial.specs.Words as C
 use Rattle.serial.specs.Events as E
 use Rattle.serial.specs.Sections as Q
@@ -24,7 +24,7 @@ use Rattle.serial.specs.Lists.{All}
 use Rattle.sections.specs.View.{viewed, view}
 use Rattle.sections.proofs.Valid.{Valid, before, row, Declared}
 use Rattle.sections.proofs.Cells.{cellOf, cells, mains, eqb-yes, eqb-no}
-use Rattle.sections.proofs.Judged.{allowed, some-none}
+use Rattle.sections.proofs.Judged.{allowed}
 
 -- the rows hold, as the theory words them
 pub accepted : (h : Counts) (v : ℕ) → v < h .variables → (es : List Event) → Valid h es → C.Accepted (pos 0) v (map view es)
@@ -124,15 +124,11 @@ unfolding H.Holds
 holds-below h t l es a b = below h t l es a (omega (arith, b, lockeds t l es))
 
 -- 11, as the theory words it
-sole : (h : Counts) (w : Words) (u ln l t : ℕ) → judge h w (record { thread = u; line = ln; kind = Lock l }) ≡ 0 → t < h .threads → held w t l ≡ true → t ≡ u
-unfolding breaks lockTaken is rowIn rows
-sole h w u ln l t p b q =
-    let e : Event = record { thread = u; line = ln; kind = Lock l } in
-    let x : Unbroken (11 ∷ 13 ∷ []) h w e = judged h w e (11 ∷ 13 ∷ []) refl p in
-    go (eqb t u) refl (rw q at (some-none (h .threads) (λ t. not (eqb t u) && held w t l) (x .0) t b))
+sole : (h : Counts) (w : Words) (e : Event) (t : ℕ) → judge h w e ≡ 0 → T (is (K ∷ []) e) → t < h .threads → held w t (loc e) ≡ true → t ≡ e .thread
+sole h w e t p k b q = go (eqb t (e .thread)) refl (rw q at (some-none (h .threads) (λ t. not (eqb t (e .thread)) && held w t (loc e)) (lock-free h w e p k) t b))
   where
-    go : (c : Bool) → eqb t u ≡ c → (not c && true) ≡ false → t ≡ u
-    go true r x = eqb→eq t u (subst T (sym r) tt)
+    go : (c : Bool) → eqb t (e .thread) ≡ c → (not c && true) ≡ false → t ≡ e .thread
+    go true r x = eqb→eq t (e .thread) (subst T (sym r) tt)
     go false r x = absurd (true≢false x)
 
 pub exclusive : (h : Counts) (es : List Event) → All (Declared h) es → Valid h es → Q.Exclusive H.counted (map view es)
@@ -143,7 +139,7 @@ exclusive h (e ∷ es) d a = (λ t l p u b. go (e .kind) (row h e es a) t l p u 
     go : (k : Kind) → judge h (wordsOf es) (record { thread = e .thread; line = e .line; kind = k }) ≡ 0 → (t l : ℕ) → viewed (e .thread) k ≡ E.lock t l → (u : ℕ) → H.Holds u l (map view es) → u ≡ t
     go (Lock i) j t l p u b =
         let q : i ≡ l = cc in let r : e .thread ≡ t = cc in
-        sole h (wordsOf es) (e .thread) (e .line) i u j (holds-below h u l es (d .1) b) (subst (λ m. held (wordsOf es) u m ≡ true) (sym q) (to-held u l es b)) ∙ r
+        sole h (wordsOf es) (record { thread = e .thread; line = e .line; kind = Lock i }) u j (unfold is in tt) (holds-below h u l es (d .1) b) (subst (λ m. held (wordsOf es) u m ≡ true) (sym q) (to-held u l es b)) ∙ r
     go (Use v x) j t l p u b = cc
     go (Assign v x) j t l p u b = cc
     go (Load v x) j t l p u b = cc
