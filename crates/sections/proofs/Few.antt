@@ -69,7 +69,7 @@ own-lock h (e ∷ es) d = go (e .kind) (e .thread) (holdsSome h (e .thread) es) 
         → length (Q.next (viewed u k) (told b) (suc (length es)) ss) ≤ cond (among (K ∷ []) (letter k)) (suc (count locks es)) (count locks es)
     go (Lock l) u true ss r n = unfold Q.next in omega (arith, without-less u ss, r)
     go (Lock l) u false ss r n = unfold Q.next in omega (arith, r)
-    go (Unlock l) u true ss r n = unfold Q.next in joins (E.unlock u l) u ss r (n tt)
+    go (Unlock l) u true ss r n = unfold Q.next in joins (E.unlock 0 u l) u ss r (n tt)
     go (Unlock l) u false ss r n = unfold Q.next in r
     go (Use v x) u true ss r n = unfold Q.next in joins (E.mem E.Use u v x) u ss r (n tt)
     go (Use v x) u false ss r n = unfold Q.next in r

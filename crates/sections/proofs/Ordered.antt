@@ -89,40 +89,40 @@ whose (PrescientAssign v x) u = refl
 
 -- ---- 21
 
-pub unlocking : (k : Kind) (u ln t l : ℕ) → viewed u k ≡ E.unlock t l → unlocksBy t (record { thread = u; line = ln; kind = k }) ≡ true
+pub unlocking : (k : Kind) (u ln t l j : ℕ) → viewed u k ≡ E.unlock j t l → unlocksBy t (record { thread = u; line = ln; kind = k }) ≡ true
 unfolding unlocksBy unlocks is of
-unlocking (Unlock i) u ln t l p = eqb-yes u t (cc)
-unlocking (Use v x) u ln t l p = cc
-unlocking (Assign v x) u ln t l p = cc
-unlocking (Load v x) u ln t l p = cc
-unlocking (Store v x) u ln t l p = cc
-unlocking (Read v x) u ln t l p = cc
-unlocking (Write v x) u ln t l p = cc
-unlocking (Lock i) u ln t l p = cc
-unlocking (PrescientStore v x) u ln t l p = cc
-unlocking (PrescientAssign v x) u ln t l p = cc
+unlocking (Unlock i) u ln t l j p = eqb-yes u t (cc)
+unlocking (Use v x) u ln t l j p = cc
+unlocking (Assign v x) u ln t l j p = cc
+unlocking (Load v x) u ln t l j p = cc
+unlocking (Store v x) u ln t l j p = cc
+unlocking (Read v x) u ln t l j p = cc
+unlocking (Write v x) u ln t l j p = cc
+unlocking (Lock i) u ln t l j p = cc
+unlocking (PrescientStore v x) u ln t l j p = cc
+unlocking (PrescientAssign v x) u ln t l j p = cc
 
 shrunk : (h : Counts) (t : ℕ) (es : List Event) → All (Declared h) es → Q.Shrunk H.counted t (map view es) → afterUnlock h t es ≡ true
 unfolding Q.Shrunk afterUnlock
 shrunk h t [] d s = absurd s
 shrunk h t (e ∷ es) d s = rw (busy-some h t (s .0 .0) (e ∷ es) d (s .0 .1)) (go (s .1) (shrunk h t es (d .1)))
   where
-    go : ((l : ℕ) × (view e ≡ E.unlock t l)) ⊎ Q.Shrunk H.counted t (map view es) → (Q.Shrunk H.counted t (map view es) → afterUnlock h t es ≡ true) → (unlocksBy t e || afterUnlock h t es) ≡ true
-    go (inl p) r = rw (unlocking (e .kind) (e .thread) (e .line) t (p .0) (p .1))
+    go : ((l j : ℕ) × (view e ≡ E.unlock j t l)) ⊎ Q.Shrunk H.counted t (map view es) → (Q.Shrunk H.counted t (map view es) → afterUnlock h t es ≡ true) → (unlocksBy t e || afterUnlock h t es) ≡ true
+    go (inl p) r = rw (unlocking (e .kind) (e .thread) (e .line) t (p .0) (p .1) (p .2))
     go (inr q) r = rw (r q) (or-true (unlocksBy t e))
 
-pub locking : (k : Kind) (u ln t l : ℕ) → viewed u k ≡ E.lock t l → (locks (record { thread = u; line = ln; kind = k }) ≡ true) × (u ≡ t)
+pub locking : (k : Kind) (u ln t l j : ℕ) → viewed u k ≡ E.lock j t l → (locks (record { thread = u; line = ln; kind = k }) ≡ true) × (u ≡ t)
 unfolding locks is
-locking (Lock i) u ln t l p = (refl, cc)
-locking (Use v x) u ln t l p = (cc, cc)
-locking (Assign v x) u ln t l p = (cc, cc)
-locking (Load v x) u ln t l p = (cc, cc)
-locking (Store v x) u ln t l p = (cc, cc)
-locking (Read v x) u ln t l p = (cc, cc)
-locking (Write v x) u ln t l p = (cc, cc)
-locking (Unlock i) u ln t l p = (cc, cc)
-locking (PrescientStore v x) u ln t l p = (cc, cc)
-locking (PrescientAssign v x) u ln t l p = (cc, cc)
+locking (Lock i) u ln t l j p = (refl, cc)
+locking (Use v x) u ln t l j p = (cc, cc)
+locking (Assign v x) u ln t l j p = (cc, cc)
+locking (Load v x) u ln t l j p = (cc, cc)
+locking (Store v x) u ln t l j p = (cc, cc)
+locking (Read v x) u ln t l j p = (cc, cc)
+locking (Write v x) u ln t l j p = (cc, cc)
+locking (Unlock i) u ln t l j p = (cc, cc)
+locking (PrescientStore v x) u ln t l j p = (cc, cc)
+locking (PrescientAssign v x) u ln t l j p = (cc, cc)
 
 not-true : (b : Bool) → T (not b) → b ≡ true → ⊥
 not-true true h p = h
@@ -136,9 +136,9 @@ two-phase h guard (e ∷ es) d o = (here, two-phase h guard es (d .1) (and-right
     rest : T (not (lateLock h es e) && orderly h guard es)
     rest = and-right (not (notUnder guard es e)) (not (lateLock h es e) && orderly h guard es) o
 
-    here : (t l : ℕ) → view e ≡ E.lock t l → Q.Shrunk H.counted t (map view es) → ⊥
-    here t l p s =
-        let q : (locks e ≡ true) × (e .thread ≡ t) = locking (e .kind) (e .thread) (e .line) t l p in
+    here : (t l j : ℕ) → view e ≡ E.lock j t l → Q.Shrunk H.counted t (map view es) → ⊥
+    here t l j p s =
+        let q : (locks e ≡ true) × (e .thread ≡ t) = locking (e .kind) (e .thread) (e .line) t l j p in
         not-true (lateLock h es e) (and-left (not (lateLock h es e)) (orderly h guard es) rest) (rw (q .0, q .1) (shrunk h t es (d .1) s))
 
 -- ---- 20
@@ -256,16 +256,18 @@ unfolding Q.next
 agree e (yes a) (yes b) n ss f g = same e
   where
     same : (e : E.Event ℤ) → Q.next e (yes a) n ss ≡ Q.next e (yes b) n ss
-    same (E.lock t l) = refl
-    same (E.unlock t l) = refl
+    same (E.lock j t l) = refl
+    same (E.unlock j t l) = refl
+    same (E.idle t) = refl
     same (E.mem k t v x) = refl
 agree e (yes a) (no b) n ss f g = absurd (b (f a))
 agree e (no a) (yes b) n ss f g = absurd (a (g b))
 agree e (no a) (no b) n ss f g = same e
   where
     same : (e : E.Event ℤ) → Q.next e (no a) n ss ≡ Q.next e (no b) n ss
-    same (E.lock t l) = refl
-    same (E.unlock t l) = refl
+    same (E.lock j t l) = refl
+    same (E.unlock j t l) = refl
+    same (E.idle t) = refl
     same (E.mem k t v x) = refl
 
 pub some-witness : (n : ℕ) (f : ℕ → Bool) → T (Rules.some n f) → (i : ℕ) × T (f i)
@@ -344,9 +346,9 @@ serial-order h guard events a d p =
     let f : T (orderly h guard (reverse events)) × (unfinished h (reverse events) ≡ false) = fit-from h guard [] events p tt in
     serial-run h guard events a d (f .0) (f .1)
 
-pub holds-lock : (t l : ℕ) (es : List (E.Event ℤ)) → H.unlocked t l es ≤ H.locked t l es → H.Holds t l (E.lock t l ∷ es)
+pub holds-lock : (j t l : ℕ) (es : List (E.Event ℤ)) → H.unlocked t l es ≤ H.locked t l es → H.Holds t l (E.lock j t l ∷ es)
 unfolding H.Holds H.locked H.unlocked
-holds-lock t l es h = go (ℕ-discrete t t) (ℕ-discrete l l)
+holds-lock j t l es h = go (ℕ-discrete t t) (ℕ-discrete l l)
   where
     go : (d : Dec (t ≡ t)) (d′ : Dec (l ≡ l)) → H.unlocked t l es < H.bump d d′ (H.locked t l es)
     go (yes p) (yes q) = omega arith

@@ -34,7 +34,7 @@ use Rattle.sections.proofs.Places.{locksAt, unlocksAt, holdsAfter, Here
 use Rattle.serial.proofs.Stacks.{own, grow, rest, front, own-push, own-next-other, own-next-lock, own-next-open}
 use Rattle.serial.proofs.Signals.{Step, Ended, Stack, none-yet, other-busy, out, opening, raising, going}
 
-as-lock : (u t ln : ℕ) (k : Kind) → locksBy u (record { thread = t; line = ln; kind = k }) ≡ true → (l : ℕ) × (viewed t k ≡ E.lock u l)
+as-lock : (u t ln : ℕ) (k : Kind) → locksBy u (record { thread = t; line = ln; kind = k }) ≡ true → (l : ℕ) × (viewed t k ≡ E.lock 0 u l)
 unfolding locksBy locks is of
 as-lock u t ln (Lock l) h = (l, ap (λ w. viewed w (Lock l)) (eqb-true t u h))
 as-lock u t ln (Use v x) h = absurd (false≢true h)
@@ -60,9 +60,9 @@ not-both u t ln (Unlock l) q = absurd (false≢true q)
 not-both u t ln (PrescientStore v x) q = refl
 not-both u t ln (PrescientAssign v x) q = refl
 
-is-lock : (u l : ℕ) (e : Event) → view e ≡ E.lock u l → locksBy u e ≡ true
+is-lock : (u l j : ℕ) (e : Event) → view e ≡ E.lock j u l → locksBy u e ≡ true
 unfolding locksBy of
-is-lock u l e p = let q : (locks e ≡ true) × (e .thread ≡ u) = locking (e .kind) (e .thread) (e .line) u l p in rw (q .0, eq-eqb (e .thread) u (q .1))
+is-lock u l j e p = let q : (locks e ≡ true) × (e .thread ≡ u) = locking (e .kind) (e .thread) (e .line) u l j p in rw (q .0, eq-eqb (e .thread) u (q .1))
 
 none-held : (n : ℕ) (t : ℕ) → Rules.some n (λ l. Rules.held (wordsOf []) t l) ≡ false
 unfolding Rules.some wordsOf depth count
@@ -106,16 +106,16 @@ module _ (c : Counts) (events : List Event) (d : All (Declared c) events) (a : V
 
       lock-holds : locksAt u events (suc n) ≡ true → holdsAfter c u events (suc n) ≡ true
       lock-holds k =
-          let w : (l : ℕ) × (view e ≡ E.lock u l) = as-lock u (e .thread) (e .line) (e .kind) (sym l-sig ∙ k) in
+          let w : (l : ℕ) × (view e ≡ E.lock 0 u l) = as-lock u (e .thread) (e .line) (e .kind) (sym l-sig ∙ k) in
           now ∙ busy-some c u (w .0) (e ∷ es) both
           (subst (λ x. H.Holds u (w .0) (x ∷ map view es)) (sym (w .1))
-          (holds-lock u (w .0) (map view es) (omega (arith, pairs c es (valid-so-far c n events a) .unlocks u (w .0), lockeds u (w .0) es, unlockeds u (w .0) es))))
+          (holds-lock 0 u (w .0) (map view es) (omega (arith, pairs c es (valid-so-far c n events a) .unlocks u (w .0), lockeds u (w .0) es, unlockeds u (w .0) es))))
 
       idle-keeps : holdsAfter c u events n ≡ false → locksAt u events (suc n) ≡ false → holdsAfter c u events (suc n) ≡ false
       idle-keeps i k = now ∙ go (holdsSome c u (e ∷ es)) refl
         where
-          back : (l : ℕ) → (view e ≡ E.lock u l) ⊎ H.Holds u l (map view es) → ⊥
-          back l (inl p) = true≢false (sym (is-lock u l e p) ∙ sym l-sig ∙ k)
+          back : (l : ℕ) → ((j : ℕ) × (view e ≡ E.lock j u l)) ⊎ H.Holds u l (map view es) → ⊥
+          back l (inl p) = true≢false (sym (is-lock u l (p .0) e (p .1)) ∙ sym l-sig ∙ k)
           back l (inr g) = true≢false (sym (busy-some c u l es before g) ∙ sym was ∙ i)
 
           go : (b : Bool) → holdsSome c u (e ∷ es) ≡ b → b ≡ false
@@ -128,7 +128,7 @@ module _ (c : Counts) (events : List Event) (d : All (Declared c) events) (a : V
       busy-keeps i k =
           let w : (l : ℕ) × H.Holds u l (map view es) = some-busy c u es (subst T (sym (sym was ∙ i)) tt) in
           now ∙ busy-some c u (w .0) (e ∷ es) both
-          (H.holds-keep u (w .0) (view e) (map view es) (w .1) (λ l p. true≢false (sym (unlocking (e .kind) (e .thread) (e .line) u l p) ∙ sym u-sig ∙ k)))
+          (H.holds-keep u (w .0) (view e) (map view es) (w .1) (λ l j p. true≢false (sym (unlocking (e .kind) (e .thread) (e .line) u l j p) ∙ sym u-sig ∙ k)))
 
       apart : locksAt u events (suc n) ≡ true → unlocksAt u events (suc n) ≡ false
       apart k = u-sig ∙ not-both u (e .thread) (e .line) (e .kind) (sym l-sig ∙ k)
@@ -146,9 +146,9 @@ module _ (L F G : ℕ → Bool) (n : ℕ) (f : Step L F G n) where
     plainly x p q k true g st = rw p (going L F G n f u x (own u ss) k g st)
     plainly x p q k false g st = rw (q, f .idle-keeps g k) (out L F G n f (own u ss) g st)
 
-    locked : (l : ℕ) → L (suc n) ≡ true → (b : Bool) → G n ≡ b → Stack L F G b n (own u ss) → Stack L F G (G (suc n)) (suc n) (own u (Q.next (E.lock u l) (told b) (suc n) ss))
-    locked l k true g st = rw (own-next-lock {B = T true} u l (tt {0}) (suc n) ss, f .lock-holds k) (raising L F G n f u (E.lock u l) (own u ss) k st)
-    locked l k false g st = rw (own-next-open {B = T false} u l (λ t. t) (suc n) ss, f .lock-holds k) (opening L F G n f u (E.lock u l) (own u ss) g k st)
+    locked : (l : ℕ) → L (suc n) ≡ true → (b : Bool) → G n ≡ b → Stack L F G b n (own u ss) → Stack L F G (G (suc n)) (suc n) (own u (Q.next (E.lock 0 u l) (told b) (suc n) ss))
+    locked l k true g st = rw (own-next-lock {B = T true} 0 u l (tt {0}) (suc n) ss, f .lock-holds k) (raising L F G n f u (E.lock 0 u l) (own u ss) k st)
+    locked l k false g st = rw (own-next-open {B = T false} 0 u l (λ t. t) (suc n) ss, f .lock-holds k) (opening L F G n f u (E.lock 0 u l) (own u ss) g k st)
 
     mine : (ln : ℕ) (k : Kind) → L (suc n) ≡ locks (record { thread = u; line = ln; kind = k }) → (b : Bool) → G n ≡ b → Stack L F G b n (own u ss)
         → Stack L F G (G (suc n)) (suc n) (own u (Q.next (viewed u k) (told b) (suc n) ss))
@@ -160,7 +160,7 @@ module _ (L F G : ℕ → Bool) (n : ℕ) (f : Step L F G n) where
     mine ln (Read v x) k b g st = plainly (E.mem E.Read u v x) (own-push u (suc n) (E.mem E.Read u v x) ss) refl k b g st
     mine ln (Write v x) k b g st = plainly (E.mem E.Write u v x) (own-push u (suc n) (E.mem E.Write u v x) ss) refl k b g st
     mine ln (Lock l) k b g st = locked l k b g st
-    mine ln (Unlock l) k b g st = plainly (E.unlock u l) (own-push u (suc n) (E.unlock u l) ss) refl k b g st
+    mine ln (Unlock l) k b g st = plainly (E.unlock 0 u l) (own-push u (suc n) (E.unlock 0 u l) ss) refl k b g st
     mine ln (PrescientStore v x) k b g st = plainly (E.mem E.PrescientStore u v x) (own-push u (suc n) (E.mem E.PrescientStore u v x) ss) refl k b g st
     mine ln (PrescientAssign v x) k b g st = plainly (E.mem E.PrescientAssign u v x) (own-push u (suc n) (E.mem E.PrescientAssign u v x) ss) refl k b g st
 

@@ -134,18 +134,18 @@ sole h w e t p k b q = go (eqb t (e .thread)) refl (rw q at (some-none (h .threa
 pub exclusive : (h : Counts) (es : List Event) → All (Declared h) es → Valid h es → Q.Exclusive H.counted (map view es)
 unfolding Q.Exclusive
 exclusive h [] d a = tt
-exclusive h (e ∷ es) d a = (λ t l p u b. go (e .kind) (row h e es a) t l p u b, exclusive h es (d .1) (before h e es a))
+exclusive h (e ∷ es) d a = (λ t l i p u b. go (e .kind) (row h e es a) t l i p u b, exclusive h es (d .1) (before h e es a))
   where
-    go : (k : Kind) → judge h (wordsOf es) (record { thread = e .thread; line = e .line; kind = k }) ≡ 0 → (t l : ℕ) → viewed (e .thread) k ≡ E.lock t l → (u : ℕ) → H.Holds u l (map view es) → u ≡ t
-    go (Lock i) j t l p u b =
+    go : (k : Kind) → judge h (wordsOf es) (record { thread = e .thread; line = e .line; kind = k }) ≡ 0 → (t l n : ℕ) → viewed (e .thread) k ≡ E.lock n t l → (u : ℕ) → H.Holds u l (map view es) → u ≡ t
+    go (Lock i) j t l n p u b =
         let q : i ≡ l = cc in let r : e .thread ≡ t = cc in
         sole h (wordsOf es) (record { thread = e .thread; line = e .line; kind = Lock i }) u j (unfold is in tt) (holds-below h u l es (d .1) b) (subst (λ m. held (wordsOf es) u m ≡ true) (sym q) (to-held u l es b)) ∙ r
-    go (Use v x) j t l p u b = cc
-    go (Assign v x) j t l p u b = cc
-    go (Load v x) j t l p u b = cc
-    go (Store v x) j t l p u b = cc
-    go (Read v x) j t l p u b = cc
-    go (Write v x) j t l p u b = cc
-    go (Unlock i) j t l p u b = cc
-    go (PrescientStore v x) j t l p u b = cc
-    go (PrescientAssign v x) j t l p u b = cc
+    go (Use v x) j t l n p u b = cc
+    go (Assign v x) j t l n p u b = cc
+    go (Load v x) j t l n p u b = cc
+    go (Store v x) j t l n p u b = cc
+    go (Read v x) j t l n p u b = cc
+    go (Write v x) j t l n p u b = cc
+    go (Unlock i) j t l n p u b = cc
+    go (PrescientStore v x) j t l n p u b = cc
+    go (PrescientAssign v x) j t l n p u b = cc

@@ -13,8 +13,8 @@ viewed t (Load v x) = S.mem S.Load t v x
 viewed t (Store v x) = S.mem S.Store t v x
 viewed t (Read v x) = S.mem S.Read t v x
 viewed t (Write v x) = S.mem S.Write t v x
-viewed t (Lock l) = S.lock t l
-viewed t (Unlock l) = S.unlock t l
+viewed t (Lock l) = S.lock 0 t l
+viewed t (Unlock l) = S.unlock 0 t l
 viewed t (PrescientStore v x) = S.mem S.PrescientStore t v x
 viewed t (PrescientAssign v x) = S.mem S.PrescientAssign t v x
 

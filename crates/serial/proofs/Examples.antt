@@ -11,8 +11,8 @@ use Rattle.serial.proofs.Trace.{order, serially, between, given, stated
 
 listing : List (Event ℕ)
 listing =
-    lock 0 0 ∷ mem Assign 0 0 5 ∷ mem Store 0 0 5 ∷ mem Write 0 0 5 ∷ unlock 0 0
-    ∷ lock 1 0 ∷ mem Read 1 0 5 ∷ mem Load 1 0 5 ∷ mem Use 1 0 5 ∷ unlock 1 0 ∷ []
+    lock 0 0 0 ∷ mem Assign 0 0 5 ∷ mem Store 0 0 5 ∷ mem Write 0 0 5 ∷ unlock 0 0 0
+    ∷ lock 0 1 0 ∷ mem Read 1 0 5 ∷ mem Load 1 0 5 ∷ mem Use 1 0 5 ∷ unlock 0 1 0 ∷ []
 
 abbrev section : ℕ → ℕ → ℕ → Entry
 section t a b = record { owner = t; first = a; last = b }
@@ -24,8 +24,8 @@ listing-order = refl
 -- thread 0 takes lock 0; thread 1 takes lock 1, assigns, stores, is written, unlocks; thread 0 takes lock 1 and uses the new value
 crossed : List (Event ℕ)
 crossed =
-    lock 0 0 ∷ lock 1 1 ∷ mem Assign 1 0 7 ∷ mem Store 1 0 7 ∷ mem Write 1 0 7 ∷ unlock 1 1
-    ∷ lock 0 1 ∷ mem Read 0 0 7 ∷ mem Load 0 0 7 ∷ mem Use 0 0 7 ∷ unlock 0 1 ∷ unlock 0 0 ∷ []
+    lock 0 0 0 ∷ lock 0 1 1 ∷ mem Assign 1 0 7 ∷ mem Store 1 0 7 ∷ mem Write 1 0 7 ∷ unlock 0 1 1
+    ∷ lock 0 0 1 ∷ mem Read 0 0 7 ∷ mem Load 0 0 7 ∷ mem Use 0 0 7 ∷ unlock 0 0 1 ∷ unlock 0 0 0 ∷ []
 
 crossed-order : order counted crossed ≡ section 1 2 6 ∷ section 0 1 12 ∷ []
 unfolding crossed order sections next push current without ℕ-discrete decLt locked unlocked Holds ever look holds-some?

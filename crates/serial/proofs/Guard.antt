@@ -8,7 +8,7 @@ use mathlib.Core.Logic.{_⊎_, inl, inr, ite}
 use mathlib.Core.Bool.{Bool, true, false, _||_, true≢false, false≢true}
 use mathlib.Core.List.{List, [], _∷_, _++_, tail, cons≢nil}
 use lib.ListN.{length}
-use Rattle.serial.specs.Events.{Kind, Use, Assign, Load, Store, Read, Write, PrescientStore, PrescientAssign, Event, lock, unlock, mem, thread}
+use Rattle.serial.specs.Events.{Kind, Use, Assign, Load, Store, Read, Write, PrescientStore, PrescientAssign, Event, lock, unlock, idle, mem, thread}
 use Rattle.serial.specs.Sections.{Locks, Exclusive, Under}
 use Rattle.serial.proofs.Order.{mutex}
 use Rattle.serial.specs.Words.{Slot, Cell, Act, own, other, locks, unlocks, nothing, Touch, at, elsewhere, touch, seenBy, act, oldest, change, written, assigned, through, guarded, guardedAt, uses, Allowed, empty, cell, main, plain, Accepted}
@@ -17,16 +17,17 @@ use Rattle.serial.proofs.Memory.{Good, Facts, asks, loud, actOn, advanc
 module _ {X : Type 0} where
   -- a memory changes by what the variable sees of the event, whichever thread looks
   act-on : (f : Kind → X → X → X) (t v : ℕ) (e : Event X) (m : X) → actOn f (act t v e) m ≡ through f (touch v e) m
-  act-on f t v (lock u l) m = step (ℕ-discrete u t)
+  act-on f t v (lock i u l) m = step (ℕ-discrete u t)
     where
       step : (d : Dec (u ≡ t)) → actOn f (ite {C = Act X} d locks nothing) m ≡ m
       step (yes p) = refl
       step (no p) = refl
-  act-on f t v (unlock u l) m = step (ℕ-discrete u t)
+  act-on f t v (unlock i u l) m = step (ℕ-discrete u t)
     where
       step : (d : Dec (u ≡ t)) → actOn f (ite {C = Act X} d unlocks nothing) m ≡ m
       step (yes p) = refl
       step (no p) = refl
+  act-on f t v (idle u) m = refl
   act-on f t v (mem k u w x) m = step (ℕ-discrete u t) (ℕ-discrete w v)
     where
       step : (d : Dec (u ≡ t)) (d′ : Dec (w ≡ v)) → actOn f (seenBy d (ite {C = Touch X} d′ (at k x) elsewhere)) m ≡ through f (ite {C = Touch X} d′ (at k x) elsewhere) m
@@ -35,26 +36,32 @@ module _ {X : Type 0} where
       step (no p) (yes q) = refl
       step (no p) (no q) = refl
 
-  not-unlock : (k : Kind) (u w : ℕ) (x : X) (t m : ℕ) → _≡_ {A = Event X} (mem k u w x) (unlock t m) → ⊥
-  not-unlock k u w x t m p = let q : _≡_ {A = ℕ} 0 1 = cc in omega arith
+  not-unlock : (k : Kind) (u w : ℕ) (x : X) (t m j : ℕ) → _≡_ {A = Event X} (mem k u w x) (unlock j t m) → ⊥
+  not-unlock k u w x t m j p = let q : _≡_ {A = ℕ} 0 1 = cc in omega arith
 
-  not-lock : (k : Kind) (u w : ℕ) (x : X) (t m : ℕ) → _≡_ {A = Event X} (mem k u w x) (lock t m) → ⊥
-  not-lock k u w x t m p = let q : _≡_ {A = ℕ} 0 1 = cc in omega arith
+  not-lock : (k : Kind) (u w : ℕ) (x : X) (t m j : ℕ) → _≡_ {A = Event X} (mem k u w x) (lock j t m) → ⊥
+  not-lock k u w x t m j p = let q : _≡_ {A = ℕ} 0 1 = cc in omega arith
 
-  lock-unlock : (u l t m : ℕ) → _≡_ {A = Event X} (lock u l) (unlock t m) → ⊥
-  lock-unlock u l t m p = let q : _≡_ {A = ℕ} 0 1 = cc in omega arith
+  idle-unlock : (u t m j : ℕ) → _≡_ {A = Event X} (idle u) (unlock j t m) → ⊥
+  idle-unlock u t m j p = let q : _≡_ {A = ℕ} 0 1 = cc in omega arith
 
-  unlock-lock : (u l t m : ℕ) → _≡_ {A = Event X} (unlock u l) (lock t m) → ⊥
-  unlock-lock u l t m p = let q : _≡_ {A = ℕ} 0 1 = cc in omega arith
+  idle-lock : (u t m j : ℕ) → _≡_ {A = Event X} (idle u) (lock j t m) → ⊥
+  idle-lock u t m j p = let q : _≡_ {A = ℕ} 0 1 = cc in omega arith
 
-  lock-owner : (u l t m : ℕ) → _≡_ {A = Event X} (lock u l) (lock t m) → u ≡ t
-  lock-owner u l t m p = cc
+  lock-unlock : (i u l t m j : ℕ) → _≡_ {A = Event X} (lock i u l) (unlock j t m) → ⊥
+  lock-unlock i u l t m j p = let q : _≡_ {A = ℕ} 0 1 = cc in omega arith
 
-  lock-lock : (u l t m : ℕ) → _≡_ {A = Event X} (lock u l) (lock t m) → l ≡ m
-  lock-lock u l t m p = cc
+  unlock-lock : (i u l t m j : ℕ) → _≡_ {A = Event X} (unlock i u l) (lock j t m) → ⊥
+  unlock-lock i u l t m j p = let q : _≡_ {A = ℕ} 0 1 = cc in omega arith
 
-  unlock-owner : (u l t m : ℕ) → _≡_ {A = Event X} (unlock u l) (unlock t m) → u ≡ t
-  unlock-owner u l t m p = cc
+  lock-owner : (i u l t m j : ℕ) → _≡_ {A = Event X} (lock i u l) (lock j t m) → u ≡ t
+  lock-owner i u l t m j p = cc
+
+  lock-lock : (i u l t m j : ℕ) → _≡_ {A = Event X} (lock i u l) (lock j t m) → l ≡ m
+  lock-lock i u l t m j p = cc
+
+  unlock-owner : (i u l t m j : ℕ) → _≡_ {A = Event X} (unlock i u l) (unlock j t m) → u ≡ t
+  unlock-owner i u l t m j p = cc
 
 module _ {X : Type 0} (z : X) (𝓛 : Locks X) (g v : ℕ) where
   abbrev H : ℕ → List (Event X) → Type 0
@@ -68,41 +75,41 @@ module _ {X : Type 0} (z : X) (𝓛 : Locks X) (g v : ℕ) where
     pub cells : (t : ℕ) → Good (𝓛 .Held t g es) (length es) (cell z t v es) (main z v es) (plain z v es)
     pub free : ((t : ℕ) → 𝓛 .Held t g es → ⊥) → main z v es ≡ plain z v es
 
-  back : (t : ℕ) (e : Event X) (es : List (Event X)) → (e ≡ lock t g → ⊥) → H t (e ∷ es) → H t es
+  back : (t : ℕ) (e : Event X) (es : List (Event X)) → ((j : ℕ) → e ≡ lock j t g → ⊥) → H t (e ∷ es) → H t es
   back t e es n h = step (𝓛 .held-back t g e es h)
     where
-      step : (e ≡ lock t g) ⊎ H t es → H t es
-      step (inl p) = absurd (n p)
+      step : ((j : ℕ) × (e ≡ lock j t g)) ⊎ H t es → H t es
+      step (inl p) = absurd (n (p .0) (p .1))
       step (inr a) = a
 
   -- ---- one event more: what it does to the guard, as thread t sees it
   module _ (es : List (Event X)) (G : Guarded es) (ex : Exclusive 𝓛 es) where
     -- a K
-    facts-lock : (t u l : ℕ) → ((w : ℕ) → 𝓛 .Held w l es → w ≡ u)
-        → Facts (act t v (lock u l)) (H t es) (H t (lock u l ∷ es)) (main z v es) (plain z v es)
-    facts-lock t u l excl = step (ℕ-discrete u t)
+    facts-lock : (t i u l : ℕ) → ((w : ℕ) → 𝓛 .Held w l es → w ≡ u)
+        → Facts (act t v (lock i u l)) (H t es) (H t (lock i u l ∷ es)) (main z v es) (plain z v es)
+    facts-lock t i u l excl = step (ℕ-discrete u t)
       where
-        keep : H t es → H t (lock u l ∷ es)
-        keep h = 𝓛 .held-keep t g (lock u l) es h (λ m. lock-unlock u l t m)
+        keep : H t es → H t (lock i u l ∷ es)
+        keep h = 𝓛 .held-keep t g (lock i u l) es h (lock-unlock i u l t)
 
-        gain : u ≡ t → Dec (H t es) → (_≡_ {A = Event X} (lock u l) (lock t g)) ⊎ H t es → H t es ⊎ ((H t es → ⊥) × (main z v es ≡ plain z v es))
+        gain : u ≡ t → Dec (H t es) → ((j : ℕ) × (_≡_ {A = Event X} (lock i u l) (lock j t g))) ⊎ H t es → H t es ⊎ ((H t es → ⊥) × (main z v es ≡ plain z v es))
         gain p d (inr h) = inl h
         gain p (yes h) (inl q) = inl h
-        gain p (no n) (inl q) = inr (n, G .free (λ w h. n (subst (λ i. H i es) (excl w (subst (λ i. 𝓛 .Held w i es) (sym (lock-lock u l t g q)) h) ∙ p) h)))
+        gain p (no n) (inl q) = inr (n, G .free (λ w h. n (subst (λ i. H i es) (excl w (subst (λ i. 𝓛 .Held w i es) (sym (lock-lock i u l t g (q .0) (q .1))) h) ∙ p) h)))
 
-        step : (d : Dec (u ≡ t)) → Facts (ite {C = Act X} d locks nothing) (H t es) (H t (lock u l ∷ es)) (main z v es) (plain z v es)
-        step (yes p) = (keep, λ h. gain p (𝓛 .held? t g es) (𝓛 .held-back t g (lock u l) es h))
-        step (no p) = (keep, back t (lock u l) es (λ q. p (lock-owner u l t g q)))
+        step : (d : Dec (u ≡ t)) → Facts (ite {C = Act X} d locks nothing) (H t es) (H t (lock i u l ∷ es)) (main z v es) (plain z v es)
+        step (yes p) = (keep, λ h. gain p (𝓛 .held? t g es) (𝓛 .held-back t g (lock i u l) es h))
+        step (no p) = (keep, back t (lock i u l) es (λ j q. p (lock-owner i u l t g j q)))
 
-    facts-unlock : (t u l : ℕ) → Facts (act t v (unlock u l)) (H t es) (H t (unlock u l ∷ es)) (main z v es) (plain z v es)
-    facts-unlock t u l = step (ℕ-discrete u t)
+    facts-unlock : (t i u l : ℕ) → Facts (act t v (unlock i u l)) (H t es) (H t (unlock i u l ∷ es)) (main z v es) (plain z v es)
+    facts-unlock t i u l = step (ℕ-discrete u t)
       where
-        lost : H t (unlock u l ∷ es) → H t es
-        lost = back t (unlock u l) es (unlock-lock u l t g)
+        lost : H t (unlock i u l ∷ es) → H t es
+        lost = back t (unlock i u l) es (unlock-lock i u l t g)
 
-        step : (d : Dec (u ≡ t)) → Facts (ite {C = Act X} d unlocks nothing) (H t es) (H t (unlock u l ∷ es)) (main z v es) (plain z v es)
+        step : (d : Dec (u ≡ t)) → Facts (ite {C = Act X} d unlocks nothing) (H t es) (H t (unlock i u l ∷ es)) (main z v es) (plain z v es)
         step (yes p) = lost
-        step (no p) = (λ h. 𝓛 .held-keep t g (unlock u l) es h (λ m q. p (unlock-owner u l t m q)), lost)
+        step (no p) = (λ h. 𝓛 .held-keep t g (unlock i u l) es h (λ m j q. p (unlock-owner i u l t m j q)), lost)
 
     -- a store is outstanding: its thread holds the guard
     storing : (u : ℕ) (x : X) (ys : List X) → cell z u v es .stores ≡ x ∷ ys → H u es
@@ -155,12 +162,13 @@ module _ {X : Type 0} (z : X) (𝓛 : Locks X) (g v : ℕ) where
         step (yes p) (no q) s un al nd = (keep, lost)
         step (no p) (no q) s un al nd = (keep, lost)
 
-    facts : (t : ℕ) (e : Event X) → ((u l : ℕ) → e ≡ lock u l → (w : ℕ) → 𝓛 .Held w l es → w ≡ u) → (uses v e ≡ true → H (thread e) es)
+    facts : (t : ℕ) (e : Event X) → ((u l j : ℕ) → e ≡ lock j u l → (w : ℕ) → 𝓛 .Held w l es → w ≡ u) → (uses v e ≡ true → H (thread e) es)
         → ((u : ℕ) → Allowed (act u v e) (cell z u v es) (main z v es)) → Covered (e ∷ es)
         → Facts (act t v e) (H t es) (H t (e ∷ es)) (main z v es) (plain z v es)
     unfolding cell
-    facts t (lock u l) xl un al cv = facts-lock t u l (xl u l refl)
-    facts t (unlock u l) xl un al cv = facts-unlock t u l
+    facts t (lock i u l) xl un al cv = facts-lock t i u l (xl u l i refl)
+    facts t (unlock i u l) xl un al cv = facts-unlock t i u l
+    facts t (idle u) xl un al cv = (λ h. 𝓛 .held-keep t g (idle u) es h (idle-unlock u t), back t (idle u) es (idle-lock u t g))
     facts t (mem k u w x) xl un al cv = facts-mem t u w k x un (al u) (cv t)
 
     -- ---- nobody holds the guard
@@ -169,18 +177,18 @@ module _ {X : Type 0} (z : X) (𝓛 : Locks X) (g v : ℕ) where
     tell true = inr refl
     tell false = inl refl
 
-    free-unlock : (u l : ℕ) → Allowed (act u v (unlock u l)) (cell z u v es) (main z v es) → Covered (unlock u l ∷ es)
-        → ((t : ℕ) → H t (unlock u l ∷ es) → ⊥) → main z v es ≡ plain z v es
+    free-unlock : (i u l : ℕ) → Allowed (act u v (unlock i u l)) (cell z u v es) (main z v es) → Covered (unlock i u l ∷ es)
+        → ((t : ℕ) → H t (unlock i u l ∷ es) → ⊥) → main z v es ≡ plain z v es
     unfolding cell change
-    free-unlock u l al cv n = step (𝓛 .held? u g es) (ℕ-discrete u u) al (cv u) (tell (cell z u v es .pending))
+    free-unlock i u l al cv n = step (𝓛 .held? u g es) (ℕ-discrete u u) al (cv u) (tell (cell z u v es .pending))
       where
         step : Dec (H u es) → (s : Dec (u ≡ u)) → Allowed (ite {C = Act X} s unlocks nothing) (cell z u v es) (main z v es)
-            → (change (suc (length es)) (ite {C = Act X} s unlocks nothing) (cell z u v es) .pending ≡ true → H u (unlock u l ∷ es))
+            → (change (suc (length es)) (ite {C = Act X} s unlocks nothing) (cell z u v es) .pending ≡ true → H u (unlock i u l ∷ es))
             → (cell z u v es .pending ≡ false) ⊎ (cell z u v es .pending ≡ true) → main z v es ≡ plain z v es
         step d (no r) al cv o = absurd (r refl)
         step (yes h) (yes r) al cv (inl o) = rw (al .1 o) at (G .cells u .even h o (al .0))
         step (yes h) (yes r) al cv (inr o) = absurd (n u (cv o))
-        step (no m) (yes r) al cv o = G .free (λ t h. n t (𝓛 .held-keep t g (unlock u l) es h (λ i q. m (subst (λ j. H j es) (sym (unlock-owner u l t i q)) h))))
+        step (no m) (yes r) al cv o = G .free (λ t h. n t (𝓛 .held-keep t g (unlock i u l) es h (λ o j q. m (subst (λ j. H j es) (sym (unlock-owner i u l t o j q)) h))))
 
     free-mem : (u w : ℕ) (k : Kind) (x : X) → (uses v (mem k u w x) ≡ true → H u es) → Allowed (act u v (mem k u w x)) (cell z u v es) (main z v es)
         → ((t : ℕ) → H t (mem k u w x ∷ es) → ⊥)
@@ -210,8 +218,9 @@ module _ {X : Type 0} (z : X) (𝓛 : Locks X) (g v : ℕ) where
     still-free : (e : Event X) → (uses v e ≡ true → H (thread e) es)
         → ((u : ℕ) → Allowed (act u v e) (cell z u v es) (main z v es)) → Covered (e ∷ es)
         → ((t : ℕ) → H t (e ∷ es) → ⊥) → through written (touch v e) (main z v es) ≡ through assigned (touch v e) (plain z v es)
-    still-free (lock u l) un al cv n = G .free (λ t h. n t (𝓛 .held-keep t g (lock u l) es h (λ m. lock-unlock u l t m)))
-    still-free (unlock u l) un al cv n = free-unlock u l (al u) cv n
+    still-free (lock i u l) un al cv n = G .free (λ t h. n t (𝓛 .held-keep t g (lock i u l) es h (lock-unlock i u l t)))
+    still-free (unlock i u l) un al cv n = free-unlock i u l (al u) cv n
+    still-free (idle u) un al cv n = G .free (λ t h. n t (𝓛 .held-keep t g (idle u) es h (idle-unlock u t)))
     still-free (mem k u w x) un al cv n = free-mem u w k x un (al u) n
 
   -- ---- who owes holds the guard: a debt without the guard is never paid, and so stands at the end
@@ -239,27 +248,28 @@ module _ {X : Type 0} (z : X) (𝓛 : Locks X) (g v : ℕ) where
       step (yes p) (no q) un cv = lost (cv o)
       step (no p) (no q) un cv = lost (cv o)
 
-  covered-lock : (es : List (Event X)) (t u l : ℕ) → Allowed (act t v (lock u l)) (cell z t v es) (main z v es) → Covered (lock u l ∷ es) → cell z t v es .pending ≡ true → H t es
+  covered-lock : (es : List (Event X)) (t i u l : ℕ) → Allowed (act t v (lock i u l)) (cell z t v es) (main z v es) → Covered (lock i u l ∷ es) → cell z t v es .pending ≡ true → H t es
   unfolding cell change
-  covered-lock es t u l al cv o = step (ℕ-discrete u t) al (cv t)
+  covered-lock es t i u l al cv o = step (ℕ-discrete u t) al (cv t)
     where
       step : (d : Dec (u ≡ t)) → Allowed (ite {C = Act X} d locks nothing) (cell z t v es) (main z v es)
-          → (change (suc (length es)) (ite {C = Act X} d locks nothing) (cell z t v es) .pending ≡ true → H t (lock u l ∷ es)) → H t es
+          → (change (suc (length es)) (ite {C = Act X} d locks nothing) (cell z t v es) .pending ≡ true → H t (lock i u l ∷ es)) → H t es
       step (yes p) al cv = absurd (true≢false (sym o ∙ al))
-      step (no p) al cv = back t (lock u l) es (λ q. p (lock-owner u l t g q)) (cv o)
+      step (no p) al cv = back t (lock i u l) es (λ j q. p (lock-owner i u l t g j q)) (cv o)
 
-  covered-unlock : (es : List (Event X)) (t u l : ℕ) → Covered (unlock u l ∷ es) → cell z t v es .pending ≡ true → H t es
+  covered-unlock : (es : List (Event X)) (t i u l : ℕ) → Covered (unlock i u l ∷ es) → cell z t v es .pending ≡ true → H t es
   unfolding cell change
-  covered-unlock es t u l cv o = step (ℕ-discrete u t) (cv t)
+  covered-unlock es t i u l cv o = step (ℕ-discrete u t) (cv t)
     where
-      step : (d : Dec (u ≡ t)) → (change (suc (length es)) (ite {C = Act X} d unlocks nothing) (cell z t v es) .pending ≡ true → H t (unlock u l ∷ es)) → H t es
-      step (yes p) cv = back t (unlock u l) es (unlock-lock u l t g) (cv o)
-      step (no p) cv = back t (unlock u l) es (unlock-lock u l t g) (cv o)
+      step : (d : Dec (u ≡ t)) → (change (suc (length es)) (ite {C = Act X} d unlocks nothing) (cell z t v es) .pending ≡ true → H t (unlock i u l ∷ es)) → H t es
+      step (yes p) cv = back t (unlock i u l) es (unlock-lock i u l t g) (cv o)
+      step (no p) cv = back t (unlock i u l) es (unlock-lock i u l t g) (cv o)
 
   pub covered-back : (e : Event X) (es : List (Event X)) → (uses v e ≡ true → H (thread e) es)
       → ((u : ℕ) → Allowed (act u v e) (cell z u v es) (main z v es)) → Covered (e ∷ es) → Covered es
-  covered-back (lock u l) es un al cv t o = covered-lock es t u l (al t) cv o
-  covered-back (unlock u l) es un al cv t o = covered-unlock es t u l cv o
+  covered-back (lock i u l) es un al cv t o = covered-lock es t i u l (al t) cv o
+  covered-back (unlock i u l) es un al cv t o = covered-unlock es t i u l cv o
+  covered-back (idle u) es un al cv t o = back t (idle u) es (idle-lock u t g) (cv t (unfold cell change in o))
   covered-back (mem k u w x) es un al cv t o = covered-mem es t u w k x un cv o
 
   pub guarded-holds : (es : List (Event X)) → Exclusive 𝓛 es → Accepted z v es → Under 𝓛 (uses v) g es → Covered es → Guarded es

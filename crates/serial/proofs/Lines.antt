@@ -8,7 +8,7 @@ use mathlib.Core.Logic.{_⊎_, inl, inr, ite}
 use mathlib.Core.Bool.{Bool, true, false}
 use mathlib.Core.List.{List, [], _∷_, _++_}
 use lib.ListN.{length}
-use Rattle.serial.specs.Events.{Event, lock, unlock, mem, thread}
+use Rattle.serial.specs.Events.{Event, lock, unlock, idle, mem, thread}
 use Rattle.serial.specs.Sections.{Section, opened, grown, raised, blank, push, current, without, next, flat, Locks, Busy, sections}
 use Rattle.serial.specs.Lists.{All}
 use Rattle.serial.proofs.Memory.{All-map}
@@ -274,18 +274,18 @@ module _ {X : Type 0} (𝓛 : Locks X) where
     pub falling : Falling ss
     pub now : (t : ℕ) → Busy 𝓛 t es → Now t es ss
 
-  pub busy-back : (t : ℕ) (e : Event X) (es : List (Event X)) → ((l : ℕ) → e ≡ lock t l → ⊥) → Busy 𝓛 t (e ∷ es) → Busy 𝓛 t es
+  pub busy-back : (t : ℕ) (e : Event X) (es : List (Event X)) → ((l j : ℕ) → e ≡ lock j t l → ⊥) → Busy 𝓛 t (e ∷ es) → Busy 𝓛 t es
   busy-back t e es n b = step (𝓛 .held-back t (b .0) e es (b .1))
     where
-      step : (e ≡ lock t (b .0)) ⊎ 𝓛 .Held t (b .0) es → Busy 𝓛 t es
-      step (inl p) = absurd (n (b .0) p)
+      step : ((j : ℕ) × (e ≡ lock j t (b .0))) ⊎ 𝓛 .Held t (b .0) es → Busy 𝓛 t es
+      step (inl p) = absurd (n (b .0) (p .0) (p .1))
       step (inr h) = (b .0, h)
 
   module _ (e : Event X) (es : List (Event X)) (ss : List (Section X)) (k : Traced es ss) where
     all-later : All (Placed (e ∷ es)) ss
     all-later = All-map (Placed es) (Placed (e ∷ es)) ss (k .placed) (placed-later e es)
 
-    traced-out : ((t l : ℕ) → e ≡ lock t l → ⊥) → (Busy 𝓛 (thread e) es → ⊥) → Traced (e ∷ es) ss
+    traced-out : ((t l j : ℕ) → e ≡ lock j t l → ⊥) → (Busy 𝓛 (thread e) es → ⊥) → Traced (e ∷ es) ss
     traced-out nl i = record { placed = all-later; falling = k .falling; now = now }
       where
         now : (t : ℕ) → Busy 𝓛 t (e ∷ es) → Now t (e ∷ es) ss
@@ -295,7 +295,7 @@ module _ {X : Type 0} (𝓛 : Locks X) where
             step (yes p) b = absurd (i (subst (λ u. Busy 𝓛 u es) (sym p) b))
             step (no p) b = now-later e es t ss p (k .now t b)
 
-    traced-push : ((t l : ℕ) → e ≡ lock t l → ⊥) → Busy 𝓛 (thread e) es → Traced (e ∷ es) (push (thread e) (suc (length es)) e ss)
+    traced-push : ((t l j : ℕ) → e ≡ lock j t l → ⊥) → Busy 𝓛 (thread e) es → Traced (e ∷ es) (push (thread e) (suc (length es)) e ss)
     traced-push nl i = record {
       placed = push-All (Placed es) (Placed (e ∷ es)) (thread e) (suc (length es)) e es ss (k .now (thread e) i) (k .placed) (placed-later e es) (placed-grown e es);
       falling = push-falling (thread e) (suc (length es)) e es ss (k .now (thread e) i) (k .falling);
@@ -313,7 +313,7 @@ module _ {X : Type 0} (𝓛 : Locks X) where
     tops = All-map (Placed es) (λ (r : Section X). r .top < suc (length es)) ss (k .placed) (λ s p. omega (arith, p .over, p .ends))
 
     other-busy : (t : ℕ) → (thread e ≡ t → ⊥) → Busy 𝓛 t (e ∷ es) → Busy 𝓛 t es
-    other-busy t n b = busy-back t e es (λ l p. n (ap thread p)) b
+    other-busy t n b = busy-back t e es (λ l j p. n (ap thread p)) b
 
     traced-open : Traced (e ∷ es) (opened (thread e) (suc (length es)) e ∷ ss)
     unfolding Falling
@@ -349,23 +349,31 @@ module _ {X : Type 0} (𝓛 : Locks X) where
   pub traced : (es : List (Event X)) → Traced es (sections 𝓛 es)
   unfolding sections next Falling
   traced [] = record { placed = tt; falling = tt; now = λ t b. absurd (𝓛 .held-none t (b .0) (b .1)) }
-  traced (lock t l ∷ es) = step (𝓛 .busy? t es) (traced es)
+  traced (lock j t l ∷ es) = step (𝓛 .busy? t es) (traced es)
     where
-      step : (d : Dec (Busy 𝓛 t es)) → Traced es (sections 𝓛 es) → Traced (lock t l ∷ es) (next (lock t l) d (suc (length es)) (sections 𝓛 es))
-      step (yes b) k = traced-raise (lock t l) es (sections 𝓛 es) k b
-      step (no b) k = traced-open (lock t l) es (sections 𝓛 es) k
-  traced (unlock t l ∷ es) = step (𝓛 .busy? t es) (traced es)
+      step : (d : Dec (Busy 𝓛 t es)) → Traced es (sections 𝓛 es) → Traced (lock j t l ∷ es) (next (lock j t l) d (suc (length es)) (sections 𝓛 es))
+      step (yes b) k = traced-raise (lock j t l) es (sections 𝓛 es) k b
+      step (no b) k = traced-open (lock j t l) es (sections 𝓛 es) k
+  traced (unlock j t l ∷ es) = step (𝓛 .busy? t es) (traced es)
     where
-      nl : (u m : ℕ) → _≡_ {A = Event X} (unlock t l) (lock u m) → ⊥
-      nl u m p = let z : _≡_ {A = ℕ} 0 1 = cc in omega arith
+      nl : (u m i : ℕ) → _≡_ {A = Event X} (unlock j t l) (lock i u m) → ⊥
+      nl u m i p = let z : _≡_ {A = ℕ} 0 1 = cc in omega arith
 
-      step : (d : Dec (Busy 𝓛 t es)) → Traced es (sections 𝓛 es) → Traced (unlock t l ∷ es) (next (unlock t l) d (suc (length es)) (sections 𝓛 es))
-      step (yes b) k = traced-push (unlock t l) es (sections 𝓛 es) k nl b
-      step (no b) k = traced-out (unlock t l) es (sections 𝓛 es) k nl b
+      step : (d : Dec (Busy 𝓛 t es)) → Traced es (sections 𝓛 es) → Traced (unlock j t l ∷ es) (next (unlock j t l) d (suc (length es)) (sections 𝓛 es))
+      step (yes b) k = traced-push (unlock j t l) es (sections 𝓛 es) k nl b
+      step (no b) k = traced-out (unlock j t l) es (sections 𝓛 es) k nl b
+  traced (idle t ∷ es) = step (𝓛 .busy? t es) (traced es)
+    where
+      nl : (u m i : ℕ) → _≡_ {A = Event X} (idle t) (lock i u m) → ⊥
+      nl u m i p = let z : _≡_ {A = ℕ} 0 1 = cc in omega arith
+
+      step : (d : Dec (Busy 𝓛 t es)) → Traced es (sections 𝓛 es) → Traced (idle t ∷ es) (next (idle t) d (suc (length es)) (sections 𝓛 es))
+      step (yes b) k = traced-push (idle t) es (sections 𝓛 es) k nl b
+      step (no b) k = traced-out (idle t) es (sections 𝓛 es) k nl b
   traced (mem κ t v x ∷ es) = step (𝓛 .busy? t es) (traced es)
     where
-      nl : (u m : ℕ) → _≡_ {A = Event X} (mem κ t v x) (lock u m) → ⊥
-      nl u m p = let z : _≡_ {A = ℕ} 0 1 = cc in omega arith
+      nl : (u m i : ℕ) → _≡_ {A = Event X} (mem κ t v x) (lock i u m) → ⊥
+      nl u m i p = let z : _≡_ {A = ℕ} 0 1 = cc in omega arith
 
       step : (d : Dec (Busy 𝓛 t es)) → Traced es (sections 𝓛 es) → Traced (mem κ t v x ∷ es) (next (mem κ t v x) d (suc (length es)) (sections 𝓛 es))
       step (yes b) k = traced-push (mem κ t v x) es (sections 𝓛 es) k nl b

@@ -8,7 +8,7 @@ use mathlib.Core.List.{List, [], _∷_, _++_, append-assoc, cons≢nil}
 use native.Mathlib.Omega.{arith}
 use lib.ListN.{length}
 use lib.Dec.{T}
-use Rattle.serial.specs.Events.{Event, lock, unlock, mem, thread}
+use Rattle.serial.specs.Events.{Event, lock, unlock, idle, mem, thread}
 use Rattle.serial.specs.Sections.{Section, opened, grown, raised, blank, push, current, without, next, flat, Locks, Busy, Shrunk, sections, Exclusive, TwoPhase, Under}
 
 abbrev pub keep : {A : Type 0} → Bool → A → List A → List A
@@ -229,10 +229,10 @@ module _ {X : Type 0} (𝓛 : Locks X) where
   mutex [] ok t u l ht hu = absurd (𝓛 .held-none t l ht)
   mutex (e ∷ es) ok t u l ht hu = step (𝓛 .held-back t l e es ht) (𝓛 .held-back u l e es hu) (mutex es (ok .1) t u l)
     where
-      step : (e ≡ lock t l) ⊎ 𝓛 .Held t l es → (e ≡ lock u l) ⊎ 𝓛 .Held u l es → (𝓛 .Held t l es → 𝓛 .Held u l es → t ≡ u) → t ≡ u
-      step (inl p) (inl q) h = cc
-      step (inl p) (inr b) h = sym (ok .0 t l p u b)
-      step (inr a) (inl q) h = ok .0 u l q t a
+      step : ((j : ℕ) × (e ≡ lock j t l)) ⊎ 𝓛 .Held t l es → ((j : ℕ) × (e ≡ lock j u l)) ⊎ 𝓛 .Held u l es → (𝓛 .Held t l es → 𝓛 .Held u l es → t ≡ u) → t ≡ u
+      step (inl p) (inl q) h = let a = p .1 in let b = q .1 in cc
+      step (inl p) (inr b) h = sym (ok .0 t l (p .0) (p .1) u b)
+      step (inr a) (inl q) h = ok .0 u l (q .0) (q .1) t a
       step (inr a) (inr b) h = h a b
 
 module _ {X : Type 0} (𝓛 : Locks X) (hit : Event X → Bool) (g : ℕ) where
@@ -250,15 +250,15 @@ module _ {X : Type 0} (𝓛 : Locks X) (hit : Event X → Bool) (g : ℕ) where
   unfolding Shrunk
   not-shrunk t e es b n s = n (b, inr s)
 
-  not-unlock : (t : ℕ) (e : Event X) (es : List (Event X)) → Busy 𝓛 t (e ∷ es) → (Shrunk 𝓛 t (e ∷ es) → ⊥) → (m : ℕ) → e ≡ unlock t m → ⊥
+  not-unlock : (t : ℕ) (e : Event X) (es : List (Event X)) → Busy 𝓛 t (e ∷ es) → (Shrunk 𝓛 t (e ∷ es) → ⊥) → (m j : ℕ) → e ≡ unlock j t m → ⊥
   unfolding Shrunk
-  not-unlock t e es b n m p = n (b, inl (m, p))
+  not-unlock t e es b n m j p = n (b, inl (m, j, p))
 
-  back : (t l : ℕ) (e : Event X) (es : List (Event X)) → (e ≡ lock t l → ⊥) → 𝓛 .Held t l (e ∷ es) → 𝓛 .Held t l es
+  back : (t l : ℕ) (e : Event X) (es : List (Event X)) → ((j : ℕ) → e ≡ lock j t l → ⊥) → 𝓛 .Held t l (e ∷ es) → 𝓛 .Held t l es
   back t l e es n h = step (𝓛 .held-back t l e es h)
     where
-      step : (e ≡ lock t l) ⊎ 𝓛 .Held t l es → 𝓛 .Held t l es
-      step (inl p) = absurd (n p)
+      step : ((j : ℕ) × (e ≡ lock j t l)) ⊎ 𝓛 .Held t l es → 𝓛 .Held t l es
+      step (inl p) = absurd (n (p .0) (p .1))
       step (inr a) = a
 
   tell : (b : Bool) → (b ≡ false) ⊎ (b ≡ true)
@@ -284,7 +284,7 @@ module _ {X : Type 0} (𝓛 : Locks X) (hit : Event X → Bool) (g : ℕ) where
   module _ (e : Event X) (es : List (Event X)) (ss : List (Section X)) (k : Kept ss es) (ex : Exclusive 𝓛 (e ∷ es)) (tw : TwoPhase 𝓛 (e ∷ es))
       (un : hit e ≡ true → 𝓛 .Held (thread e) g es) where
     -- an event that is no K joins its thread's section
-    joined : ((t l : ℕ) → e ≡ lock t l → ⊥) → (n : ℕ) → Kept (push (thread e) n e ss) (e ∷ es)
+    joined : ((t l j : ℕ) → e ≡ lock j t l → ⊥) → (n : ℕ) → Kept (push (thread e) n e ss) (e ∷ es)
     unfolding Exclusive
     joined nl n = record { same = same (tell (hit e)); clear = clear; keeps = keeps }
       where
@@ -318,7 +318,7 @@ module _ {X : Type 0} (𝓛 : Locks X) (hit : Event X → Bool) (g : ℕ) where
             step (no p) d = k .keeps t b′ s′ (λ z. c (rw (push-other-cur hit t (thread e) n e ss p) z))
 
     -- an event of a thread that holds nothing, and that is no K, changes no section
-    outside : ((t l : ℕ) → e ≡ lock t l → ⊥) → (Busy 𝓛 (thread e) es → ⊥) → Kept ss (e ∷ es)
+    outside : ((t l j : ℕ) → e ≡ lock j t l → ⊥) → (Busy 𝓛 (thread e) es → ⊥) → Kept ss (e ∷ es)
     outside nl i = record {
       same = same (tell (hit e));
       clear = λ t h. k .clear t (back t g e es (nl t g) h);
@@ -331,12 +331,12 @@ module _ {X : Type 0} (𝓛 : Locks X) (hit : Event X → Bool) (g : ℕ) where
         same (inl m) = k .same ∙ sym (proj-miss e es m)
         same (inr m) = absurd (i (g, un m))
 
-    module _ (t l : ℕ) (is : e ≡ lock t l) (m : hit e ≡ false) where
-      no-unlock : (u n : ℕ) → e ≡ unlock u n → ⊥
-      no-unlock u n p = let z : _≡_ {A = ℕ} 0 1 = cc in omega arith
+    module _ (t l j : ℕ) (is : e ≡ lock j t l) (m : hit e ≡ false) where
+      no-unlock : (u n i : ℕ) → e ≡ unlock i u n → ⊥
+      no-unlock u n i p = let z : _≡_ {A = ℕ} 0 1 = cc in omega arith
 
       other : (u : ℕ) → (t ≡ u → ⊥) → (n : ℕ) → 𝓛 .Held u n (e ∷ es) → 𝓛 .Held u n es
-      other u o n h = back u n e es (λ p. o (cc)) h
+      other u o n h = back u n e es (λ i p. o (cc)) h
 
       -- a K by a thread that holds nothing opens a section
       opens : (n : ℕ) → Kept (opened t n e ∷ ss) (e ∷ es)
@@ -371,7 +371,7 @@ module _ {X : Type 0} (𝓛 : Locks X) (hit : Event X → Bool) (g : ℕ) where
           in-top = proj-miss e (current t n ss .events) m ∙ ap (proj hit) (current-events hit t n ss)
 
           holds : (proj hit (cur hit t ss) ≡ [] → ⊥) → 𝓛 .Held t g es
-          holds c = k .keeps t bt (tw .0 t l is) c
+          holds c = k .keeps t bt (tw .0 t l j is) c
 
           same : (proj hit (cur hit t ss) ≡ []) ⊎ (proj hit (cur hit t ss) ≡ [] → ⊥) → proj hit (top .events ++ flat (without t ss)) ≡ proj hit (e ∷ es)
           same (inl z) = rw (proj-append hit (top .events) (flat (without t ss)), in-top, z, without-none hit t ss z, k .same, proj-miss e es m)
@@ -394,26 +394,34 @@ module _ {X : Type 0} (𝓛 : Locks X) (hit : Event X → Bool) (g : ℕ) where
                   (λ z. c (rw (behind-cur hit u top (without t ss) p, without-other-cur hit u t ss p) z))
 
   -- Reordering the sections by their last K keeps the events that pass as they stand in the trace.
-  pub kept : ((t l : ℕ) → hit (lock t l) ≡ false) → (es : List (Event X)) → Exclusive 𝓛 es → TwoPhase 𝓛 es → Under 𝓛 hit g es → Kept (sections 𝓛 es) es
+  pub kept : ((t l j : ℕ) → hit (lock j t l) ≡ false) → (es : List (Event X)) → Exclusive 𝓛 es → TwoPhase 𝓛 es → Under 𝓛 hit g es → Kept (sections 𝓛 es) es
   unfolding sections flat Exclusive TwoPhase Under next
   kept hl [] ex tw un = record { same = refl; clear = λ t h. absurd (𝓛 .held-none t g h); keeps = λ t b s c. absurd (𝓛 .held-none t (b .0) (b .1)) }
-  kept hl (lock t l ∷ es) ex tw un = step (𝓛 .busy? t es) (kept hl es (ex .1) (tw .1) (un .1))
+  kept hl (lock j t l ∷ es) ex tw un = step (𝓛 .busy? t es) (kept hl es (ex .1) (tw .1) (un .1))
     where
-      step : (d : Dec (Busy 𝓛 t es)) → Kept (sections 𝓛 es) es → Kept (next (lock t l) d (suc (length es)) (sections 𝓛 es)) (lock t l ∷ es)
-      step (yes b) k = raises (lock t l) es (sections 𝓛 es) k ex tw (un .0) t l refl (hl t l) (suc (length es)) b
-      step (no b) k = opens (lock t l) es (sections 𝓛 es) k ex tw (un .0) t l refl (hl t l) (suc (length es))
-  kept hl (unlock t l ∷ es) ex tw un = step (𝓛 .busy? t es) (kept hl es (ex .1) (tw .1) (un .1))
+      step : (d : Dec (Busy 𝓛 t es)) → Kept (sections 𝓛 es) es → Kept (next (lock j t l) d (suc (length es)) (sections 𝓛 es)) (lock j t l ∷ es)
+      step (yes b) k = raises (lock j t l) es (sections 𝓛 es) k ex tw (un .0) t l j refl (hl t l j) (suc (length es)) b
+      step (no b) k = opens (lock j t l) es (sections 𝓛 es) k ex tw (un .0) t l j refl (hl t l j) (suc (length es))
+  kept hl (unlock j t l ∷ es) ex tw un = step (𝓛 .busy? t es) (kept hl es (ex .1) (tw .1) (un .1))
     where
-      nl : (u m : ℕ) → _≡_ {A = Event X} (unlock t l) (lock u m) → ⊥
-      nl u m p = let z : _≡_ {A = ℕ} 0 1 = cc in omega arith
+      nl : (u m i : ℕ) → _≡_ {A = Event X} (unlock j t l) (lock i u m) → ⊥
+      nl u m i p = let z : _≡_ {A = ℕ} 0 1 = cc in omega arith
 
-      step : (d : Dec (Busy 𝓛 t es)) → Kept (sections 𝓛 es) es → Kept (next (unlock t l) d (suc (length es)) (sections 𝓛 es)) (unlock t l ∷ es)
-      step (yes b) k = joined (unlock t l) es (sections 𝓛 es) k ex tw (un .0) nl (suc (length es))
-      step (no b) k = outside (unlock t l) es (sections 𝓛 es) k ex tw (un .0) nl b
+      step : (d : Dec (Busy 𝓛 t es)) → Kept (sections 𝓛 es) es → Kept (next (unlock j t l) d (suc (length es)) (sections 𝓛 es)) (unlock j t l ∷ es)
+      step (yes b) k = joined (unlock j t l) es (sections 𝓛 es) k ex tw (un .0) nl (suc (length es))
+      step (no b) k = outside (unlock j t l) es (sections 𝓛 es) k ex tw (un .0) nl b
+  kept hl (idle t ∷ es) ex tw un = step (𝓛 .busy? t es) (kept hl es (ex .1) (tw .1) (un .1))
+    where
+      nl : (u m i : ℕ) → _≡_ {A = Event X} (idle t) (lock i u m) → ⊥
+      nl u m i p = let z : _≡_ {A = ℕ} 0 1 = cc in omega arith
+
+      step : (d : Dec (Busy 𝓛 t es)) → Kept (sections 𝓛 es) es → Kept (next (idle t) d (suc (length es)) (sections 𝓛 es)) (idle t ∷ es)
+      step (yes b) k = joined (idle t) es (sections 𝓛 es) k ex tw (un .0) nl (suc (length es))
+      step (no b) k = outside (idle t) es (sections 𝓛 es) k ex tw (un .0) nl b
   kept hl (mem κ t v x ∷ es) ex tw un = step (𝓛 .busy? t es) (kept hl es (ex .1) (tw .1) (un .1))
     where
-      nl : (u m : ℕ) → _≡_ {A = Event X} (mem κ t v x) (lock u m) → ⊥
-      nl u m p = let z : _≡_ {A = ℕ} 0 1 = cc in omega arith
+      nl : (u m i : ℕ) → _≡_ {A = Event X} (mem κ t v x) (lock i u m) → ⊥
+      nl u m i p = let z : _≡_ {A = ℕ} 0 1 = cc in omega arith
 
       step : (d : Dec (Busy 𝓛 t es)) → Kept (sections 𝓛 es) es → Kept (next (mem κ t v x) d (suc (length es)) (sections 𝓛 es)) (mem κ t v x ∷ es)
       step (yes b) k = joined (mem κ t v x) es (sections 𝓛 es) k ex tw (un .0) nl (suc (length es))

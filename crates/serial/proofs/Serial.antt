@@ -8,7 +8,7 @@ use mathlib.Core.Logic.{_⊎_, inl, inr, ite}
 use mathlib.Core.Bool.{Bool, true, false, _||_, true≢false, false≢true}
 use mathlib.Core.List.{List, [], _∷_, _++_}
 use lib.ListN.{length}
-use Rattle.serial.specs.Events.{Kind, Use, Assign, Load, Store, Read, Write, PrescientStore, PrescientAssign, Event, lock, unlock, mem, thread}
+use Rattle.serial.specs.Events.{Kind, Use, Assign, Load, Store, Read, Write, PrescientStore, PrescientAssign, Event, lock, unlock, idle, mem, thread}
 use Rattle.serial.specs.Sections.{Section, flat, Locks, Exclusive, TwoPhase, Under, sections}
 use Rattle.serial.proofs.Order.{keep, proj, Kept, kept}
 use Rattle.serial.specs.Words.{Cell, Act, own, other, Touch, at, elsewhere, touch, seenBy, act, assigned, through, guarded, guardedAt, uses, Allowed, cell, main, plain, Accepted}
@@ -117,8 +117,9 @@ module _ {X : Type 0} (z : X) where
 
     fits-event : (es : List (Event X)) → Guarded z 𝓛 g v es → (e : Event X) → (uses v e ≡ true → 𝓛 .Held (thread e) g es)
         → ((u : ℕ) → Allowed (act u v e) (cell z u v es) (main z v es)) → Fits (touch v e) (plain z v es)
-    fits-event es G (lock u l) un al = tt
-    fits-event es G (unlock u l) un al = tt
+    fits-event es G (lock j u l) un al = tt
+    fits-event es G (unlock j u l) un al = tt
+    fits-event es G (idle u) un al = tt
     fits-event es G (mem k u w x) un al = fits-mem es G k u w x un (al u)
 
     -- each use has the value of the latest A or B before it, by any thread
@@ -142,7 +143,7 @@ module _ {X : Type 0} (z : X) where
         → Right v (flat (sections 𝓛 es)) × (plain z v (flat (sections 𝓛 es)) ≡ main z v es)
     serial es ex tw ac un n =
         let cv : Covered z 𝓛 g v es = ended-covered es n in
-        let k : Kept 𝓛 (uses v) g (sections 𝓛 es) es = kept 𝓛 (uses v) g (λ t l. refl) es ex tw un in (
+        let k : Kept 𝓛 (uses v) g (sections 𝓛 es) es = kept 𝓛 (uses v) g (λ t l j. refl) es ex tw un in (
           same-uses v (flat (sections 𝓛 es)) es (k .same) (trace-right es ex ac un cv),
           same-plain v (flat (sections 𝓛 es)) es (k .same) ∙ sym (guarded-holds z 𝓛 g v es ex ac un cv .free (n .unheld)),
         )

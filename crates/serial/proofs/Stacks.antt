@@ -4,7 +4,7 @@ use native.Mathlib.Decide.{ℕ-discrete}
 use mathlib.Core.Path.{_≡_, refl, sym, ap, _∙_}
 use mathlib.Core.Logic.{ite}
 use mathlib.Core.List.{List, [], _∷_}
-use Rattle.serial.specs.Events.{Event, lock, unlock, mem, thread}
+use Rattle.serial.specs.Events.{Event, lock, unlock, idle, mem, thread}
 use Rattle.serial.specs.Sections.{Section, opened, grown, raised, blank, push, current, without, next}
 
 module _ {X : Type 0} where
@@ -98,20 +98,22 @@ module _ {X : Type 0} where
   -- of another thread
   pub own-next-other : {B : Type 0} (u : ℕ) (e : Event X) (d : Dec B) (n : ℕ) (ss : List (Section X)) → (thread e ≡ u → ⊥) → own u (next e d n ss) ≡ own u ss
   unfolding next
-  own-next-other u (lock t l) (yes b) n ss o = own-other u (raised t n (lock t l) (current t n ss)) (without t ss) o ∙ own-without-other t u ss o
-  own-next-other u (lock t l) (no b) n ss o = own-other u (opened t n (lock t l)) ss o
-  own-next-other u (unlock t l) (yes b) n ss o = own-push-other t u n (unlock t l) ss o
-  own-next-other u (unlock t l) (no b) n ss o = refl
+  own-next-other u (lock j t l) (yes b) n ss o = own-other u (raised t n (lock j t l) (current t n ss)) (without t ss) o ∙ own-without-other t u ss o
+  own-next-other u (lock j t l) (no b) n ss o = own-other u (opened t n (lock j t l)) ss o
+  own-next-other u (unlock j t l) (yes b) n ss o = own-push-other t u n (unlock j t l) ss o
+  own-next-other u (unlock j t l) (no b) n ss o = refl
+  own-next-other u (idle t) (yes b) n ss o = own-push-other t u n (idle t) ss o
+  own-next-other u (idle t) (no b) n ss o = refl
   own-next-other u (mem k t v x) (yes b) n ss o = own-push-other t u n (mem k t v x) ss o
   own-next-other u (mem k t v x) (no b) n ss o = refl
 
   -- its own K
-  pub own-next-lock : {B : Type 0} (t l : ℕ) (b : B) (n : ℕ) (ss : List (Section X))
-      → own t (next (lock t l) (yes b) n ss) ≡ raised t n (lock t l) (front t n (own t ss)) ∷ rest (own t ss)
+  pub own-next-lock : {B : Type 0} (j t l : ℕ) (b : B) (n : ℕ) (ss : List (Section X))
+      → own t (next (lock j t l) (yes b) n ss) ≡ raised t n (lock j t l) (front t n (own t ss)) ∷ rest (own t ss)
   unfolding next
-  own-next-lock t l b n ss =
-      own-mine t (raised t n (lock t l) (current t n ss)) (without t ss) refl ∙ rw (own-without t ss, own-current t n ss)
+  own-next-lock j t l b n ss =
+      own-mine t (raised t n (lock j t l) (current t n ss)) (without t ss) refl ∙ rw (own-without t ss, own-current t n ss)
 
-  pub own-next-open : {B : Type 0} (t l : ℕ) (b : B → ⊥) (n : ℕ) (ss : List (Section X)) → own t (next (lock t l) (no b) n ss) ≡ opened t n (lock t l) ∷ own t ss
+  pub own-next-open : {B : Type 0} (j t l : ℕ) (b : B → ⊥) (n : ℕ) (ss : List (Section X)) → own t (next (lock j t l) (no b) n ss) ≡ opened t n (lock j t l) ∷ own t ss
   unfolding next
-  own-next-open t l b n ss = own-mine t (opened t n (lock t l)) ss refl
+  own-next-open j t l b n ss = own-mine t (opened t n (lock j t l)) ss refl

@@ -8,7 +8,7 @@ use mathlib.Core.Logic.{_⊎_, inl, inr, ite}
 use mathlib.Core.Bool.{Bool, true, false}
 use mathlib.Core.List.{List, [], _∷_, _++_, map, reverse, reverseAux, reverse-append, reverse-reverse, append-assoc, append-nil}
 use lib.ListN.{length}
-use Rattle.serial.specs.Events.{Kind, Use, Assign, Load, Store, Read, Write, PrescientStore, PrescientAssign, Event, lock, unlock, mem, thread}
+use Rattle.serial.specs.Events.{Kind, Use, Assign, Load, Store, Read, Write, PrescientStore, PrescientAssign, Event, lock, unlock, idle, mem, thread}
 use Rattle.serial.specs.Sections.{Section, flat, Locks, Exclusive, TwoPhase, Under, sections}
 use Rattle.serial.proofs.Order.{keep, proj, Kept, kept}
 use Rattle.serial.specs.Entry.{Entry, entry}
@@ -39,8 +39,9 @@ module _ {X : Type 0} where
 
   -- what an event gets from the memory, put before a list: a use gets its variable's value
   abbrev pub got : Event X → (ℕ → X) → List X → List X
-  got (lock t l) m xs = xs
-  got (unlock t l) m xs = xs
+  got (lock j t l) m xs = xs
+  got (unlock j t l) m xs = xs
+  got (idle t) m xs = xs
   got (mem Use t v x) m xs = m v ∷ xs
   got (mem Assign t v x) m xs = xs
   got (mem Load t v x) m xs = xs
@@ -57,8 +58,9 @@ module _ {X : Type 0} where
 
   -- the values in the uses themselves
   abbrev pub says : Event X → List X → List X
-  says (lock t l) xs = xs
-  says (unlock t l) xs = xs
+  says (lock j t l) xs = xs
+  says (unlock j t l) xs = xs
+  says (idle t) xs = xs
   says (mem Use t v x) xs = x ∷ xs
   says (mem Assign t v x) xs = xs
   says (mem Load t v x) xs = xs
@@ -74,8 +76,9 @@ module _ {X : Type 0} where
 
   -- the event's variable is below n
   abbrev pub Names : ℕ → Event X → Type 0
-  Names n (lock t l) = Unit {0}
-  Names n (unlock t l) = Unit {0}
+  Names n (lock j t l) = Unit {0}
+  Names n (unlock j t l) = Unit {0}
+  Names n (idle t) = Unit {0}
   Names n (mem k t v x) = v < n
 
   -- ---- between and taken, serially and flat: the same events, the other way round
@@ -133,8 +136,9 @@ module _ {X : Type 0} where
         step (no p) = absurd (p refl)
 
     got-says : (n : ℕ) (e : Event X) (m : ℕ → X) (xs ys : List X) → Names n e → ((v : ℕ) → v < n → Fits (touch v e) (m v)) → xs ≡ ys → got e m xs ≡ says e ys
-    got-says n (lock t l) m xs ys d f p = p
-    got-says n (unlock t l) m xs ys d f p = p
+    got-says n (lock j t l) m xs ys d f p = p
+    got-says n (unlock j t l) m xs ys d f p = p
+    got-says n (idle t) m xs ys d f p = p
     got-says n (mem Use t v x) m xs ys d f p = ap₂ (λ a b. a ∷ b) (rw (touch-self Use t v x) at (f v d)) p
     got-says n (mem Assign t v x) m xs ys d f p = p
     got-says n (mem Load t v x) m xs ys d f p = p
@@ -220,7 +224,7 @@ module _ {X : Type 0} (z : X) (𝓛 : Locks X) where
   demand-3 n guard trace names ex tw ac un en = record {
     whole = λ v h. reverse-inj (proj (uses v) ran) (proj (uses v) trace)
         (reverse-proj (uses v) ran ∙ ap (proj (uses v)) (serial-flat trace)
-        ∙ kept 𝓛 (uses v) (guard v) (λ t l. refl) (reverse trace) ex tw (un v h) .same ∙ sym (reverse-proj (uses v) trace));
+        ∙ kept 𝓛 (uses v) (guard v) (λ t l j. refl) (reverse trace) ex tw (un v h) .same ∙ sym (reverse-proj (uses v) trace));
     uses-right = given-right z n ran [] (All-serially (Names n) trace (order 𝓛 trace) names)
         (λ v h. rw (serial-flat trace) (proved v h .0));
     ends-right = λ v h. after-plain z v ran [] ∙ ap (plain z v) (serial-flat trace) ∙ proved v h .1;

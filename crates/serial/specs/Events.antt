@@ -7,13 +7,16 @@ use mathlib.Core.Bool.{Bool, true, false}
 pub data Kind : Type 0 where
   Use Assign Load Store Read Write PrescientStore PrescientAssign : Kind
 
+-- The first number of a lock and of an unlock the theory does not read: what it is to hold a lock may. An idle event does nothing.
 pub data Event (X : Type 0) : Type 0 where
-  lock : ℕ → ℕ → Event X
-  unlock : ℕ → ℕ → Event X
+  lock : ℕ → ℕ → ℕ → Event X
+  unlock : ℕ → ℕ → ℕ → Event X
+  idle : ℕ → Event X
   mem : Kind → ℕ → ℕ → X → Event X
 
 module _ {X : Type 0} where
   abbrev pub thread : Event X → ℕ
-  thread (lock t l) = t
-  thread (unlock t l) = t
+  thread (lock j t l) = t
+  thread (unlock j t l) = t
+  thread (idle t) = t
   thread (mem k t v x) = t

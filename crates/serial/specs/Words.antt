@@ -8,7 +8,7 @@ use mathlib.Core.Bool.{Bool, true, false, _||_}
 use mathlib.Core.List.{List, [], _∷_, _++_, tail}
 use lib.ListN.{length}
 use lib.Dec.{ltb}
-use Rattle.serial.specs.Events.{Kind, Use, Assign, Load, Store, Read, Write, PrescientStore, PrescientAssign, Event, lock, unlock, mem, thread}
+use Rattle.serial.specs.Events.{Kind, Use, Assign, Load, Store, Read, Write, PrescientStore, PrescientAssign, Event, lock, unlock, idle, mem, thread}
 
 pub record Slot (X : Type 0) : Type 0 where
   pub position : ℕ
@@ -51,8 +51,9 @@ guarded PrescientAssign = true
 
 module _ {X : Type 0} where
   abbrev pub touch : ℕ → Event X → Touch X
-  touch v (lock t l) = elsewhere
-  touch v (unlock t l) = elsewhere
+  touch v (lock j t l) = elsewhere
+  touch v (unlock j t l) = elsewhere
+  touch v (idle t) = elsewhere
   touch v (mem k t w x) = ite {C = Touch X} (ℕ-discrete w v) (at k x) elsewhere
 
   abbrev pub seenBy : {A : Type 0} → Dec A → Touch X → Act X
@@ -62,8 +63,9 @@ module _ {X : Type 0} where
   seenBy (no p) elsewhere = nothing
 
   abbrev pub act : ℕ → ℕ → Event X → Act X
-  act t v (lock u l) = ite {C = Act X} (ℕ-discrete u t) locks nothing
-  act t v (unlock u l) = ite {C = Act X} (ℕ-discrete u t) unlocks nothing
+  act t v (lock j u l) = ite {C = Act X} (ℕ-discrete u t) locks nothing
+  act t v (unlock j u l) = ite {C = Act X} (ℕ-discrete u t) unlocks nothing
+  act t v (idle u) = nothing
   act t v (mem k u w x) = seenBy (ℕ-discrete u t) (touch v (mem k u w x))
 
   -- the position of the oldest outstanding read
