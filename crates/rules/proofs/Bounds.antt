@@ -8,7 +8,7 @@ use borrow.Author.Tests.{ltb-true, leb-true}
 use Rattle.rules.specs.declared.Event.{Event}
 use Rattle.rules.specs.declared.Counts.{Counts}
 use Rattle.rules.specs.Events.{place, onLock}
-use Rattle.rules.specs.Limits.{full, allowed, declared}
+use Rattle.rules.specs.Limits.{full, firstLine, allowed, declared}
 
 false-true : false ≡ true → ⊥
 false-true e = let z : _≡_ {A = ℕ} 0 1 = cc in omega arith
@@ -36,3 +36,8 @@ declared-bounds h e a d = by (ltb (e .thread) (h .threads)) refl (onLock e) d
     by true r true d = (omega (arith, ltb-true (e .thread) (h .threads) r, allowed-bounds h a), omega (arith, ltb-true (place (e .kind)) (h .locks) d, allowed-bounds h a))
     by true r false d = (omega (arith, ltb-true (e .thread) (h .threads) r, allowed-bounds h a), omega (arith, ltb-true (place (e .kind)) (h .variables) d, allowed-bounds h a))
     by false r o d = absurd (false-true d)
+
+-- events start behind the head and the guards
+pub first-line-low : (h : Counts) → 3 ≤ firstLine h
+unfolding firstLine
+first-line-low h = omega arith

@@ -21,7 +21,7 @@ unfolding markFrom
 mark-on m c es e rest v = rw v
 
 -- the event is refused: the marking ends with it
-pub mark-stop : (m : Limits) (c : Counts) (es : List Event) (e : Event) (rest : List Event) (n : ℕ) → verdict m c es e ≡ suc n → markFrom m c es (e ∷ rest) ≡ refused (suc n) (lineAfter (length es))
+pub mark-stop : (m : Limits) (c : Counts) (es : List Event) (e : Event) (rest : List Event) (n : ℕ) → verdict m c es e ≡ suc n → markFrom m c es (e ∷ rest) ≡ refused (suc n) (lineAfter c (length es))
 unfolding markFrom
 mark-stop m c es e rest n v = rw v
 
@@ -39,7 +39,7 @@ pub walk-accepts : (m : Limits) (c : Counts) (rest es : List Event) → T (Accep
 unfolding markFrom
 walk-accepts m c [] es a p = a
 walk-accepts m c (e ∷ rest) es a p =
-    let q = split (verdict m c es e) (verdict m c es e) (lineAfter (length es)) (markFrom m c (e ∷ es) rest) refl p in
+    let q = split (verdict m c es e) (verdict m c es e) (lineAfter c (length es)) (markFrom m c (e ∷ es) rest) refl p in
     walk-accepts m c rest (e ∷ es) (accepted-cons m c e es (q .0) a) (q .1)
 
 left-accepted : (m : Limits) (c : Counts) (rest es : List Event) → T (Accepted m c (reverseAux rest es)) → T (Accepted m c es)
@@ -73,9 +73,9 @@ walk-refuses : (m : Limits) (c : Counts) (number line : ℕ) (rest before : List
 unfolding markFrom
 walk-refuses m c number line [] before a p = absurd (subst Wrong (sym p) tt)
 walk-refuses m c number line (e ∷ rest) before a p =
-    elim (stops (verdict m c (reverse before) e) (lineAfter (length (reverse before))) (markFrom m c (e ∷ reverse before) rest) number line p) [
+    elim (stops (verdict m c (reverse before) e) (lineAfter c (length (reverse before))) (markFrom m c (e ∷ reverse before) rest) number line p) [
       | inl q ↦ rw append-assoc at (walk-refuses m c number line rest (before ++ (e ∷ [])) (rw reverse-append (accepted-cons m c e (reverse before) (q .0) a)) (rw reverse-append (q .1)))
-      | inr q ↦ record { before = before; event = e; rest = rest; place = refl; clean = a; number-is = q .0; wrong = q .1; line-is = q .2 ∙ ap lineAfter (length-reverse before) }
+      | inr q ↦ record { before = before; event = e; rest = rest; place = refl; clean = a; number-is = q .0; wrong = q .1; line-is = q .2 ∙ ap (lineAfter c) (length-reverse before) }
     ]
 
 -- a trace is refused exactly with the number and line of its first bad event
@@ -94,6 +94,6 @@ unfolding mark
 refuses-mark m c events number line b =
     rw (b .place, b .line-is, ← (length-reverse (b .before))) (walk-over m c (b .before) [] (b .event ∷ b .rest) (b .clean) ∙ at-bad number (b .wrong) (b .number-is))
   where
-    at-bad : (n : ℕ) → 0 < n → verdict m c (reverse (b .before)) (b .event) ≡ n → markFrom m c (reverse (b .before)) (b .event ∷ b .rest) ≡ refused n (lineAfter (length (reverse (b .before))))
+    at-bad : (n : ℕ) → 0 < n → verdict m c (reverse (b .before)) (b .event) ≡ n → markFrom m c (reverse (b .before)) (b .event ∷ b .rest) ≡ refused n (lineAfter c (length (reverse (b .before))))
     at-bad zero h v = absurd (not-suc-le-zero h)
     at-bad (suc n) h v = mark-stop m c (reverse (b .before)) (b .event) (b .rest) n v

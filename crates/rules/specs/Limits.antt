@@ -32,12 +32,12 @@ abbrev pub most : ℕ
 most = 8
 
 -- Line 1 is the head, line 2 the guards; then the event lines.
-abbrev pub firstLine : ℕ
-firstLine = 3
+unfoldable pub firstLine : Counts → ℕ
+firstLine h = 3
 
 -- the line of the event that comes after n events
-abbrev pub lineAfter : ℕ → ℕ
-lineAfter n = n + firstLine
+abbrev pub lineAfter : Counts → ℕ → ℕ
+lineAfter h n = n + firstLine h
 
 -- A value is a signed number of 32 bits.
 abbrev pub valueWidth : Width

@@ -213,7 +213,7 @@ unless (suc n) line m = refused (suc n) line
 -- the events es are earlier, the latest first
 unfoldable pub markFrom : Limits → Counts → List Event → List Event → Marked
 markFrom m h es [] = accepted
-markFrom m h es (e ∷ rest) = let later = markFrom m h (e ∷ es) rest in unless (verdict m h es e) (lineAfter (length es)) later
+markFrom m h es (e ∷ rest) = let later = markFrom m h (e ∷ es) rest in unless (verdict m h es e) (lineAfter h (length es)) later
 
 unfoldable pub mark : Limits → Counts → List Event → Marked
 mark m h events = markFrom m h [] events
@@ -227,4 +227,4 @@ pub record FirstBad (m : Limits) (c : Counts) (events : List Event) (number line
   pub clean : T (Accepted m c (reverse before))
   pub number-is : verdict m c (reverse before) event ≡ number
   pub wrong : 0 < number
-  pub line-is : line ≡ lineAfter (length before)
+  pub line-is : line ≡ lineAfter c (length before)

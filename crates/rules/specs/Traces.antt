@@ -54,7 +54,7 @@ two = record { threads = 2; variables = 2; locks = 2 }
 -- the refusal of event n, from 1
 abbrev pub bad : ℕ → ℕ → Marked
 bad number zero = accepted
-bad number (suc n) = refused number (lineAfter n)
+bad number (suc n) = refused number (lineAfter two n)
 
 -- a row of the table: the events, the verdict, and main memory of variable 0 where the row says it
 pub record Trace : Type 0 where

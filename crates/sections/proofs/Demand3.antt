@@ -80,10 +80,10 @@ demand-3 m h guard events a = record {
     only p = subst (λ x. Says h guard events x) p said
 
     ran : List Event
-    ran = serially (order h events) events
+    ran = serially h (order h events) events
 
     view-ran : Trace.serially (map view events) (spans h events) ≡ map view ran
-    view-ran = unfold order in serially-view (reverse (sections h (reverse events))) events
+    view-ran = unfold order in (serially-view h) (reverse (sections h (reverse events))) events
 
     uses : denial h guard events ≡ fit → given ran zeros ≡ stated ran
     uses p = unfold zeros in

@@ -17,6 +17,7 @@ use Rattle.rules.specs.declared.Kind.the-variants.{Use, Assign, Load, Store, Re
 use Rattle.rules.specs.declared.Counts.{Counts}
 use Rattle.rules.specs.Events.{B, P, is, of, on, locks}
 use Rattle.rules.specs.Limits.{lineAfter}
+use Rattle.rules.proofs.Bounds.{first-line-low}
 use Rattle.rules.specs.Words.{by, locksBy, latest, letterIn, pending}
 use Rattle.rules.specs.Rules as Rules
 use Rattle.rules.specs.Rules.{loc, wordsOf, held}
@@ -56,45 +57,45 @@ some-none x p = let z : _≡_ {A = ℕ} 0 1 = cc in omega arith
 
 -- ---- the line after n events
 
-pub event-after : (n : ℕ) (events : List Event) → eventAt (lineAfter n) events ≡ atPosition (suc n) events
+pub event-after : (hd : Counts) (n : ℕ) (events : List Event) → eventAt hd (lineAfter hd n) events ≡ atPosition (suc n) events
 unfolding eventAt
-event-after n events = rw (position-after n)
+event-after hd n events = rw (position-after hd n)
 
-pub up-to-last : (n : ℕ) (events : List Event) → upTo (lineAfter n - 1) events ≡ soFar n events
+pub up-to-last : (hd : Counts) (n : ℕ) (events : List Event) → upTo hd (lineAfter hd n - 1) events ≡ soFar n events
 unfolding upTo
-up-to-last n events = rw (position-last n)
+up-to-last hd n events = rw (position-last hd n)
 
 -- a line in which an event stands is one of the trace's
-pub event-below : (n : ℕ) (events : List Event) (e : Event) → eventAt n events ≡ some e → n < lineAfter (length events)
+pub event-below : (hd : Counts) (n : ℕ) (events : List Event) (e : Event) → eventAt hd n events ≡ some e → n < lineAfter hd (length events)
 unfolding eventAt
-event-below n events e s = go (position n) refl s
+event-below hd n events e s = go (position hd n) refl s
   where
-    go : (p : ℕ) → position n ≡ p → atPosition p events ≡ some e → n < lineAfter (length events)
+    go : (p : ℕ) → position hd n ≡ p → atPosition p events ≡ some e → n < lineAfter hd (length events)
     go zero q s = unfold position in omega arith
     go (suc p) q s = see (decLe (length events) p)
       where
-        see : Dec (length events ≤ p) → n < lineAfter (length events)
+        see : Dec (length events ≤ p) → n < lineAfter hd (length events)
         see (yes i) = absurd (some-none e (sym (nothing-past p events i) ∙ s))
-        see (no i) = position-ahead n (lineAfter (length events)) (rw (q, position-after (length events)) (omega arith))
+        see (no i) = position-ahead hd n (lineAfter hd (length events)) (rw (q, position-after hd (length events)) (omega arith))
 
 -- ---- 20
 
-module _ (guard : ℕ → ℕ) (events : List Event) where
-  to-20 : (n : ℕ) (e : Event) → atPosition (suc n) events ≡ some e → Unguarded guard events (lineAfter n) → notUnder guard (soFar n events) e ≡ true
+module _ (hd : Counts) (guard : ℕ → ℕ) (events : List Event) where
+  to-20 : (n : ℕ) (e : Event) → atPosition (suc n) events ≡ some e → Unguarded hd guard events (lineAfter hd n) → notUnder guard (soFar n events) e ≡ true
   unfolding notUnder
   to-20 n e s r =
-      let q : r .event ≡ e = some-same (r .event) e (sym (r .stands) ∙ event-after n events ∙ s) in
+      let q : r .event ≡ e = some-same (r .event) e (sym (r .stands) ∙ event-after hd n events ∙ s) in
       let b : held (wordsOf (soFar n events)) (r .event .thread) (guard (loc (r .event))) ≡ false =
-      subst (λ l. held (wordsOf l) (r .event .thread) (guard (loc (r .event))) ≡ false) (up-to-last n events) (r .notUnder) in
+      subst (λ l. held (wordsOf l) (r .event .thread) (guard (loc (r .event))) ≡ false) (up-to-last hd n events) (r .notUnder) in
       subst (λ x. (usesOrAssigns x && not (held (wordsOf (soFar n events)) (x .thread) (guard (loc x)))) ≡ true) q (rw (r .used, b))
 
-  from-20 : (n : ℕ) (e : Event) → atPosition (suc n) events ≡ some e → notUnder guard (soFar n events) e ≡ true → Unguarded guard events (lineAfter n)
+  from-20 : (n : ℕ) (e : Event) → atPosition (suc n) events ≡ some e → notUnder guard (soFar n events) e ≡ true → Unguarded hd guard events (lineAfter hd n)
   unfolding notUnder
   from-20 n e s r = record {
     event = e;
-    stands = event-after n events ∙ s;
+    stands = event-after hd n events ∙ s;
     used = both-l (usesOrAssigns e) (not (held (wordsOf (soFar n events)) (e .thread) (guard (loc e)))) r;
-    notUnder = rw (up-to-last n events)
+    notUnder = rw (up-to-last hd n events)
         (not-true (held (wordsOf (soFar n events)) (e .thread) (guard (loc e))) (both-r (usesOrAssigns e) (not (held (wordsOf (soFar n events)) (e .thread) (guard (loc e)))) r));
   }
 
@@ -170,37 +171,37 @@ module _ (c : Counts) (events : List Event) (d : All (Declared c) events) where
       go (no p) r = or-r (unlocksBy t e) (afterUnlock c t (soFar n events))
           (r (record { earlier = s .earlier; before = omega (arith, s .before); unlocks = s .unlocks; same = λ q i j. s .same q i (omega arith) }))
 
-  to-21 : (n : ℕ) (e : Event) → n < length events → atPosition (suc n) events ≡ some e → LateLock c events (lineAfter n) → lateLock c (soFar n events) e ≡ true
+  to-21 : (n : ℕ) (e : Event) → n < length events → atPosition (suc n) events ≡ some e → LateLock c events (lineAfter c n) → lateLock c (soFar n events) e ≡ true
   unfolding lateLock locksBy of
   to-21 n e h q r =
-      let k : (locks e && eqb (e .thread) (r .thread)) ≡ true = sym (lock-signal (r .thread) (suc n) events e q) ∙ sym (lock-line (r .thread) events (lineAfter n) (suc n) (position-after n)) ∙ r .locks in
+      let k : (locks e && eqb (e .thread) (r .thread)) ≡ true = sym (lock-signal (r .thread) (suc n) events e q) ∙ sym (lock-line c (r .thread) events (lineAfter c n) (suc n) (position-after c n)) ∙ r .locks in
       let t : e .thread ≡ r .thread = eqb-true (e .thread) (r .thread) (both-r (locks e) (eqb (e .thread) (r .thread)) k) in
       rw (both-l (locks e) (eqb (e .thread) (r .thread)) k, t)
-      (from-shrinking (r .thread) n (omega arith) (record { earlier = position (r .earlier); before = before; unlocks = sym (unlock-line (r .thread) events (r .earlier) (position (r .earlier)) refl) ∙ r .unlocks; same = same }))
+      (from-shrinking (r .thread) n (omega arith) (record { earlier = position c (r .earlier); before = before; unlocks = sym (unlock-line c (r .thread) events (r .earlier) (position c (r .earlier)) refl) ∙ r .unlocks; same = same }))
     where
-      before : position (r .earlier) ≤ n
-      before = let i : position (r .earlier) < position (lineAfter n) = position-up (r .earlier) (lineAfter n) (rw (position-after n) (omega arith)) (r .before) in omega (arith, i, position-after n)
+      before : position c (r .earlier) ≤ n
+      before = let i : position c (r .earlier) < position c (lineAfter c n) = position-up c (r .earlier) (lineAfter c n) (rw (position-after c n) (omega arith)) (r .before) in omega (arith, i, position-after c n)
 
-      same : (p : ℕ) → position (r .earlier) ≤ p → p ≤ n → holdsAfter c (r .thread) events p ≡ true
-      same p i j = sym (holding-line c (r .thread) events (lineOf p) p (position-line p)) ∙ r .same (lineOf p) (unfold position in omega arith) (omega arith)
+      same : (p : ℕ) → position c (r .earlier) ≤ p → p ≤ n → holdsAfter c (r .thread) events p ≡ true
+      same p i j = sym (holding-line c (r .thread) events (lineOf c p) p (position-line c p)) ∙ r .same (lineOf c p) (unfold position in omega arith) (omega arith)
 
-  from-21 : (n : ℕ) (e : Event) → n < length events → atPosition (suc n) events ≡ some e → lateLock c (soFar n events) e ≡ true → LateLock c events (lineAfter n)
+  from-21 : (n : ℕ) (e : Event) → n < length events → atPosition (suc n) events ≡ some e → lateLock c (soFar n events) e ≡ true → LateLock c events (lineAfter c n)
   unfolding lateLock locksBy of
   from-21 n e h q r = record {
     thread = e .thread;
-    locks = lock-line (e .thread) events (lineAfter n) (suc n) (position-after n) ∙ lock-signal (e .thread) (suc n) events e q
+    locks = lock-line c (e .thread) events (lineAfter c n) (suc n) (position-after c n) ∙ lock-signal (e .thread) (suc n) events e q
         ∙ rw (both-l (locks e) (afterUnlock c (e .thread) (soFar n events)) r, eq-eqb (e .thread) (e .thread) refl);
-    earlier = lineOf (s .earlier);
-    before = omega (arith, s .before);
-    unlocks = unlock-line (e .thread) events (lineOf (s .earlier)) (s .earlier) (position-line (s .earlier)) ∙ s .unlocks;
-    same = λ p i j. holding-line c (e .thread) events p (position p) refl
-        ∙ s .same (position p) (rw (position-line (s .earlier)) at (position-to (lineOf (s .earlier)) p i)) (to-last p j);
+    earlier = lineOf c (s .earlier);
+    before = omega (arith, s .before, first-line-low c);
+    unlocks = unlock-line c (e .thread) events (lineOf c (s .earlier)) (s .earlier) (position-line c (s .earlier)) ∙ s .unlocks;
+    same = λ p i j. holding-line c (e .thread) events p (position c p) refl
+        ∙ s .same (position c p) (rw (position-line c (s .earlier)) at (position-to c (lineOf c (s .earlier)) p i)) (to-last p j);
   }
     where
       s : Shrinking c (e .thread) events n
       s = to-shrinking (e .thread) n (omega arith) (both-r (locks e) (afterUnlock c (e .thread) (soFar n events)) r)
 
-      to-last : (p : ℕ) → p < lineAfter n → position p ≤ n
+      to-last : (p : ℕ) → p < lineAfter c n → position c p ≤ n
       to-last p j = unfold position in omega arith
 
 -- ---- 22
@@ -279,16 +280,16 @@ module _ (h : Counts) (events : List Event) (d : All (Declared h) events) where
           inr (record { thread = t; variable = v .0; pending = is-true (v .1) })
 
 -- nothing stands past the end
-pub unguarded-below : (guard : ℕ → ℕ) (events : List Event) (n : ℕ) → Unguarded guard events n → n < lineAfter (length events)
-unguarded-below guard events n r = event-below n events (r .event) (r .stands)
+pub unguarded-below : (hd : Counts) (guard : ℕ → ℕ) (events : List Event) (n : ℕ) → Unguarded hd guard events n → n < lineAfter hd (length events)
+unguarded-below hd guard events n r = event-below hd n events (r .event) (r .stands)
 
-pub late-below : (h : Counts) (events : List Event) (n : ℕ) → LateLock h events n → n < lineAfter (length events)
+pub late-below : (h : Counts) (events : List Event) (n : ℕ) → LateLock h events n → n < lineAfter h (length events)
 unfolding lockAt
-late-below h events n r = go (eventAt n events) refl (r .locks)
+late-below h events n r = go (eventAt h n events) refl (r .locks)
   where
-    go : (o : Option Event) → eventAt n events ≡ o → passes (locksBy (r .thread)) o ≡ true → n < lineAfter (length events)
+    go : (o : Option Event) → eventAt h n events ≡ o → passes (locksBy (r .thread)) o ≡ true → n < lineAfter h (length events)
     go none q k = absurd (false≢true k)
-    go (some e) q k = event-below n events e q
+    go (some e) q k = event-below h n events e q
 
 -- ---- the whole
 
@@ -298,20 +299,20 @@ Says h guard events fit = Orderly h guard events
 Says h guard events (denied number line) = Denies h guard events number line
 
 module _ (h : Counts) (guard : ℕ → ℕ) (events : List Event) (d : All (Declared h) events) where
-  walk : (k n : ℕ) → n + k ≡ length events → Clean h guard events (lineAfter n) → Says h guard events (denialFrom h guard (soFar n events) (drop n events))
+  walk : (k n : ℕ) → n + k ≡ length events → Clean h guard events (lineAfter h n) → Says h guard events (denialFrom h guard (soFar n events) (drop n events))
   unfolding denialFrom
   walk zero n l c = subst (λ i. Says h guard events (denialFrom h guard (soFar i events) (drop i events))) (sym whole) (rw (drop-length events, so-far-all events) (go (unfinished h (reverse events)) refl))
     where
       whole : n ≡ length events
       whole = omega arith
 
-      clean : Clean h guard events (lineAfter (length events))
-      clean = subst (λ i. Clean h guard events (lineAfter i)) whole c
+      clean : Clean h guard events (lineAfter h (length events))
+      clean = subst (λ i. Clean h guard events (lineAfter h i)) whole c
 
-      go : (b : Bool) → unfinished h (reverse events) ≡ b → Says h guard events (cond b (denied 22 (lineAfter (length (reverse events)))) fit)
+      go : (b : Bool) → unfinished h (reverse events) ≡ b → Says h guard events (cond b (denied 22 (lineAfter h (length (reverse events)))) fit)
       go true q = rw (length-reverse events) (D.unfinished refl refl clean (from-22 h events d q))
       go false q = record {
-        guarded = λ p r. clean .guarded p (unguarded-below guard events p r) r;
+        guarded = λ p r. clean .guarded p (unguarded-below h guard events p r) r;
         twoPhase = λ p r. clean .twoPhase p (late-below h events p r) r;
         finished = λ r. true≢false (sym (to-22 h events d r) ∙ q);
       }
@@ -326,37 +327,37 @@ module _ (h : Counts) (guard : ℕ → ℕ) (events : List Event) (d : All (Decl
       es : List Event
       es = soFar n events
 
-      line : lineAfter n ≡ lineAfter (length es)
-      line = ap lineAfter (sym (length-so-far n events (omega arith)))
+      line : lineAfter h n ≡ lineAfter h (length es)
+      line = ap (lineAfter h) (sym (length-so-far n events (omega arith)))
 
-      more : notUnder guard es e ≡ false → lateLock h es e ≡ false → Clean h guard events (lineAfter (suc n))
-      more p q = record { guarded = λ i j. see i j (ℕ-discrete i (lineAfter n)); twoPhase = λ i j. sees i j (ℕ-discrete i (lineAfter n)) }
+      more : notUnder guard es e ≡ false → lateLock h es e ≡ false → Clean h guard events (lineAfter h (suc n))
+      more p q = record { guarded = λ i j. see i j (ℕ-discrete i (lineAfter h n)); twoPhase = λ i j. sees i j (ℕ-discrete i (lineAfter h n)) }
         where
-          see : (i : ℕ) → i < lineAfter (suc n) → Dec (i ≡ lineAfter n) → Unguarded guard events i → ⊥
-          see i j (yes x) r = true≢false (sym (to-20 guard events n e (w .stands) (subst (λ i. Unguarded guard events i) x r)) ∙ p)
+          see : (i : ℕ) → i < lineAfter h (suc n) → Dec (i ≡ lineAfter h n) → Unguarded h guard events i → ⊥
+          see i j (yes x) r = true≢false (sym (to-20 h guard events n e (w .stands) (subst (λ i. Unguarded h guard events i) x r)) ∙ p)
           see i j (no x) r = c .guarded i (omega arith) r
 
-          sees : (i : ℕ) → i < lineAfter (suc n) → Dec (i ≡ lineAfter n) → LateLock h events i → ⊥
+          sees : (i : ℕ) → i < lineAfter h (suc n) → Dec (i ≡ lineAfter h n) → LateLock h events i → ⊥
           sees i j (yes x) r = true≢false (sym (to-21 h events d n e (omega arith) (w .stands) (subst (λ i. LateLock h events i) x r)) ∙ q)
           sees i j (no x) r = c .twoPhase i (omega arith) r
 
-      go : (b : Bool) → notUnder guard es e ≡ b → (b′ : Bool) → lateLock h es e ≡ b′ → (Clean h guard events (lineAfter (suc n)) → Says h guard events (denialFrom h guard (soFar (suc n) events) (drop (suc n) events)))
-          → Says h guard events (cond b (denied 20 (lineAfter (length es))) (cond b′ (denied 21 (lineAfter (length es))) (denialFrom h guard (e ∷ es) (drop (suc n) events))))
-      go true p b′ q r = subst (λ i. Denies h guard events 20 i) line (unguarded refl c (from-20 guard events n e (w .stands) p))
+      go : (b : Bool) → notUnder guard es e ≡ b → (b′ : Bool) → lateLock h es e ≡ b′ → (Clean h guard events (lineAfter h (suc n)) → Says h guard events (denialFrom h guard (soFar (suc n) events) (drop (suc n) events)))
+          → Says h guard events (cond b (denied 20 (lineAfter h (length es))) (cond b′ (denied 21 (lineAfter h (length es))) (denialFrom h guard (e ∷ es) (drop (suc n) events))))
+      go true p b′ q r = subst (λ i. Denies h guard events 20 i) line (unguarded refl c (from-20 h guard events n e (w .stands) p))
       go false p true q r = subst (λ i. Denies h guard events 21 i) line (late refl c (from-21 h events d n e (omega arith) (w .stands) q))
       go false p false q r = subst (λ l. Says h guard events (denialFrom h guard l (drop (suc n) events))) (w .more) (r (more p q))
 
   -- nothing stands before the first event line
-  start : Clean h guard events (lineAfter 0)
+  start : Clean h guard events (lineAfter h 0)
   start = record { guarded = λ q i r. nothing q i (r .event) (r .stands); twoPhase = λ q i r. late-none q i (r .thread) (r .locks) }
     where
-      early : (q : ℕ) → q < lineAfter 0 → position q ≡ 0
+      early : (q : ℕ) → q < lineAfter h 0 → position h q ≡ 0
       early q i = unfold position in omega arith
 
-      nothing : (q : ℕ) → q < lineAfter 0 → (e : Event) → eventAt q events ≡ some e → ⊥
+      nothing : (q : ℕ) → q < lineAfter h 0 → (e : Event) → eventAt h q events ≡ some e → ⊥
       nothing q i e s = some-none e (unfold eventAt atPosition in rw (early q i) at s)
 
-      late-none : (q : ℕ) → q < lineAfter 0 → (t : ℕ) → lockAt t events q ≡ true → ⊥
+      late-none : (q : ℕ) → q < lineAfter h 0 → (t : ℕ) → lockAt h t events q ≡ true → ⊥
       late-none q i t k = false≢true (unfold lockAt eventAt atPosition in rw (early q i) at k)
 
   pub says : Says h guard events (denial h guard events)

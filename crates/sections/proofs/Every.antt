@@ -97,7 +97,7 @@ in-one h events s r p c d q a b a′ b′ = go (decLt p (s .last)) (decLt p (r .
 
 -- 21 by sections: in no section of an orderly trace does a K come after an N
 pub two-phase-inside : (h : Counts) (guard : ℕ → ℕ) (events : List Event) (s : Entry) (q p : ℕ) → Orderly h guard events → CriticalSection h events s → s .first ≤ q → q < p → p ≤ s .last
-    → unlockAt (s .thread) events q ≡ true → lockAt (s .thread) events p ≡ true → ⊥
+    → unlockAt h (s .thread) events q ≡ true → lockAt h (s .thread) events p ≡ true → ⊥
 two-phase-inside h guard events s q p o c a b d u l =
     o .twoPhase p (record { thread = s .thread; locks = l; earlier = q; before = b; unlocks = u; same = λ i x y. c .inside i (omega arith) (omega arith) })
 
@@ -172,7 +172,7 @@ module _ (c : Counts) (guard : ℕ → ℕ) (events : List Event) (d : All (Decl
   order-lists = listed c events d a free
 
   -- the event at position n + 1, in its line
-  taken-once : (n line : ℕ) (e : Event) → lineOf (suc n) ≡ line → atPosition (suc n) events ≡ some e → Unguarded guard events line ⊎ (held (wordsOf (soFar n events)) (e .thread) (guard (loc e)) ≡ true) → times line e (order c events) ≡ 1
+  taken-once : (n line : ℕ) (e : Event) → lineOf c (suc n) ≡ line → atPosition (suc n) events ≡ some e → Unguarded c guard events line ⊎ (held (wordsOf (soFar n events)) (e .thread) (guard (loc e)) ≡ true) → times line e (order c events) ≡ 1
   taken-once n line e l s (inl r) = absurd (o .guarded line r)
   taken-once n line e l s (inr k) = go (decLt n (length events))
     where
@@ -190,34 +190,34 @@ module _ (c : Counts) (guard : ℕ → ℕ) (events : List Event) (d : All (Decl
           r = inside-one (e .thread) n (omega arith) busy
 
           x : Entry
-          x = record { thread = e .thread; first = lineOf (r .0); last = lineOf (r .1) }
+          x = record { thread = e .thread; first = lineOf c (r .0); last = lineOf c (r .1) }
 
           section : CriticalSection c events x
           section = in-lines c events (e .thread) (r .0) (r .1) (r .2)
 
-          low : lineOf (r .0) ≤ line
+          low : lineOf c (r .0) ≤ line
           low = omega (arith, r .3, l)
 
-          high : line ≤ lineOf (r .1)
+          high : line ≤ lineOf c (r .1)
           high = omega (arith, r .4, l)
 
           mine : takes x line e ≡ true
           mine = taken x line e refl low high
 
-  pub every : (line : ℕ) (e : Event) → eventAt line events ≡ some e → usesOrAssigns e ≡ true → times line e (order c events) ≡ 1
+  pub every : (line : ℕ) (e : Event) → eventAt c line events ≡ some e → usesOrAssigns e ≡ true → times line e (order c events) ≡ 1
   unfolding eventAt
-  every line e s u = go (position line) refl s
+  every line e s u = go (position c line) refl s
     where
-      go : (p : ℕ) → position line ≡ p → atPosition p events ≡ some e → times line e (order c events) ≡ 1
+      go : (p : ℕ) → position c line ≡ p → atPosition p events ≡ some e → times line e (order c events) ≡ 1
       go zero q s = absurd (some-none e (unfold atPosition in s))
       go (suc n) q s = taken-once n line e there s (under (held (wordsOf (soFar n events)) (e .thread) (guard (loc e))) refl)
         where
-          there : lineOf (suc n) ≡ line
-          there = ap lineOf (sym q) ∙ line-position line (rw q (omega arith))
+          there : lineOf c (suc n) ≡ line
+          there = ap (lineOf c) (sym q) ∙ line-position c line (rw q (omega arith))
 
-          before : upTo (line - 1) events ≡ soFar n events
-          before = subst (λ i. upTo (i - 1) events ≡ soFar n events) there (subst (λ i. upTo i events ≡ soFar n events) (let i : lineAfter n - 1 ≡ lineOf (suc n) - 1 = omega arith in i) (up-to-last n events))
+          before : upTo c (line - 1) events ≡ soFar n events
+          before = subst (λ i. upTo c (i - 1) events ≡ soFar n events) there (subst (λ i. upTo c i events ≡ soFar n events) (let i : lineAfter c n - 1 ≡ lineOf c (suc n) - 1 = omega arith in i) (up-to-last c n events))
 
-          under : (b : Bool) → held (wordsOf (soFar n events)) (e .thread) (guard (loc e)) ≡ b → Unguarded guard events line ⊎ (held (wordsOf (soFar n events)) (e .thread) (guard (loc e)) ≡ true)
+          under : (b : Bool) → held (wordsOf (soFar n events)) (e .thread) (guard (loc e)) ≡ b → Unguarded c guard events line ⊎ (held (wordsOf (soFar n events)) (e .thread) (guard (loc e)) ≡ true)
           under true k = inr k
           under false k = inl (record { event = e; stands = rw q s; used = u; notUnder = rw before k })

@@ -13,6 +13,7 @@ use lib.ListN.{length}
 use borrow.Author.Tests.{le-leb}
 use Rattle.rules.specs.declared.Event.{Event}
 use Rattle.rules.specs.declared.Counts.{Counts}
+use Rattle.rules.proofs.Bounds.{first-line-low}
 use Rattle.serial.specs.Lists.{All}
 use Rattle.serial.specs.Sections as Q
 use Rattle.serial.proofs.Counted as H
@@ -51,27 +52,27 @@ All-under P f (a ∷ l) h = (h .0, All-under P f l (h .1))
 
 -- ---- members
 
-same-entry : (s : Section) (x : Entry) → s .owner ≡ x .thread → lineOf (s .first) ≡ x .first → lineOf (s .last) ≡ x .last → entry s ≡ x
-same-entry s x p q r = λ i. record { thread = p i; first = q i; last = r i }
+same-entry : (hd : Counts) (s : Section) (x : Entry) → s .owner ≡ x .thread → lineOf hd (s .first) ≡ x .first → lineOf hd (s .last) ≡ x .last → entry hd s ≡ x
+same-entry hd s x p q r = λ i. record { thread = p i; first = q i; last = r i }
 
-member : (x : Entry) (a b : ℕ) (ss : List Section) → lineOf a ≡ x .first → lineOf b ≡ x .last → Has a b (own (x .thread) ss) → Member x (map entry ss)
-member x a b [] i j m = absurd (unfold own in m)
-member x a b (s ∷ ss) i j m = go (ℕ-discrete (s .owner) (x .thread)) (member x a b ss i j)
+member : (hd : Counts) (x : Entry) (a b : ℕ) (ss : List Section) → lineOf hd a ≡ x .first → lineOf hd b ≡ x .last → Has a b (own (x .thread) ss) → Member x (map (entry hd) ss)
+member hd x a b [] i j m = absurd (unfold own in m)
+member hd x a b (s ∷ ss) i j m = go (ℕ-discrete (s .owner) (x .thread)) (member hd x a b ss i j)
   where
-    here : s .owner ≡ x .thread → (Has a b (own (x .thread) ss) → Member x (map entry ss)) → Has a b (s ∷ own (x .thread) ss) → Member x (map entry (s ∷ ss))
-    here p r (inl q) = inl (same-entry s x p (ap lineOf (q .0) ∙ i) (ap lineOf (q .1) ∙ j))
+    here : s .owner ≡ x .thread → (Has a b (own (x .thread) ss) → Member x (map (entry hd) ss)) → Has a b (s ∷ own (x .thread) ss) → Member x (map (entry hd) (s ∷ ss))
+    here p r (inl q) = inl (same-entry hd s x p (ap (lineOf hd) (q .0) ∙ i) (ap (lineOf hd) (q .1) ∙ j))
     here p r (inr q) = inr (r q)
 
-    go : Dec (s .owner ≡ x .thread) → (Has a b (own (x .thread) ss) → Member x (map entry ss)) → Member x (map entry (s ∷ ss))
+    go : Dec (s .owner ≡ x .thread) → (Has a b (own (x .thread) ss) → Member x (map (entry hd) ss)) → Member x (map (entry hd) (s ∷ ss))
     go (yes p) r = here p r (subst (λ l. Has a b l) (own-mine (x .thread) s ss p) m)
     go (no p) r = inr (r (subst (λ l. Has a b l) (own-other (x .thread) s ss p) m))
 
-turn-member : (x : Entry) (ss acc : List Section) → Member x (map entry ss) ⊎ Member x (map entry acc) → Member x (map entry (reverseAux ss acc))
-turn-member x [] acc (inl h) = absurd h
-turn-member x [] acc (inr h) = h
-turn-member x (s ∷ ss) acc (inl (inl h)) = turn-member x ss (s ∷ acc) (inr (inl h))
-turn-member x (s ∷ ss) acc (inl (inr h)) = turn-member x ss (s ∷ acc) (inl h)
-turn-member x (s ∷ ss) acc (inr h) = turn-member x ss (s ∷ acc) (inr (inr h))
+turn-member : (hd : Counts) (x : Entry) (ss acc : List Section) → Member x (map (entry hd) ss) ⊎ Member x (map (entry hd) acc) → Member x (map (entry hd) (reverseAux ss acc))
+turn-member hd x [] acc (inl h) = absurd h
+turn-member hd x [] acc (inr h) = h
+turn-member hd x (s ∷ ss) acc (inl (inl h)) = turn-member hd x ss (s ∷ acc) (inr (inl h))
+turn-member hd x (s ∷ ss) acc (inl (inr h)) = turn-member hd x ss (s ∷ acc) (inl h)
+turn-member hd x (s ∷ ss) acc (inr h) = turn-member hd x ss (s ∷ acc) (inr (inr h))
 
 -- ---- lock points
 
@@ -111,102 +112,102 @@ module _ (h : Counts) (events : List Event) where
   abbrev pub Span : ℕ → ℕ → ℕ → Type 0
   Span t a b = Runs (locksAt t events) (unlocksAt t events) (holdsAfter h t events) a b
 
-  pub in-lines : (t a b : ℕ) → Span t a b → CriticalSection h events (record { thread = t; first = lineOf a; last = lineOf b })
+  pub in-lines : (t a b : ℕ) → Span t a b → CriticalSection h events (record { thread = t; first = lineOf h a; last = lineOf h b })
   in-lines t a b r = record {
-    rises = omega (arith, r .rises);
-    opens = lock-line t events (lineOf a) a (position-line a) ∙ r .opens;
-    idle = holding-line h t events (lineOf a - 1) (a - 1) (position-before a) ∙ r .idle;
-    closes = unlock-line t events (lineOf b) b (position-line b) ∙ r .closes;
-    free = holding-line h t events (lineOf b) b (position-line b) ∙ r .free;
-    inside = λ n i j. holding-line h t events n (position n) refl
-        ∙ r .inside (position n) (rw (position-line a) at (position-to (lineOf a) n i)) (rw (position-line b) at (position-up n (lineOf b) (rw (position-line b) (unlock-low t b events (r .closes))) j));
+    rises = omega (arith, r .rises, first-line-low h);
+    opens = lock-line h t events (lineOf h a) a (position-line h a) ∙ r .opens;
+    idle = holding-line h t events (lineOf h a - 1) (a - 1) (position-before h a) ∙ r .idle;
+    closes = unlock-line h t events (lineOf h b) b (position-line h b) ∙ r .closes;
+    free = holding-line h t events (lineOf h b) b (position-line h b) ∙ r .free;
+    inside = λ n i j. holding-line h t events n (position h n) refl
+        ∙ r .inside (position h n) (rw (position-line h a) at (position-to h (lineOf h a) n i)) (rw (position-line h b) at (position-up h n (lineOf h b) (rw (position-line h b) (unlock-low t b events (r .closes))) j));
   }
 
-  pub in-positions : (x : Entry) → CriticalSection h events x → Span (x .thread) (position (x .first)) (position (x .last))
+  pub in-positions : (x : Entry) → CriticalSection h events x → Span (x .thread) (position h (x .first)) (position h (x .last))
   in-positions x c = record {
-    rises = position-up (x .first) (x .last) high (c .rises);
+    rises = position-up h (x .first) (x .last) high (c .rises);
     opens = opens;
-    idle = subst (λ p. holdsAfter h (x .thread) events p ≡ false) before (sym (holding-line h (x .thread) events (x .first - 1) (position (x .first - 1)) refl) ∙ c .idle);
+    idle = subst (λ p. holdsAfter h (x .thread) events p ≡ false) before (sym (holding-line h (x .thread) events (x .first - 1) (position h (x .first - 1)) refl) ∙ c .idle);
     closes = closes;
-    free = sym (holding-line h (x .thread) events (x .last) (position (x .last)) refl) ∙ c .free;
-    inside = λ p i j. sym (holding-line h (x .thread) events (lineOf p) p (position-line p))
-        ∙ c .inside (lineOf p) (subst (λ n. n ≤ lineOf p) (line-position (x .first) low) (omega arith)) (position-ahead (lineOf p) (x .last) (rw (position-line p) j));
+    free = sym (holding-line h (x .thread) events (x .last) (position h (x .last)) refl) ∙ c .free;
+    inside = λ p i j. sym (holding-line h (x .thread) events (lineOf h p) p (position-line h p))
+        ∙ c .inside (lineOf h p) (subst (λ n. n ≤ lineOf h p) (line-position h (x .first) low) (omega arith)) (position-ahead h (lineOf h p) (x .last) (rw (position-line h p) j));
   }
     where
-      opens : locksAt (x .thread) events (position (x .first)) ≡ true
-      opens = sym (lock-line (x .thread) events (x .first) (position (x .first)) refl) ∙ c .opens
+      opens : locksAt (x .thread) events (position h (x .first)) ≡ true
+      opens = sym (lock-line h (x .thread) events (x .first) (position h (x .first)) refl) ∙ c .opens
 
-      closes : unlocksAt (x .thread) events (position (x .last)) ≡ true
-      closes = sym (unlock-line (x .thread) events (x .last) (position (x .last)) refl) ∙ c .closes
+      closes : unlocksAt (x .thread) events (position h (x .last)) ≡ true
+      closes = sym (unlock-line h (x .thread) events (x .last) (position h (x .last)) refl) ∙ c .closes
 
-      low : 0 < position (x .first)
-      low = lock-low (x .thread) (position (x .first)) events opens
+      low : 0 < position h (x .first)
+      low = lock-low (x .thread) (position h (x .first)) events opens
 
-      high : 0 < position (x .last)
-      high = unlock-low (x .thread) (position (x .last)) events closes
+      high : 0 < position h (x .last)
+      high = unlock-low (x .thread) (position h (x .last)) events closes
 
-      before : position (x .first - 1) ≡ position (x .first) - 1
-      before = unfold position in omega arith
+      before : position h (x .first - 1) ≡ position h (x .first) - 1
+      before = unfold position in omega (arith, first-line-low h)
 
   abbrev Good : Section → Type 0
   Good s = Closed (locksAt (s .owner) events) (unlocksAt (s .owner) events) (holdsAfter h (s .owner) events) (length events) s
 
-  critical : (s : Section) → Good s → CriticalSection h events (entry s)
+  critical : (s : Section) → Good s → CriticalSection h events (entry h s)
   critical s c = in-lines (s .owner) (s .first) (s .last) (c .whole)
 
-  point : (s : Section) → Good s → lockPoint events (entry s) ≡ lineOf (s .top)
+  point : (s : Section) → Good s → lockPoint h events (entry h s) ≡ lineOf h (s .top)
   unfolding lockPoint
-  point s c = greatest-is (λ n. leb (lineOf (s .first)) n && lockAt (s .owner) events n) (lineOf (s .last)) (lineOf (s .top))
-      (omega arith)
+  point s c = greatest-is (λ n. leb (lineOf h (s .first)) n && lockAt h (s .owner) events n) (lineOf h (s .last)) (lineOf h (s .top))
+      (omega (arith, first-line-low h, c .point .from))
       (omega (arith, c .point .to))
-      (rw (le-leb (lineOf (s .first)) (lineOf (s .top)) (omega (arith, c .point .from))) (lock-line (s .owner) events (lineOf (s .top)) (s .top) (position-line (s .top)) ∙ c .point .here))
-      (λ q i j. rw (later q i j) (and-false (leb (lineOf (s .first)) q)))
+      (rw (le-leb (lineOf h (s .first)) (lineOf h (s .top)) (omega (arith, c .point .from))) (lock-line h (s .owner) events (lineOf h (s .top)) (s .top) (position-line h (s .top)) ∙ c .point .here))
+      (λ q i j. rw (later q i j) (and-false (leb (lineOf h (s .first)) q)))
     where
-      later : (q : ℕ) → lineOf (s .top) < q → q ≤ lineOf (s .last) → lockAt (s .owner) events q ≡ false
-      later q i j = lock-line (s .owner) events q (position q) refl
-          ∙ c .point .later (position q) (let k : s .top < position q = unfold position in omega arith in k) (rw (position-line (s .last)) at (position-to q (lineOf (s .last)) j))
+      later : (q : ℕ) → lineOf h (s .top) < q → q ≤ lineOf h (s .last) → lockAt h (s .owner) events q ≡ false
+      later q i j = lock-line h (s .owner) events q (position h q) refl
+          ∙ c .point .later (position h q) (let k : s .top < position h q = unfold position in omega arith in k) (rw (position-line h (s .last)) at (position-to h q (lineOf h (s .last)) j))
 
   -- all of these have a lock point above n
   abbrev Above : ℕ → List Section → Type 0
-  Above n l = All (λ m. n < m) (map (lockPoint events) (map entry l))
+  Above n l = All (λ m. n < m) (map (lockPoint h events) (map (entry h) l))
 
-  rise : (ss acc : List Section) → All Good ss → Falling ss → All (λ (r : Section). Above (lineOf (r .top)) acc) ss → Rising (map (lockPoint events) (map entry acc))
-      → Rising (map (lockPoint events) (map entry (reverseAux ss acc)))
+  rise : (ss acc : List Section) → All Good ss → Falling ss → All (λ (r : Section). Above (lineOf h (r .top)) acc) ss → Rising (map (lockPoint h events) (map (entry h) acc))
+      → Rising (map (lockPoint h events) (map (entry h) (reverseAux ss acc)))
   unfolding Falling
-  rise [] acc g f h r = r
-  rise (s ∷ ss) acc g f h r =
-      rise ss (s ∷ acc) (g .1) (f .1) (join ss (f .0) (h .1))
-      (subst (λ n. Above n acc) (sym (point s (g .0))) (h .0), r)
+  rise [] acc g f k r = r
+  rise (s ∷ ss) acc g f k r =
+      rise ss (s ∷ acc) (g .1) (f .1) (join ss (f .0) (k .1))
+      (subst (λ n. Above n acc) (sym (point s (g .0))) (k .0), r)
     where
-      join : (l : List Section) → All (λ (q : Section). q .top < s .top) l → All (λ (q : Section). Above (lineOf (q .top)) acc) l → All (λ (q : Section). Above (lineOf (q .top)) (s ∷ acc)) l
+      join : (l : List Section) → All (λ (q : Section). q .top < s .top) l → All (λ (q : Section). Above (lineOf h (q .top)) acc) l → All (λ (q : Section). Above (lineOf h (q .top)) (s ∷ acc)) l
       join [] a b = tt
-      join (q ∷ l) a b = ((omega (arith, a .0, point s (g .0)), b .0), join l (a .1) (b .1))
+      join (q ∷ l) a b = ((omega (arith, a .0, point s (g .0), first-line-low h), b .0), join l (a .1) (b .1))
 
-  below-member : (n : ℕ) (x : Entry) (l : List Entry) → All (λ m. n < m) (map (lockPoint events) l) → Member x l → n < lockPoint events x
-  below-member n x [] a h = absurd h
-  below-member n x (y ∷ l) a (inl p) = subst (λ z. n < lockPoint events z) p (a .0)
-  below-member n x (y ∷ l) a (inr h) = below-member n x l (a .1) h
+  below-member : (n : ℕ) (x : Entry) (l : List Entry) → All (λ m. n < m) (map (lockPoint h events) l) → Member x l → n < lockPoint h events x
+  below-member n x [] a k = absurd k
+  below-member n x (y ∷ l) a (inl p) = subst (λ z. n < lockPoint h events z) p (a .0)
+  below-member n x (y ∷ l) a (inr k) = below-member n x l (a .1) k
 
-  distinct : (l : List Entry) → Rising (map (lockPoint events) l) → Distinct l
+  distinct : (l : List Entry) → Rising (map (lockPoint h events) l) → Distinct l
   distinct [] r = tt
-  distinct (x ∷ l) r = (λ h. irrefl (lockPoint events x) (below-member (lockPoint events x) x l (r .0) h), distinct l (r .1))
+  distinct (x ∷ l) r = (λ k. irrefl (lockPoint h events x) (below-member (lockPoint h events x) x l (r .0) k), distinct l (r .1))
     where
       irrefl : (n : ℕ) → n < n → ⊥
       irrefl n h = omega arith
 
   -- ---- the whole
 
-  none-above : (l : List Section) → All (λ (r : Section). Above (lineOf (r .top)) []) l
+  none-above : (l : List Section) → All (λ (r : Section). Above (lineOf h (r .top)) []) l
   none-above [] = tt
   none-above (s ∷ l) = (tt, none-above l)
 
   pub listed : All (Declared h) events → Valid h (reverse events) → ((t : ℕ) → holdsAfter h t events (length events) ≡ false) → SerialOrder h events (order h events)
   unfolding order
   listed d a free = record {
-    sound = All-under (CriticalSection h events) entry (reverse ss)
-        (All-turn (λ (s : Section). CriticalSection h events (entry s)) ss [] (All-map Good (λ (s : Section). CriticalSection h events (entry s)) ss good critical) tt);
+    sound = All-under (CriticalSection h events) (entry h) (reverse ss)
+        (All-turn (λ (s : Section). CriticalSection h events (entry h s)) ss [] (All-map Good (λ (s : Section). CriticalSection h events (entry h s)) ss good critical) tt);
     complete = complete;
-    once = distinct (map entry (reverse ss)) rising;
+    once = distinct (map (entry h) (reverse ss)) rising;
     byLockPoint = rising;
   }
     where
@@ -222,16 +223,16 @@ module _ (h : Counts) (events : List Event) where
       good : All Good ss
       good = gather (λ u s. Closed (locksAt u events) (unlocksAt u events) (holdsAfter h u events) (length events) s) ss (λ u. ended u .sound)
 
-      complete : (x : Entry) → CriticalSection h events x → Member x (map entry (reverse ss))
+      complete : (x : Entry) → CriticalSection h events x → Member x (map (entry h) (reverse ss))
       complete x c =
-          let r : Span (x .thread) (position (x .first)) (position (x .last)) = in-positions x c in
-          turn-member x ss [] (inl (member x (position (x .first)) (position (x .last)) ss
-          (line-position (x .first) (lock-low (x .thread) (position (x .first)) events (r .opens)))
-          (line-position (x .last) (unlock-low (x .thread) (position (x .last)) events (r .closes)))
-          (ended (x .thread) .complete (position (x .first)) (position (x .last)) (unlock-below (x .thread) (position (x .last)) events (r .closes)) r)))
+          let r : Span (x .thread) (position h (x .first)) (position h (x .last)) = in-positions x c in
+          turn-member h x ss [] (inl (member h x (position h (x .first)) (position h (x .last)) ss
+          (line-position h (x .first) (lock-low (x .thread) (position h (x .first)) events (r .opens)))
+          (line-position h (x .last) (unlock-low (x .thread) (position h (x .last)) events (r .closes)))
+          (ended (x .thread) .complete (position h (x .first)) (position h (x .last)) (unlock-below (x .thread) (position h (x .last)) events (r .closes)) r)))
 
       falling : Falling ss
       falling = rw (sections-same h (reverse events) (All-turn (Declared h) events [] d tt)) (traced H.counted (map view (reverse events)) .falling)
 
-      rising : Rising (map (lockPoint events) (map entry (reverse ss)))
+      rising : Rising (map (lockPoint h events) (map (entry h) (reverse ss)))
       rising = rise ss [] good falling (none-above ss) tt

@@ -52,7 +52,7 @@ module _ (f : Entry → ℕ) where
 
 pub one-order : (h : Counts) (events : List Event) (l k : List Entry) → SerialOrder h events l → SerialOrder h events k → l ≡ k
 one-order h events l k s r =
-    same-list (lockPoint events) l k (s .byLockPoint) (r .byLockPoint)
+    same-list (lockPoint h events) l k (s .byLockPoint) (r .byLockPoint)
     (λ x m. r .complete x (all-members (CriticalSection h events) l (s .sound) x m))
     (λ x m. s .complete x (all-members (CriticalSection h events) k (r .sound) x m))
 
@@ -78,18 +78,18 @@ not-both t u ln (PrescientAssign v x) a b = false≢true b
 
 module _ (h : Counts) (guard : ℕ → ℕ) (events : List Event) where
   -- no line breaks both 20 and 21
-  apart : (n : ℕ) → Unguarded guard events n → LateLock h events n → ⊥
+  apart : (n : ℕ) → Unguarded h guard events n → LateLock h events n → ⊥
   unfolding lockAt
   apart n r s = not-both (s .thread) (r .event .thread) (r .event .line) (r .event .kind) (r .used) (rw (r .stands) at (s .locks))
 
   -- a first line that breaks 20 is not a first one that breaks 21
-  cross : (p q : ℕ) → Clean h guard events p → Unguarded guard events p → Clean h guard events q → LateLock h events q → ⊥
-  cross p q c r d s = apart q (subst (λ i. Unguarded guard events i) (meet p q (λ i. d .guarded p i r) (λ i. c .twoPhase q i s)) r) s
+  cross : (p q : ℕ) → Clean h guard events p → Unguarded h guard events p → Clean h guard events q → LateLock h events q → ⊥
+  cross p q c r d s = apart q (subst (λ i. Unguarded h guard events i) (meet p q (λ i. d .guarded p i r) (λ i. c .twoPhase q i s)) r) s
 
-  end-20 : (p q : ℕ) → q ≡ lineAfter (length events) → Unguarded guard events p → Clean h guard events q → ⊥
-  end-20 p q l r c = c .guarded p (rw l (unguarded-below guard events p r)) r
+  end-20 : (p q : ℕ) → q ≡ lineAfter h (length events) → Unguarded h guard events p → Clean h guard events q → ⊥
+  end-20 p q l r c = c .guarded p (rw l (unguarded-below h guard events p r)) r
 
-  end-21 : (p q : ℕ) → q ≡ lineAfter (length events) → LateLock h events p → Clean h guard events q → ⊥
+  end-21 : (p q : ℕ) → q ≡ lineAfter h (length events) → LateLock h events p → Clean h guard events q → ⊥
   end-21 p q l r c = c .twoPhase p (rw l (late-below h events p r)) r
 
   one-denial : (n l m k : ℕ) → Denies h guard events n l → Denies h guard events m k → denied n l ≡ denied m k

@@ -331,10 +331,10 @@ fit-cond false n m d p = (refl, p)
 pub fit-from : (h : Counts) (guard : ℕ → ℕ) (es rest : List Event) → denialFrom h guard es rest ≡ fit → T (orderly h guard es)
     → T (orderly h guard (reverseAux rest es)) × (unfinished h (reverseAux rest es) ≡ false)
 unfolding denialFrom orderly
-fit-from h guard es [] p o = (o, fit-cond (unfinished h es) 22 (lineAfter (length es)) fit p .0)
+fit-from h guard es [] p o = (o, fit-cond (unfinished h es) 22 (lineAfter h (length es)) fit p .0)
 fit-from h guard es (e ∷ rest) p o =
-    let a : (notUnder guard es e ≡ false) × (cond (lateLock h es e) (denied 21 (lineAfter (length es))) (denialFrom h guard (e ∷ es) rest) ≡ fit) = fit-cond (notUnder guard es e) 20 (lineAfter (length es)) _ p in
-    let b : (lateLock h es e ≡ false) × (denialFrom h guard (e ∷ es) rest ≡ fit) = fit-cond (lateLock h es e) 21 (lineAfter (length es)) _ (a .1) in
+    let a : (notUnder guard es e ≡ false) × (cond (lateLock h es e) (denied 21 (lineAfter h (length es))) (denialFrom h guard (e ∷ es) rest) ≡ fit) = fit-cond (notUnder guard es e) 20 (lineAfter h (length es)) _ p in
+    let b : (lateLock h es e ≡ false) × (denialFrom h guard (e ∷ es) rest ≡ fit) = fit-cond (lateLock h es e) 21 (lineAfter h (length es)) _ (a .1) in
     fit-from h guard (e ∷ es) rest (b .1) (rw (a .0, b .0) o)
 
 -- Demand 3's run, for an accepted trace that 20 to 22 do not deny its order.

@@ -13,6 +13,7 @@ use Rattle.rules.specs.declared.Event.{Event}
 use Rattle.rules.specs.declared.Counts.{Counts}
 use Rattle.rules.specs.Limits.{lineAfter}
 use Rattle.rules.specs.Words.{locksBy}
+use Rattle.rules.proofs.Bounds.{first-line-low}
 use Rattle.serial.specs.Lists.{All}
 use Rattle.sections.specs.Places.{position, nth, atPosition, soFar, eventAt, upTo, unlocksBy, passes, lockAt, unlockAt, holdsSome, holding}
 use Rattle.sections.specs.Order.{lineOf}
@@ -21,37 +22,37 @@ use Rattle.sections.proofs.Ordered.{All-turn}
 
 -- ---- a position's line, and a line's position
 
-pub position-line : (p : ℕ) → position (lineOf p) ≡ p
+pub position-line : (hd : Counts) (p : ℕ) → position hd (lineOf hd p) ≡ p
 unfolding position
-position-line p = omega arith
+position-line hd p = omega (arith, first-line-low hd)
 
-pub position-before : (p : ℕ) → position (lineOf p - 1) ≡ p - 1
+pub position-before : (hd : Counts) (p : ℕ) → position hd (lineOf hd p - 1) ≡ p - 1
 unfolding position
-position-before p = omega arith
+position-before hd p = omega (arith, first-line-low hd)
 
-pub position-after : (n : ℕ) → position (lineAfter n) ≡ suc n
+pub position-after : (hd : Counts) (n : ℕ) → position hd (lineAfter hd n) ≡ suc n
 unfolding position
-position-after n = omega arith
+position-after hd n = omega arith
 
-pub position-last : (n : ℕ) → position (lineAfter n - 1) ≡ n
+pub position-last : (hd : Counts) (n : ℕ) → position hd (lineAfter hd n - 1) ≡ n
 unfolding position
-position-last n = omega arith
+position-last hd n = omega (arith, first-line-low hd)
 
-pub line-position : (n : ℕ) → 0 < position n → lineOf (position n) ≡ n
+pub line-position : (hd : Counts) (n : ℕ) → 0 < position hd n → lineOf hd (position hd n) ≡ n
 unfolding position
-line-position n h = omega arith
+line-position hd n h = omega arith
 
-pub position-up : (m n : ℕ) → 0 < position n → m < n → position m < position n
+pub position-up : (hd : Counts) (m n : ℕ) → 0 < position hd n → m < n → position hd m < position hd n
 unfolding position
-position-up m n h k = omega arith
+position-up hd m n h k = omega arith
 
-pub position-to : (m n : ℕ) → m ≤ n → position m ≤ position n
+pub position-to : (hd : Counts) (m n : ℕ) → m ≤ n → position hd m ≤ position hd n
 unfolding position
-position-to m n k = omega arith
+position-to hd m n k = omega arith
 
-pub position-ahead : (m n : ℕ) → position m < position n → m < n
+pub position-ahead : (hd : Counts) (m n : ℕ) → position hd m < position hd n → m < n
 unfolding position
-position-ahead m n k = omega arith
+position-ahead hd m n k = omega arith
 
 -- ---- the same by positions
 
@@ -67,15 +68,15 @@ unlocksAt t events p = passes (unlocksBy t) (atPosition p events)
 unfoldable pub holdsAfter : Counts → ℕ → List Event → ℕ → Bool
 holdsAfter h t events p = holdsSome h t (soFar p events)
 
-pub lock-line : (t : ℕ) (events : List Event) (n p : ℕ) → position n ≡ p → lockAt t events n ≡ locksAt t events p
+pub lock-line : (hd : Counts) (t : ℕ) (events : List Event) (n p : ℕ) → position hd n ≡ p → lockAt hd t events n ≡ locksAt t events p
 unfolding lockAt locksAt eventAt
-lock-line t events n p q = rw q
+lock-line hd t events n p q = rw q
 
-pub unlock-line : (t : ℕ) (events : List Event) (n p : ℕ) → position n ≡ p → unlockAt t events n ≡ unlocksAt t events p
+pub unlock-line : (hd : Counts) (t : ℕ) (events : List Event) (n p : ℕ) → position hd n ≡ p → unlockAt hd t events n ≡ unlocksAt t events p
 unfolding unlockAt unlocksAt eventAt
-unlock-line t events n p q = rw q
+unlock-line hd t events n p q = rw q
 
-pub holding-line : (h : Counts) (t : ℕ) (events : List Event) (n p : ℕ) → position n ≡ p → holding h t events n ≡ holdsAfter h t events p
+pub holding-line : (h : Counts) (t : ℕ) (events : List Event) (n p : ℕ) → position h n ≡ p → holding h t events n ≡ holdsAfter h t events p
 unfolding holding holdsAfter upTo
 holding-line h t events n p q = rw q
 

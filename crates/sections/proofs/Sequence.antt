@@ -10,9 +10,11 @@ use lib.Dec.{eqb, leb}
 use lib.IntN.{ℤ, pos}
 use borrow.Author.Tests.{le-leb, lt-leb, eq-eqb, ne-eqb}
 use Rattle.rules.specs.declared.Event.{Event}
+use Rattle.rules.specs.declared.Counts.{Counts}
 use Rattle.rules.specs.declared.Kind.{Kind}
 use Rattle.rules.specs.declared.Kind.the-variants.{Use, Assign, Load, Store, Read, Write, Lock, Unlock, PrescientStore, PrescientAssign}
 use Rattle.rules.specs.Limits.{firstLine}
+use Rattle.rules.proofs.Bounds.{first-line-low}
 use Rattle.rules.specs.Events.{A, B, U, place, value, is, of, on}
 use Rattle.serial.specs.Entry.{Entry as Span, entry as span}
 use Rattle.serial.specs.Sections.{Section}
@@ -27,18 +29,18 @@ use Rattle.sections.specs.Sequential.{takes, partFrom, part, serially, a
 use Rattle.sections.proofs.Ordered.{whose}
 
 -- a section's events: by positions from p on, and by lines from n on
-part-view : (p n : ℕ) (s : Section ℤ) (es : List Event) → n ≡ lineOf p → Trace.between p (s .owner) (s .first) (s .last) (map view es) ≡ map view (partFrom n (entry s) es)
+part-view : (hd : Counts) (p n : ℕ) (s : Section ℤ) (es : List Event) → n ≡ lineOf hd p → Trace.between p (s .owner) (s .first) (s .last) (map view es) ≡ map view (partFrom n (entry hd s) es)
 unfolding Trace.between partFrom takes of
-part-view p n s [] l = refl
-part-view p n s (e ∷ es) l = rw (whose (e .kind) (e .thread)) (step (ℕ-discrete (e .thread) (s .owner)) (decLe (s .first) p) (decLe p (s .last)) (part-view (suc p) (suc n) s es (omega arith)))
+part-view hd p n s [] l = refl
+part-view hd p n s (e ∷ es) l = rw (whose (e .kind) (e .thread)) (step (ℕ-discrete (e .thread) (s .owner)) (decLe (s .first) p) (decLe p (s .last)) (part-view hd (suc p) (suc n) s es (omega (arith, first-line-low hd))))
   where
-    step : (a : Dec (e .thread ≡ s .owner)) (b : Dec (s .first ≤ p)) (c : Dec (p ≤ s .last)) → Trace.between (suc p) (s .owner) (s .first) (s .last) (map view es) ≡ map view (partFrom (suc n) (entry s) es)
+    step : (a : Dec (e .thread ≡ s .owner)) (b : Dec (s .first ≤ p)) (c : Dec (p ≤ s .last)) → Trace.between (suc p) (s .owner) (s .first) (s .last) (map view es) ≡ map view (partFrom (suc n) (entry hd s) es)
         → join a b c (view e) (Trace.between (suc p) (s .owner) (s .first) (s .last) (map view es))
-        ≡ map view (cond (eqb (e .thread) (s .owner) && (leb (lineOf (s .first)) n && leb n (lineOf (s .last)))) (e ∷ partFrom (suc n) (entry s) es) (partFrom (suc n) (entry s) es))
-    step (yes a) (yes b) (yes c) q = rw (eq-eqb (e .thread) (s .owner) a, le-leb (lineOf (s .first)) n (omega arith), le-leb n (lineOf (s .last)) (omega arith)) (ap (λ l. view e ∷ l) q)
-    step (yes a) (yes b) (no c) q = rw (eq-eqb (e .thread) (s .owner) a, le-leb (lineOf (s .first)) n (omega arith), lt-leb n (lineOf (s .last)) (omega arith)) q
-    step (yes a) (no b) (yes c) q = rw (eq-eqb (e .thread) (s .owner) a, lt-leb (lineOf (s .first)) n (omega arith)) q
-    step (yes a) (no b) (no c) q = rw (eq-eqb (e .thread) (s .owner) a, lt-leb (lineOf (s .first)) n (omega arith)) q
+        ≡ map view (cond (eqb (e .thread) (s .owner) && (leb (lineOf hd (s .first)) n && leb n (lineOf hd (s .last)))) (e ∷ partFrom (suc n) (entry hd s) es) (partFrom (suc n) (entry hd s) es))
+    step (yes a) (yes b) (yes c) q = rw (eq-eqb (e .thread) (s .owner) a, le-leb (lineOf hd (s .first)) n (omega (arith, first-line-low hd)), le-leb n (lineOf hd (s .last)) (omega (arith, first-line-low hd))) (ap (λ l. view e ∷ l) q)
+    step (yes a) (yes b) (no c) q = rw (eq-eqb (e .thread) (s .owner) a, le-leb (lineOf hd (s .first)) n (omega (arith, first-line-low hd)), lt-leb n (lineOf hd (s .last)) (omega (arith, first-line-low hd))) q
+    step (yes a) (no b) (yes c) q = rw (eq-eqb (e .thread) (s .owner) a, lt-leb (lineOf hd (s .first)) n (omega (arith, first-line-low hd))) q
+    step (yes a) (no b) (no c) q = rw (eq-eqb (e .thread) (s .owner) a, lt-leb (lineOf hd (s .first)) n (omega (arith, first-line-low hd))) q
     step (no a) (yes b) (yes c) q = rw (ne-eqb (e .thread) (s .owner) a) q
     step (no a) (yes b) (no c) q = rw (ne-eqb (e .thread) (s .owner) a) q
     step (no a) (no b) (yes c) q = rw (ne-eqb (e .thread) (s .owner) a) q
@@ -48,10 +50,10 @@ map-join : (l m : List Event) → map view (l ++ m) ≡ map view l ++ map view m
 map-join [] m = refl
 map-join (e ∷ l) m = ap (λ r. view e ∷ r) (map-join l m)
 
-pub serially-view : (ss : List (Section ℤ)) (events : List Event) → Trace.serially (map view events) (map span ss) ≡ map view (serially (map entry ss) events)
+pub serially-view : (hd : Counts) (ss : List (Section ℤ)) (events : List Event) → Trace.serially (map view events) (map span ss) ≡ map view (serially hd (map (entry hd) ss) events)
 unfolding Trace.serially serially part
-serially-view [] events = refl
-serially-view (s ∷ ss) events = ap₂ (λ a b. a ++ b) (part-view 1 firstLine s events (omega arith)) (serially-view ss events) ∙ sym (map-join (partFrom firstLine (entry s) events) (serially (map entry ss) events))
+serially-view hd [] events = refl
+serially-view hd (s ∷ ss) events = ap₂ (λ a b. a ++ b) (part-view hd 1 (firstLine hd) s events (omega arith)) (serially-view hd ss events) ∙ sym (map-join (partFrom (firstLine hd) (entry hd s) events) (serially hd (map (entry hd) ss) events))
 
 assign-view : (m : ℕ → ℤ) (v t ln : ℕ) (k : Kind) → Trace.set (viewed t k) m v ≡ assign (record { thread = t; line = ln; kind = k }) m v
 unfolding assign is on

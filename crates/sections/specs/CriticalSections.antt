@@ -20,11 +20,11 @@ pub record Entry : Type 0 where
 pub record CriticalSection (h : Counts) (events : List Event) (s : Entry) : Type 0 where
   pub rises : s .first < s .last
   -- from a K by a thread
-  pub opens : lockAt (s .thread) events (s .first) ≡ true
+  pub opens : lockAt h (s .thread) events (s .first) ≡ true
   -- holding nothing
   pub idle : holding h (s .thread) events (s .first - 1) ≡ false
   -- to the N
-  pub closes : unlockAt (s .thread) events (s .last) ≡ true
+  pub closes : unlockAt h (s .thread) events (s .last) ≡ true
   -- after which it holds nothing,
   pub free : holding h (s .thread) events (s .last) ≡ false
   -- which it does not before
@@ -36,8 +36,8 @@ greatest f zero = 0
 greatest f (suc n) = cond (f (suc n)) (suc n) (greatest f n)
 
 -- a section's last K, its lock point: the last of its lines with a K of its thread
-unfoldable pub lockPoint : List Event → Entry → ℕ
-lockPoint events s = greatest (λ n. leb (s .first) n && lockAt (s .thread) events n) (s .last)
+unfoldable pub lockPoint : Counts → List Event → Entry → ℕ
+lockPoint h events s = greatest (λ n. leb (s .first) n && lockAt h (s .thread) events n) (s .last)
 
 -- s is in the list
 abbrev pub Member : Entry → List Entry → Type 0
@@ -63,4 +63,4 @@ pub record SerialOrder (h : Counts) (events : List Event) (order : List Entry) :
   -- one,
   pub once : Distinct order
   -- in order of each section's last K
-  pub byLockPoint : Rising (map (lockPoint events) order)
+  pub byLockPoint : Rising (map (lockPoint h events) order)

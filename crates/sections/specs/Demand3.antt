@@ -32,8 +32,8 @@ pub record Demand3 (h : Counts) (guard : ℕ → ℕ) (events : List Event) (ans
   -- The list is in order of each section's last K, one entry for each section.
   pub listed : answer ≡ fit → SerialOrder h events order
   -- Every use is run, and so is every assign: one section takes it.
-  pub every : answer ≡ fit → (line : ℕ) (e : Event) → eventAt line events ≡ some e → usesOrAssigns e ≡ true → times line e order ≡ 1
+  pub every : answer ≡ fit → (line : ℕ) (e : Event) → eventAt h line events ≡ some e → usesOrAssigns e ≡ true → times line e order ≡ 1
   -- What each U is given equals the value in its line;
-  pub uses : answer ≡ fit → given (serially order events) zeros ≡ stated (serially order events)
+  pub uses : answer ≡ fit → given (serially h order events) zeros ≡ stated (serially h order events)
   -- what each variable has at the end equals its main memory after the last event.
-  pub ends : answer ≡ fit → (v : ℕ) → v < h .variables → after (serially order events) zeros v ≡ main v (reverse events)
+  pub ends : answer ≡ fit → (v : ℕ) → v < h .variables → after (serially h order events) zeros v ≡ main v (reverse events)

@@ -25,12 +25,12 @@ sections h [] = []
 sections h (e ∷ es) = next (view e) (told (holdsSome h (e .thread) es)) (suc (length es)) (sections h es)
 
 -- the line of the event at this position, from 1
-abbrev pub lineOf : ℕ → ℕ
-lineOf p = lineAfter p - 1
+abbrev pub lineOf : Counts → ℕ → ℕ
+lineOf h p = lineAfter h p - 1
 
-abbrev pub entry : Section ℤ → Entry
-entry s = record { thread = s .owner; first = lineOf (s .first); last = lineOf (s .last) }
+abbrev pub entry : Counts → Section ℤ → Entry
+entry h s = record { thread = s .owner; first = lineOf h (s .first); last = lineOf h (s .last) }
 
 -- the sections of a trace in the order of their last K
 unfoldable pub order : Counts → List Event → List Entry
-order h events = map entry (reverse (sections h (reverse events)))
+order h events = map (entry h) (reverse (sections h (reverse events)))

@@ -14,8 +14,8 @@ use Rattle.rules.specs.Rules as Rules
 use Rattle.rules.specs.Rules.{wordsOf, held}
 
 -- the number of event lines up to this line: its event's position, from 1; 0 before the first
-unfoldable pub position : ℕ → ℕ
-position line = suc line - firstLine
+unfoldable pub position : Counts → ℕ → ℕ
+position h line = suc line - firstLine h
 
 -- the event that has n events before it
 unfoldable pub nth : ℕ → List Event → Option Event
@@ -33,12 +33,12 @@ unfoldable pub soFar : ℕ → List Event → List Event
 soFar n events = reverse (take n events)
 
 -- the event in this line
-unfoldable pub eventAt : ℕ → List Event → Option Event
-eventAt line events = atPosition (position line) events
+unfoldable pub eventAt : Counts → ℕ → List Event → Option Event
+eventAt h line events = atPosition (position h line) events
 
 -- the events up to this line, the latest first
-unfoldable pub upTo : ℕ → List Event → List Event
-upTo line events = soFar (position line) events
+unfoldable pub upTo : Counts → ℕ → List Event → List Event
+upTo h line events = soFar (position h line) events
 
 -- U, A or B
 unfoldable pub usesOrAssigns : Event → Bool
@@ -53,12 +53,12 @@ passes f none = false
 passes f (some e) = f e
 
 -- in this line stands a K by thread t
-unfoldable pub lockAt : ℕ → List Event → ℕ → Bool
-lockAt t events line = passes (locksBy t) (eventAt line events)
+unfoldable pub lockAt : Counts → ℕ → List Event → ℕ → Bool
+lockAt h t events line = passes (locksBy t) (eventAt h line events)
 
 -- in this line stands an N by thread t
-unfoldable pub unlockAt : ℕ → List Event → ℕ → Bool
-unlockAt t events line = passes (unlocksBy t) (eventAt line events)
+unfoldable pub unlockAt : Counts → ℕ → List Event → ℕ → Bool
+unlockAt h t events line = passes (unlocksBy t) (eventAt h line events)
 
 -- T holds something: a declared lock
 unfoldable pub holdsSome : Counts → ℕ → List Event → Bool
@@ -66,4 +66,4 @@ holdsSome h t es = Rules.some (h .locks) (λ l. held (wordsOf es) t l)
 
 -- thread t holds something after this line
 unfoldable pub holding : Counts → ℕ → List Event → ℕ → Bool
-holding h t events line = holdsSome h t (upTo line events)
+holding h t events line = holdsSome h t (upTo h line events)

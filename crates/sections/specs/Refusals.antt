@@ -31,10 +31,10 @@ unfinished h es = some (h .threads) (λ t. holdsSome h t es || some (h .variable
 
 -- 20 and 21 event by event, 22 last, at the trailer's line. The events es are earlier, the latest first
 unfoldable pub denialFrom : Counts → (ℕ → ℕ) → List Event → List Event → Denial
-denialFrom h guard es [] = cond (unfinished h es) (denied 22 (lineAfter (length es))) fit
+denialFrom h guard es [] = cond (unfinished h es) (denied 22 (lineAfter h (length es))) fit
 denialFrom h guard es (e ∷ rest) =
     let d = denialFrom h guard (e ∷ es) rest in
-    cond (notUnder guard es e) (denied 20 (lineAfter (length es))) (cond (lateLock h es e) (denied 21 (lineAfter (length es))) d)
+    cond (notUnder guard es e) (denied 20 (lineAfter h (length es))) (cond (lateLock h es e) (denied 21 (lineAfter h (length es))) d)
 
 unfoldable pub denial : Counts → (ℕ → ℕ) → List Event → Denial
 denial h guard events = denialFrom h guard [] events

@@ -5,6 +5,7 @@ use mathlib.Core.List.{List, [], _∷_, _++_}
 use lib.Dec.{leb}
 use lib.IntN.{ℤ, pos}
 use Rattle.rules.specs.declared.Event.{Event}
+use Rattle.rules.specs.declared.Counts.{Counts}
 use Rattle.rules.specs.Events.{A, B, U, value, is, of, on}
 use Rattle.rules.specs.Limits.{firstLine}
 use Rattle.rules.specs.Rules.{loc}
@@ -20,13 +21,13 @@ unfoldable pub partFrom : ℕ → Entry → List Event → List Event
 partFrom n s [] = []
 partFrom n s (e ∷ events) = let rest = partFrom (suc n) s events in cond (takes s n e) (e ∷ rest) rest
 
-unfoldable pub part : Entry → List Event → List Event
-part s events = partFrom firstLine s events
+unfoldable pub part : Counts → Entry → List Event → List Event
+part h s events = partFrom (firstLine h) s events
 
 -- The sections are run in the order's sequence, each to its end before the next.
-unfoldable pub serially : List Entry → List Event → List Event
-serially [] events = []
-serially (s ∷ ss) events = part s events ++ serially ss events
+unfoldable pub serially : Counts → List Entry → List Event → List Event
+serially h [] events = []
+serially h (s ∷ ss) events = part h s events ++ serially h ss events
 
 -- how many sections of the order take the event e in line n
 unfoldable pub times : ℕ → Event → List Entry → ℕ
