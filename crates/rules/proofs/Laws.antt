@@ -2,7 +2,7 @@
 use Prim.Native.Nat.{ℕ, zero, suc, _≤_, _<_}
 use native.Mathlib.Omega.{arith}
 use native.Mathlib.Nat.{suc-ne-zero, not-suc-le-zero}
-use borrow.Author.Tests.{eqb-true, eqb-false, leb-false, not-true}
+use borrow.Author.Tests.{eqb-true, eqb-false, eq-eqb, leb-false, lt-leb, not-true}
 use mathlib.Core.Path.{_≡_, refl, sym, ap, _∙_, subst}
 use mathlib.Core.Bool.{Bool, true, false, not, cond, _&&_, _||_, or-false}
 use mathlib.Core.List.{List, [], _∷_, _++_}
@@ -14,13 +14,18 @@ use Rattle.rules.specs.declared.Slot.{Slot}
 use Rattle.rules.specs.declared.Counts.{Counts}
 use Rattle.rules.specs.Limits.{Limits, most, declared}
 use Rattle.rules.specs.Words.{by}
-use Rattle.rules.specs.Rules.{Words, wordsOf, none?, loc, held, some, noPartner, lockTaken, notHeld, eightAlready, breaks, rows, rowIn, firstBroken, judge, answer, verdict, Accepted}
+use Rattle.rules.specs.Rules.{Words, wordsOf, none?, loc, held, some, noPartner, lockTaken, notHeld, eightAlready, breaks, rows, rowIn, firstBroken, judge, answer, verdict, Accepted, legal}
 
 -- ---- Booleans
 
 pub is-true : {b : Bool} → T b → b ≡ true
 is-true {b = true} h = refl
 is-true {b = false} h = absurd h
+
+-- a test holds, or it does not
+pub cases : {X : Type 0} (b : Bool) → (b ≡ true → X) → (b ≡ false → X) → X
+cases true f g = f refl
+cases false f g = g refl
 
 pub and-left : (a b : Bool) → T (a && b) → T a
 and-left true b h = tt
@@ -54,7 +59,7 @@ peel : (b : Bool) (n m : ℕ) → cond b (suc n) m ≡ 0 → (b ≡ false) × (m
 peel true n m p = absurd (suc-ne-zero n p)
 peel false n m p = (refl, p)
 
-unbroken : (ns : List ℕ) (c : Counts) (w : Words) (e : Event) → firstBroken ns c w e ≡ 0 → Unbroken ns c w e
+pub unbroken : (ns : List ℕ) (c : Counts) (w : Words) (e : Event) → firstBroken ns c w e ≡ 0 → Unbroken ns c w e
 unfolding firstBroken breaks
 unbroken [] c w e p = tt
 unbroken (zero ∷ ns) c w e p = (refl, unbroken ns c w e p)
@@ -64,6 +69,36 @@ unbroken (suc n ∷ ns) c w e p = let q = peel (breaks (suc n) c w e) n (firstBr
 pub judged : (c : Counts) (w : Words) (e : Event) (ns : List ℕ) → rowIn rows (letter (e .kind)) ≡ ns → judge c w e ≡ 0 → Unbroken ns c w e
 unfolding judge
 judged c w e ns r p = subst (λ l. Unbroken l c w e) r (unbroken (rowIn rows (letter (e .kind))) c w e p)
+
+-- a refusal is of a rule that is broken
+pub broken-is : (ns : List ℕ) (c : Counts) (w : Words) (e : Event) (n : ℕ) → firstBroken ns c w e ≡ suc n → breaks (suc n) c w e ≡ true
+unfolding firstBroken
+broken-is [] c w e n p = absurd (suc-ne-zero n (sym p))
+broken-is (m ∷ ns) c w e n p = go (breaks m c w e) refl p (broken-is ns c w e n)
+  where
+    go : (b : Bool) → breaks m c w e ≡ b → cond b m (firstBroken ns c w e) ≡ suc n → (firstBroken ns c w e ≡ suc n → breaks (suc n) c w e ≡ true) → breaks (suc n) c w e ≡ true
+    go true q p r = rw (← p) q
+    go false q p r = r p
+
+-- the rule n stands before m in a row
+abbrev pub precedes : ℕ → ℕ → List ℕ → Bool
+precedes n m [] = false
+precedes n m (k ∷ ks) = not (eqb k m) && (eqb k n || precedes n m ks)
+
+-- and is not broken where m is named
+pub earlier : (ns : List ℕ) (c : Counts) (w : Words) (e : Event) (n m : ℕ) → firstBroken ns c w e ≡ m → T (precedes n m ns) → breaks n c w e ≡ false
+unfolding firstBroken
+earlier [] c w e n m p o = absurd o
+earlier (k ∷ ns) c w e n m p o = go (breaks k c w e) refl p (and-left (not (eqb k m)) _ o) (and-right (not (eqb k m)) (eqb k n || precedes n m ns) o) (earlier ns c w e n m)
+  where
+    go : (b : Bool) → breaks k c w e ≡ b → cond b k (firstBroken ns c w e) ≡ m → T (not (eqb k m)) → T (eqb k n || precedes n m ns)
+        → (firstBroken ns c w e ≡ m → T (precedes n m ns) → breaks n c w e ≡ false) → breaks n c w e ≡ false
+    go true q p a b r = absurd (subst (λ x. T (not x)) (eq-eqb k m p) a)
+    go false q p a b r = here (eqb k n) refl b
+      where
+        here : (x : Bool) → eqb k n ≡ x → T (x || precedes n m ns) → breaks n c w e ≡ false
+        here true s b = rw (← (eqb-true k n s)) q
+        here false s b = r p b
 
 -- and one that breaks none is accepted
 pub accepts : (ns : List ℕ) (c : Counts) (w : Words) (e : Event) → Unbroken ns c w e → firstBroken ns c w e ≡ 0
@@ -204,6 +239,45 @@ unfolding verdict wordsOf
 few m c [] x a = omega arith
 few m c (e ∷ es) x a = leb-false (m .events) (length es) (passed m c (wordsOf es) e x (accepted-last m c e es a) .room)
 
+-- ---- a legal list
+
+pub legal-cons : (c : Counts) (e : Event) (es : List Event) → declared c e ≡ true → judge c (wordsOf es) e ≡ 0 → T (legal c es) → T (legal c (e ∷ es))
+unfolding legal
+legal-cons c e es d p l = rw (d, p) l
+
+pub legal-known : (c : Counts) (e : Event) (es : List Event) → T (legal c (e ∷ es)) → declared c e ≡ true
+unfolding legal
+legal-known c e es l = is-true (and-left (declared c e) (eqb (judge c (wordsOf es) e) 0 && legal c es) l)
+
+pub legal-row : (c : Counts) (e : Event) (es : List Event) → T (legal c (e ∷ es)) → judge c (wordsOf es) e ≡ 0
+unfolding legal
+legal-row c e es l = eqb→eq (judge c (wordsOf es) e) 0 (and-left (eqb (judge c (wordsOf es) e) 0) (legal c es) (and-right (declared c e) (eqb (judge c (wordsOf es) e) 0 && legal c es) l))
+
+pub legal-before : (c : Counts) (e : Event) (es : List Event) → T (legal c (e ∷ es)) → T (legal c es)
+unfolding legal
+legal-before c e es l = and-right (eqb (judge c (wordsOf es) e) 0) (legal c es) (and-right (declared c e) (eqb (judge c (wordsOf es) e) 0 && legal c es) l)
+
+-- an accepted list is legal
+pub accepted-legal : (m : Limits) (c : Counts) (es : List Event) → 0 < m .excess → T (Accepted m c es) → T (legal c es)
+unfolding legal verdict
+accepted-legal m c [] x a = tt
+accepted-legal m c (e ∷ es) x a =
+    let p = passed m c (wordsOf es) e x (accepted-last m c e es a) in
+    legal-cons c e es (p .known) (p .row) (accepted-legal m c es x (accepted-before m c e es a))
+
+clear : (m : Limits) (c : Counts) (e : Event) (es : List Event) → declared c e ≡ true → judge c (wordsOf es) e ≡ 0 → length es < m .events → verdict m c es e ≡ 0
+unfolding verdict answer
+clear m c e es d p h = rw (room, d, p)
+  where
+    room : leb (m .events) (wordsOf es .events) ≡ false
+    room = unfold wordsOf in lt-leb (m .events) (length es) h
+
+-- and a legal list within the limit is accepted
+pub legal-accepted : (m : Limits) (c : Counts) (es : List Event) → T (legal c es) → length es ≤ m .events → T (Accepted m c es)
+unfolding Accepted
+legal-accepted m c [] l h = tt
+legal-accepted m c (e ∷ es) l h = accepted-cons m c e es (clear m c e es (legal-known c e es l) (legal-row c e es l) h) (legal-accepted m c es (legal-before c e es l) (omega arith))
+
 -- ---- a search over the numbers below n
 
 pub some-zero : (f : ℕ → Bool) → some 0 f ≡ false
@@ -237,3 +311,9 @@ some-none n f p u h = go (f u) refl
     go : (b : Bool) → f u ≡ b → b ≡ false
     go true q = sym (some-has n f u h q) ∙ p
     go false q = refl
+
+-- and back
+pub none-some : (n : ℕ) (f : ℕ → Bool) → ((u : ℕ) → u < n → f u ≡ false) → some n f ≡ false
+unfolding some
+none-some zero f h = refl
+none-some (suc n) f h = rw (h n (omega arith)) (none-some n f (λ u k. h u (omega arith)))

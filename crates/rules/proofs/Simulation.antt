@@ -18,8 +18,8 @@ use Rattle.rules.specs.declared.Slot.{Slot}
 use Rattle.rules.specs.declared.Counts.{Counts}
 use Rattle.rules.specs.Limits.{Limits}
 use Rattle.rules.specs.Words.{latest, valueIn, letterIn, lastAt, count, slot, inOrder, first, by, acquires, releases, reads, stores, copy, fresh, pending, announced, lastLock, lastWrite, usable, depth, main}
-use Rattle.rules.specs.Rules.{Words, wordsOf, none?, loc, held, judge, Accepted}
-use Rattle.rules.proofs.Laws.{and-left, and-right, accepted-row, accepted-before, load-partner, write-partner, unlock-held}
+use Rattle.rules.specs.Rules.{Words, wordsOf, none?, loc, held, judge, Accepted, legal}
+use Rattle.rules.proofs.Laws.{and-left, and-right, accepted-legal, legal-row, legal-before, load-partner, write-partner, unlock-held}
 use Rattle.rules.proofs.Next.{others, next}
 
 -- ---- laws of what the words are made of, at a longer list
@@ -186,21 +186,40 @@ released-lock : (t l : ℕ) (e : Event) → T (releases t l e) → loc e ≡ l
 unfolding releases unlocks
 released-lock t l e b = by-loc (N ∷ []) t l e (unfold by in b)
 
-paired-next : (c : Counts) (e : Event) (es : List Event) → judge c (wordsOf es) e ≡ 0 → Paired es → Paired (e ∷ es)
+-- what the rules 10 and 12 ask of e: a load has an outstanding read, a write an outstanding store, and an unlock is of a lock that is held
+pub record Partnered (w : Words) (e : Event) : Type 0 where
+  pub loads : T (is (L ∷ []) e) → none? (w .reads (e .thread) (loc e)) ≡ false
+  pub writes : T (is (W ∷ []) e) → none? (w .stores (e .thread) (loc e)) ≡ false
+  pub unlocks : T (is (N ∷ []) e) → not (held w (e .thread) (loc e)) ≡ false
+
+pub partnered : (c : Counts) (w : Words) (e : Event) → judge c w e ≡ 0 → Partnered w e
+partnered c w e p = record { loads = load-partner c w e p; writes = write-partner c w e p; unlocks = unlock-held c w e p }
+
+pub paired-next : (e : Event) (es : List Event) → Partnered (wordsOf es) e → Paired es → Paired (e ∷ es)
 unfolding wordsOf reads stores depth
-paired-next c e es p h = record {
+paired-next e es p h = record {
   loads = λ t v. grow (by (R ∷ []) t v) (by (L ∷ []) t v) e es
-      (λ b. left _ _ (rw (by-thread (L ∷ []) t v e b, by-loc (L ∷ []) t v e b) at (load-partner c (wordsOf es) e p (by-is (L ∷ []) t v e b)))) (h .loads t v);
+      (λ b. left _ _ (rw (by-thread (L ∷ []) t v e b, by-loc (L ∷ []) t v e b) at (p .loads (by-is (L ∷ []) t v e b)))) (h .loads t v);
   writes = λ t v. grow (by (S ∷ P ∷ []) t v) (by (W ∷ []) t v) e es
-      (λ b. left _ _ (rw (by-thread (W ∷ []) t v e b, by-loc (W ∷ []) t v e b) at (write-partner c (wordsOf es) e p (by-is (W ∷ []) t v e b)))) (h .writes t v);
+      (λ b. left _ _ (rw (by-thread (W ∷ []) t v e b, by-loc (W ∷ []) t v e b) at (p .writes (by-is (W ∷ []) t v e b)))) (h .writes t v);
   unlocks = λ t l. grow-count (acquires t l) (releases t l) e es
-      (λ b. more t l (rw (released-by t l e b, released-lock t l e b) at (unlock-held c (wordsOf es) e p (released t l e b)))) (h .unlocks t l);
+      (λ b. more t l (rw (released-by t l e b, released-lock t l e b) at (p .unlocks (released t l e b)))) (h .unlocks t l);
 }
   where
     more : (t l : ℕ) → not (ltb 0 (count (acquires t l) es - count (releases t l) es)) ≡ false → count (releases t l) es < count (acquires t l) es
     more t l q = let x = ltb-true 0 (count (acquires t l) es - count (releases t l) es) (not-false _ q) in omega arith
 
-pub paired : (m : Limits) (c : Counts) (es : List Event) → 0 < m .excess → T (Accepted m c es) → Paired es
+pub paired-none : Paired []
 unfolding count inOrder
-paired m c [] x a = record { loads = λ t v. zero-le; writes = λ t v. zero-le; unlocks = λ t l. zero-le }
-paired m c (e ∷ es) x a = paired-next c e es (accepted-row m c e es x a) (paired m c es x (accepted-before m c e es a))
+paired-none = record { loads = λ t v. zero-le; writes = λ t v. zero-le; unlocks = λ t l. zero-le }
+
+pub paired-legal : (c : Counts) (es : List Event) → T (legal c es) → Paired es
+paired-legal c [] l = paired-none
+paired-legal c (e ∷ es) l = paired-next e es (partnered c (wordsOf es) e (legal-row c e es l)) (paired-legal c es (legal-before c e es l))
+
+pub paired : (m : Limits) (c : Counts) (es : List Event) → 0 < m .excess → T (Accepted m c es) → Paired es
+paired m c es x a = paired-legal c es (accepted-legal m c es x a)
+
+-- the words after a legal list and one event more
+pub legal-next : (c : Counts) (e : Event) (es : List Event) → T (legal c es) → wordsOf (e ∷ es) ≡ next (wordsOf es) e
+legal-next c e es l = words-next e es (paired-legal c es l)

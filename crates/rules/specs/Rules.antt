@@ -200,6 +200,11 @@ unfoldable pub Accepted : Limits → Counts → List Event → Bool
 Accepted m h [] = true
 Accepted m h (e ∷ es) = eqb (verdict m h es e) 0 && Accepted m h es
 
+-- Each event is declared and breaks no rule of its row after those before it: acceptance with the limit of events set aside.
+unfoldable pub legal : Counts → List Event → Bool
+legal h [] = true
+legal h (e ∷ es) = declared h e && (eqb (judge h (wordsOf es) e) 0 && legal h es)
+
 -- a whole trace, its events in their own order: accepted, or the refusal of the first bad event: number and line
 pub data Marked : Type 0 where
   accepted : Marked

@@ -14,7 +14,7 @@ use Rattle.rules.specs.declared.Counts.{Counts}
 use Rattle.rules.specs.Limits.{Limits, full}
 use Rattle.rules.specs.Words.{main}
 use Rattle.rules.specs.Rules.{mark, wordsOf, held, Accepted}
-use Rattle.rules.proofs.Laws.{is-true, few}
+use Rattle.rules.proofs.Laws.{accepted-legal, is-true, few}
 use Rattle.rules.proofs.Marking.{walk-accepts}
 use Rattle.serial.specs.Lists.{All}
 use Rattle.serial.specs.Sections.{Section}
@@ -51,7 +51,7 @@ marked-accepted : (m : Limits) (h : Counts) (events : List Event) → AcceptedTr
 marked-accepted m h events a = walk-accepts m h events [] (unfold Accepted in tt) (unfold mark in a .marked)
 
 pub valid : (m : Limits) (h : Counts) (events : List Event) → AcceptedTrace m h events → Valid h (reverse events)
-valid m h events a = (m, a .limits .excess, marked-accepted m h events a)
+valid m h events a = accepted-legal m h (reverse events) (a .limits .excess) (marked-accepted m h events a)
 
 pub trace-declared : (m : Limits) (h : Counts) (events : List Event) → AcceptedTrace m h events → All (Declared h) events
 trace-declared m h events a = subst (λ l. All (Declared h) l) (reverse-reverse events) (All-turn (Declared h) (reverse events) [] (all-declared h (reverse events) (valid m h events a)) tt)

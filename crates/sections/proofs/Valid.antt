@@ -1,35 +1,32 @@
--- An accepted list of events: each event is declared, and breaks no rule of its row.
-use Prim.Native.Nat.{ℕ, zero, suc, _≤_, _<_}
-use native.Mathlib.Omega.{arith}
-use mathlib.Core.Path.{_≡_, refl, sym, subst}
-use mathlib.Core.Bool.{Bool, true, false, cond, _&&_}
+-- A legal list of events: each event is declared, and breaks no rule of its row.
+use Prim.Native.Nat.{ℕ, _<_}
+use mathlib.Core.Path.{_≡_, sym, subst}
+use mathlib.Core.Bool.{true, cond, _&&_}
 use mathlib.Core.List.{List, [], _∷_}
-use lib.Dec.{T, ltb, leb}
-use lib.ListN.{length}
-use borrow.Author.Tests.{ltb-true, leb-false}
+use lib.Dec.{T, ltb}
+use borrow.Author.Tests.{ltb-true}
 use Rattle.rules.specs.declared.Event.{Event}
 use Rattle.rules.specs.declared.Counts.{Counts}
 use Rattle.rules.specs.declared.Kind.{Kind}
 use Rattle.rules.specs.declared.Kind.the-variants.{Use, Assign, Load, Store, Read, Write, Lock, Unlock, PrescientStore, PrescientAssign}
 use Rattle.rules.specs.Events.{place, is, onLock}
-use Rattle.rules.specs.Limits.{Limits, declared}
-use Rattle.rules.specs.Rules.{wordsOf, judge, verdict, Accepted}
-use Rattle.rules.proofs.Laws.{is-true, and-left, and-right, accepted-before, accepted-last, accepted-row, Passed, passed}
-use Rattle.rules.proofs.Simulation.{Paired, paired}
+use Rattle.rules.specs.Limits.{declared}
+use Rattle.rules.specs.Rules.{wordsOf, judge, legal}
+use Rattle.rules.proofs.Laws.{is-true, and-left, and-right, legal-known, legal-row, legal-before}
+use Rattle.rules.proofs.Simulation.{Paired, paired-legal}
 use Rattle.serial.specs.Lists.{All}
 
--- accepted under some limits
 abbrev pub Valid : Counts → List Event → Type 0
-Valid h es = (m : Limits) × (0 < m .excess) × T (Accepted m h es)
+Valid h es = T (legal h es)
 
 pub before : (h : Counts) (e : Event) (es : List Event) → Valid h (e ∷ es) → Valid h es
-before h e es a = (a .0, a .1, accepted-before (a .0) h e es (a .2))
+before h e es a = legal-before h e es a
 
 pub row : (h : Counts) (e : Event) (es : List Event) → Valid h (e ∷ es) → judge h (wordsOf es) e ≡ 0
-row h e es a = accepted-row (a .0) h e es (a .1) (a .2)
+row h e es a = legal-row h e es a
 
 pub pairs : (h : Counts) (es : List Event) → Valid h es → Paired es
-pairs h es a = paired (a .0) h es (a .1) (a .2)
+pairs h es a = paired-legal h es a
 
 -- the numbers of an event are declared
 abbrev pub Numbered : Counts → Kind → Type 0
@@ -71,7 +68,5 @@ to-declared h e p = (less (e .thread) (h .threads) (and-left (ltb (e .thread) (h
     t = subst T (sym p) tt
 
 pub all-declared : (h : Counts) (es : List Event) → Valid h es → All (Declared h) es
-unfolding verdict
 all-declared h [] a = tt
-all-declared h (e ∷ es) a =
-    (to-declared h e (passed (a .0) h (wordsOf es) e (a .1) (accepted-last (a .0) h e es (a .2)) .known), all-declared h es (before h e es a))
+all-declared h (e ∷ es) a = (to-declared h e (legal-known h e es a), all-declared h es (before h e es a))
