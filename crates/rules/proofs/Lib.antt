@@ -1,4 +1,5 @@
 pub mod Laws
+pub mod Held
 pub mod Marking
 pub mod Next
 pub mod Projections

@@ -1,5 +1,5 @@
 -- Each word depends on one projection of the earlier events alone; so do the refusals of a row, and the memories.
-use Prim.Native.Nat.{ℕ, zero, suc, _-_, _≤_, _<_}
+use Prim.Native.Nat.{ℕ, zero, suc, pred, _≤_, _<_}
 use native.Mathlib.Omega.{arith}
 use mathlib.Core.Path.{_≡_, refl, sym, ap, _∙_, subst}
 use mathlib.Core.Bool.{Bool, true, false, not, cond, _&&_, _||_, and-false}
@@ -249,7 +249,9 @@ module _ (t v : ℕ) where
 module _ (t l : ℕ) where
   depth-kept : (q : Event → Bool) → Within (acquires t l) q → Within (releases t l) q → (es : List Event) → depth t l es ≡ depth t l (keep q es)
   unfolding depth
-  depth-kept q a r es = λ i. count-kept q (acquires t l) a es i - count-kept q (releases t l) r es i
+  depth-kept q a r = kept q (λ es fs. depth t l es ≡ depth t l fs) refl
+      (λ e es h k. rw (fails (acquires t l e) (q e) (a e) h, fails (releases t l e) (q e) (r e) h) k)
+      (λ e es h k. ap (λ d. cond (acquires t l e) (suc d) (cond (releases t l e) (pred d) d)) k)
 
   pub depth-lock : (es : List Event) → depth t l es ≡ depth t l (lockOn l es)
   unfolding lockOn acquires releases onLock locks unlocks

@@ -18,8 +18,8 @@ use Rattle.rules.specs.declared.Slot.{Slot}
 use Rattle.rules.specs.declared.Counts.{Counts}
 use Rattle.rules.specs.Limits.{Limits}
 use Rattle.rules.specs.Words.{latest, valueIn, letterIn, lastAt, count, slot, inOrder, first, by, acquires, releases, reads, stores, copy, fresh, pending, announced, lastLock, lastWrite, usable, depth, main}
-use Rattle.rules.specs.Rules.{Words, wordsOf, none?, loc, held, judge, Accepted, legal}
-use Rattle.rules.proofs.Laws.{and-left, and-right, accepted-legal, legal-row, legal-before, load-partner, write-partner, unlock-held}
+use Rattle.rules.specs.Rules.{Words, wordsOf, none?, loc, judge, Accepted, legal}
+use Rattle.rules.proofs.Laws.{and-left, and-right, accepted-legal, legal-row, legal-before, load-partner, write-partner}
 use Rattle.rules.proofs.Next.{others, next}
 
 -- ---- laws of what the words are made of, at a longer list
@@ -59,23 +59,6 @@ queue p q e es ne h = go (p e) (q e) ne
     go false true n = rw append-nil (drop-others (count q es) (inOrder p es))
     go false false n = rw append-nil
 
-one-less : (a b : ℕ) → a - suc b ≡ pred (a - b)
-one-less a b = omega arith
-
--- more of p than of q, with one more event
-less : (p q : Event → Bool) (e : Event) (es : List Event) → (T (p e) → T (q e) → ⊥) → count q es ≤ count p es
-    → count p (e ∷ es) - count q (e ∷ es) ≡ cond (p e) (suc (count p es - count q es)) (cond (q e) (pred (count p es - count q es)) (count p es - count q es))
-unfolding count
-less p q e es ne h = go (p e) (q e) ne
-  where
-    go : (b c : Bool) → (T b → T c → ⊥)
-        → cond b (suc (count p es)) (count p es) - cond c (suc (count q es)) (count q es)
-        ≡ cond b (suc (count p es - count q es)) (cond c (pred (count p es - count q es)) (count p es - count q es))
-    go true true n = absurd (n tt tt)
-    go true false n = omega arith
-    go false true n = one-less (count p es) (count q es)
-    go false false n = refl
-
 -- ---- no event has two letters
 
 -- what holds of each of the ten letters holds of a kind's letter
@@ -104,17 +87,12 @@ store-write : (t v : ℕ) (e : Event) → T (by (S ∷ P ∷ []) t v e) → T (b
 unfolding by is
 store-write t v e = contrary (is (S ∷ P ∷ []) e) (is (W ∷ []) e) (of t e && on v e) (at-letter (λ n. not (among (S ∷ P ∷ []) n && among (W ∷ []) n)) (tt, tt, tt, tt, tt, tt, tt, tt, tt, tt) (e .kind))
 
-lock-unlock : (t l : ℕ) (e : Event) → T (acquires t l e) → T (releases t l e) → ⊥
-unfolding acquires releases locks unlocks is
-lock-unlock t l e = contrary (is (K ∷ []) e) (is (N ∷ []) e) (of t e && on l e) (at-letter (λ n. not (among (K ∷ []) n && among (N ∷ []) n)) (tt, tt, tt, tt, tt, tt, tt, tt, tt, tt) (e .kind))
-
 -- ---- the words at a longer list
 
--- what the rules 10 and 12 keep: no more loads than reads, writes than stores, unlocks than locks
+-- what rule 10 keeps: no more loads than reads, writes than stores
 pub record Paired (es : List Event) : Type 0 where
   pub loads : (t v : ℕ) → count (by (L ∷ []) t v) es ≤ length (inOrder (by (R ∷ []) t v) es)
   pub writes : (t v : ℕ) → count (by (W ∷ []) t v) es ≤ length (inOrder (by (S ∷ P ∷ []) t v) es)
-  pub unlocks : (t l : ℕ) → count (releases t l) es ≤ count (acquires t l) es
 
 pub words-next : (e : Event) (es : List Event) → Paired es → wordsOf (e ∷ es) ≡ next (wordsOf es) e
 unfolding wordsOf next reads stores copy fresh pending announced lastLock lastWrite usable depth main lastAt
@@ -129,7 +107,7 @@ words-next e es h = λ i. record {
   stores = λ t v. queue (by (S ∷ P ∷ []) t v) (by (W ∷ []) t v) e es (store-write t v e) (h .writes t v) i;
   lastWrite = λ t v. next (wordsOf es) e .lastWrite t v;
   lastLock = λ t. next (wordsOf es) e .lastLock t;
-  depth = λ t l. less (acquires t l) (releases t l) e es (lock-unlock t l e) (h .unlocks t l) i;
+  depth = λ t l. next (wordsOf es) e .depth t l;
   main = λ v. value-latest (λ x. is (W ∷ []) x && on v x) e es i;
 }
 
@@ -150,68 +128,39 @@ grow p q e es f h = rw length-append (go (q e) (length (cond (p e) (slot es e �
     go true k g = let x = g tt in omega arith
     go false k g = omega arith
 
-grow-count : (p q : Event → Bool) (e : Event) (es : List Event) → (T (q e) → count q es < count p es) → count q es ≤ count p es → count q (e ∷ es) ≤ count p (e ∷ es)
-unfolding count
-grow-count p q e es f h = go (p e) (q e) f
-  where
-    go : (b c : Bool) → (T c → count q es < count p es) → cond c (suc (count q es)) (count q es) ≤ cond b (suc (count p es)) (count p es)
-    go true true g = let x = g tt in omega arith
-    go true false g = omega arith
-    go false true g = g tt
-    go false false g = h
-
 -- the thread and the place of an event that passes `by`
-by-is : (ks : List ℕ) (t v : ℕ) (e : Event) → T (by ks t v e) → T (is ks e)
+pub by-is : (ks : List ℕ) (t v : ℕ) (e : Event) → T (by ks t v e) → T (is ks e)
 unfolding by
 by-is ks t v e h = and-left (is ks e) (of t e && on v e) h
 
-by-thread : (ks : List ℕ) (t v : ℕ) (e : Event) → T (by ks t v e) → e .thread ≡ t
+pub by-thread : (ks : List ℕ) (t v : ℕ) (e : Event) → T (by ks t v e) → e .thread ≡ t
 unfolding by of
 by-thread ks t v e h = eqb→eq (e .thread) t (and-left (of t e) (on v e) (and-right (is ks e) (of t e && on v e) h))
 
-by-loc : (ks : List ℕ) (t v : ℕ) (e : Event) → T (by ks t v e) → loc e ≡ v
+pub by-loc : (ks : List ℕ) (t v : ℕ) (e : Event) → T (by ks t v e) → loc e ≡ v
 unfolding by on
 by-loc ks t v e h = eqb→eq (loc e) v (and-right (of t e) (on v e) (and-right (is ks e) (of t e && on v e) h))
 
--- an unlock of l by T
-released : (t l : ℕ) (e : Event) → T (releases t l e) → T (is (N ∷ []) e)
-unfolding releases unlocks
-released t l e b = by-is (N ∷ []) t l e (unfold by in b)
-
-released-by : (t l : ℕ) (e : Event) → T (releases t l e) → e .thread ≡ t
-unfolding releases unlocks
-released-by t l e b = by-thread (N ∷ []) t l e (unfold by in b)
-
-released-lock : (t l : ℕ) (e : Event) → T (releases t l e) → loc e ≡ l
-unfolding releases unlocks
-released-lock t l e b = by-loc (N ∷ []) t l e (unfold by in b)
-
--- what the rules 10 and 12 ask of e: a load has an outstanding read, a write an outstanding store, and an unlock is of a lock that is held
+-- what rule 10 asks of e: a load has an outstanding read, a write an outstanding store
 pub record Partnered (w : Words) (e : Event) : Type 0 where
   pub loads : T (is (L ∷ []) e) → none? (w .reads (e .thread) (loc e)) ≡ false
   pub writes : T (is (W ∷ []) e) → none? (w .stores (e .thread) (loc e)) ≡ false
-  pub unlocks : T (is (N ∷ []) e) → not (held w (e .thread) (loc e)) ≡ false
 
 pub partnered : (c : Counts) (w : Words) (e : Event) → judge c w e ≡ 0 → Partnered w e
-partnered c w e p = record { loads = load-partner c w e p; writes = write-partner c w e p; unlocks = unlock-held c w e p }
+partnered c w e p = record { loads = load-partner c w e p; writes = write-partner c w e p }
 
 pub paired-next : (e : Event) (es : List Event) → Partnered (wordsOf es) e → Paired es → Paired (e ∷ es)
-unfolding wordsOf reads stores depth
+unfolding wordsOf reads stores
 paired-next e es p h = record {
   loads = λ t v. grow (by (R ∷ []) t v) (by (L ∷ []) t v) e es
       (λ b. left _ _ (rw (by-thread (L ∷ []) t v e b, by-loc (L ∷ []) t v e b) at (p .loads (by-is (L ∷ []) t v e b)))) (h .loads t v);
   writes = λ t v. grow (by (S ∷ P ∷ []) t v) (by (W ∷ []) t v) e es
       (λ b. left _ _ (rw (by-thread (W ∷ []) t v e b, by-loc (W ∷ []) t v e b) at (p .writes (by-is (W ∷ []) t v e b)))) (h .writes t v);
-  unlocks = λ t l. grow-count (acquires t l) (releases t l) e es
-      (λ b. more t l (rw (released-by t l e b, released-lock t l e b) at (p .unlocks (released t l e b)))) (h .unlocks t l);
 }
-  where
-    more : (t l : ℕ) → not (ltb 0 (count (acquires t l) es - count (releases t l) es)) ≡ false → count (releases t l) es < count (acquires t l) es
-    more t l q = let x = ltb-true 0 (count (acquires t l) es - count (releases t l) es) (not-false _ q) in omega arith
 
 pub paired-none : Paired []
 unfolding count inOrder
-paired-none = record { loads = λ t v. zero-le; writes = λ t v. zero-le; unlocks = λ t l. zero-le }
+paired-none = record { loads = λ t v. zero-le; writes = λ t v. zero-le }
 
 pub paired-legal : (c : Counts) (es : List Event) → T (legal c es) → Paired es
 paired-legal c [] l = paired-none

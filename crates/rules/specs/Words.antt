@@ -1,6 +1,6 @@
 -- Document 01, "Words about earlier events". The list holds the earlier events, the latest first; an event's position is
 -- its number in the trace, from 1, and is the length of the list that begins with it. 0 stands for no position.
-use Prim.Native.Nat.{ℕ, zero, suc, _-_}
+use Prim.Native.Nat.{ℕ, zero, suc, pred}
 use mathlib.Core.Bool.{Bool, true, false, not, cond, _&&_, _||_}
 use mathlib.Core.List.{List, [], _∷_, _++_}
 use mathlib.Core.Option.{Option, none, some}
@@ -109,9 +109,11 @@ usable t v (e ∷ es) =
     not (locksBy t e)
     && (by (A ∷ B ∷ []) t v e || by (L ∷ []) t v e && ltb (lastLock t es) (first (reads t v es) .position) || usable t v es)
 
--- how many more K than N by T on the lock. Held by T: more K than N by T on that lock.
+-- how many holds T has on the lock: one more with its K, one less with its N. Held by T: more K than N by T on that lock. (After legal events
+-- the holds are the K less the N: `depth-less` in proofs/Held.antt.)
 unfoldable pub depth : ℕ → ℕ → List Event → ℕ
-depth t l es = count (acquires t l) es - count (releases t l) es
+depth t l [] = 0
+depth t l (e ∷ es) = cond (acquires t l e) (suc (depth t l es)) (cond (releases t l e) (pred (depth t l es)) (depth t l es))
 
 -- Main memory of V: the value of the latest W on V, by any thread; 0 before one.
 unfoldable pub main : ℕ → List Event → ℤ

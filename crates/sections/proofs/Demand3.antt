@@ -100,7 +100,7 @@ room m h guard events a p =
     simp (length-map, length-reverse)
     (omega (
       arith,
-      half h (reverse events) (all-declared h (reverse events) (valid m h events a)) (fit-from h guard [] events p tt .1),
+      half h (reverse events) (all-declared h (reverse events) (valid m h events a)) (valid m h events a) (fit-from h guard [] events p tt .1),
       few m h (reverse events) (a .limits .excess) (marked-accepted m h events a),
       a .limits .events,
     ))

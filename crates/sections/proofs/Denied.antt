@@ -247,8 +247,7 @@ module _ (h : Counts) (events : List Event) (d : All (Declared h) events) where
       g = from-held (r .thread) (r .lock) (reverse events) (r .held)
 
       below : r .lock < h .locks
-      below = lock-below h (r .thread) (r .lock) (reverse events) turned
-          (let i : H.unlocked (r .thread) (r .lock) (map view (reverse events)) < H.locked (r .thread) (r .lock) (map view (reverse events)) = unfold H.Holds in g in omega arith)
+      below = lock-below h (r .thread) (r .lock) (reverse events) turned (unfold H.Holds in g)
   to-22 (inr r) =
       some-has (h .threads) (λ t. holdsSome h t (reverse events) || owes t) (r .thread) (declared (decLt (r .thread) (h .threads)))
       (or-right (holdsSome h (r .thread) (reverse events)) (owes (r .thread)) (some-has (h .variables) (λ v. pending (r .thread) v (reverse events)) (r .variable) (named (decLt (r .variable) (h .variables))) (r .pending)))

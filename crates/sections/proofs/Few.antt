@@ -1,5 +1,5 @@
--- A trace that leaves no lock held has at most half as many sections as events. Needs none of the rules 10 to 19: each section has
--- a K of its own, and where no lock is held at the end no thread has done more K than N on any lock.
+-- A trace that leaves no lock held has at most half as many sections as events: each section has a K of its own, and where no lock is held
+-- at the end no thread has done more K than N on any lock (rules' proofs/Held.antt).
 use Prim.Native.Nat.{ℕ, zero, suc, _+_, _*_, _-_, _<_, _≤_}
 use native.Mathlib.Decide.{ℕ-discrete, decLt}
 use native.Mathlib.Nat.{not-suc-le-zero}
@@ -29,8 +29,9 @@ use Rattle.sections.specs.View.{viewed, view}
 use Rattle.sections.specs.Places.{holdsSome}
 use Rattle.sections.specs.Order.{told, sections}
 use Rattle.sections.specs.Refusals.{unfinished}
-use Rattle.sections.proofs.Valid.{Numbered, Declared}
+use Rattle.sections.proofs.Valid.{Valid, Numbered, Declared}
 use Rattle.rules.proofs.Laws.{some-none}
+use Rattle.rules.proofs.Held.{depth-counts}
 use Rattle.sections.proofs.Ordered.{All-imp, sections-same, some-busy, settled}
 
 -- ---- each section has a K of its own
@@ -171,14 +172,14 @@ and-l : (a b : Bool) → (a && b) ≡ true → a ≡ true
 and-l true b q = refl
 and-l false b q = q
 
-module _ (h : Counts) (es : List Event) (d : All (Declared h) es) (u : unfinished h es ≡ false) where
+module _ (h : Counts) (es : List Event) (d : All (Declared h) es) (v : Valid h es) (u : unfinished h es ≡ false) where
   -- of one thread on one lock
   pair : (t l : ℕ) → t < h .threads → l < h .locks → count (acquires t l) es ≤ count (releases t l) es
-  unfolding holdsSome wordsOf depth
+  unfolding holdsSome wordsOf
   pair t l ht hl =
       let b : held (wordsOf es) t l ≡ false = some-none (h .locks) (λ l. held (wordsOf es) t l) (settled h es u t ht .0) l hl in
-      let z : count (acquires t l) es - count (releases t l) es ≤ 0 = ltb-false 0 (count (acquires t l) es - count (releases t l) es) b in
-      omega (arith, z)
+      let z : depth t l es ≤ 0 = ltb-false 0 (depth t l es) b in
+      omega (arith, z, depth-counts h t l es v)
 
   and-swap : (a b c : Bool) → ((a && b) && c) ≡ (a && (b && c))
   and-swap true b c = refl
@@ -224,5 +225,5 @@ apart (e ∷ es) = go (letter (e .kind)) (ℕ-discrete (letter (e .kind)) K) (ap
         second true r = omega (arith, r)
         second false r = omega (arith, r)
 
-pub half : (h : Counts) (es : List Event) → All (Declared h) es → unfinished h es ≡ false → 2 * length (sections h es) ≤ length es
-half h es d u = omega (arith, own-lock h es d, apart es, pairs-all h es d u)
+pub half : (h : Counts) (es : List Event) → All (Declared h) es → Valid h es → unfinished h es ≡ false → 2 * length (sections h es) ≤ length es
+half h es d v u = omega (arith, own-lock h es d, apart es, pairs-all h es d v u)

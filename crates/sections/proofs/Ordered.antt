@@ -1,5 +1,5 @@
 -- A trace that no refusal of 10 to 22 meets has a serial order.
-use Prim.Native.Nat.{ℕ, zero, suc, _+_, _-_, _*_, _≤_, _<_}
+use Prim.Native.Nat.{ℕ, zero, suc, pred, _+_, _-_, _*_, _≤_, _<_}
 use native.Mathlib.Decide.{ℕ-discrete, decLt}
 use native.Mathlib.Omega.{arith}
 use mathlib.Core.Path.{_≡_, refl, sym, ap, _∙_, subst, subst₂}
@@ -48,24 +48,33 @@ All-imp P R [] f h = tt
 All-imp P R (a ∷ l) f h = (f a (h .0), All-imp P R l f (h .1))
 
 -- a lock that is held is declared
-pub lock-below : (h : Counts) (t l : ℕ) (es : List Event) → All (Declared h) es → 0 < H.locked t l (map view es) → l < h .locks
-unfolding H.locked
+pub lock-below : (h : Counts) (t l : ℕ) (es : List Event) → All (Declared h) es → 0 < H.held t l (map view es) → l < h .locks
+unfolding H.held
 lock-below h t l [] d b = absurd (omega arith)
 lock-below h t l (e ∷ es) d b = go (e .kind) (d .0 .1) b (lock-below h t l es (d .1))
   where
-    go : (k : Kind) → Numbered h k → 0 < H.locked t l (viewed (e .thread) k ∷ map view es) → (0 < H.locked t l (map view es) → l < h .locks) → l < h .locks
+    go : (k : Kind) → Numbered h k → 0 < H.held t l (viewed (e .thread) k ∷ map view es) → (0 < H.held t l (map view es) → l < h .locks) → l < h .locks
     go (Use v x) m b r = r b
     go (Assign v x) m b r = r b
     go (Load v x) m b r = r b
     go (Store v x) m b r = r b
     go (Read v x) m b r = r b
     go (Write v x) m b r = r b
-    go (Unlock i) m b r = r b
     go (PrescientStore v x) m b r = r b
     go (PrescientAssign v x) m b r = r b
+    go (Unlock i) m b r = both (ℕ-discrete (e .thread) t) (ℕ-discrete i l) b
+      where
+        less : (n : ℕ) → 0 < pred n → 0 < n
+        less n h = omega arith
+
+        both : (p : Dec (e .thread ≡ t)) (q : Dec (i ≡ l)) → 0 < H.where-both p q (pred (H.held t l (map view es))) (H.held t l (map view es)) → l < h .locks
+        both (yes p) (yes q) b = r (less (H.held t l (map view es)) b)
+        both (yes p) (no q) b = r b
+        both (no p) (yes q) b = r b
+        both (no p) (no q) b = r b
     go (Lock i) m b r = both (ℕ-discrete (e .thread) t) (ℕ-discrete i l) b
       where
-        both : (p : Dec (e .thread ≡ t)) (q : Dec (i ≡ l)) → 0 < H.bump p q (H.locked t l (map view es)) → l < h .locks
+        both : (p : Dec (e .thread ≡ t)) (q : Dec (i ≡ l)) → 0 < H.where-both p q (suc (H.held t l (map view es))) (H.held t l (map view es)) → l < h .locks
         both (yes p) (yes q) b = subst (λ j. j < h .locks) q m
         both (yes p) (no q) b = r b
         both (no p) (yes q) b = r b
@@ -346,11 +355,11 @@ serial-order h guard events a d p =
     let f : T (orderly h guard (reverse events)) × (unfinished h (reverse events) ≡ false) = fit-from h guard [] events p tt in
     serial-run h guard events a d (f .0) (f .1)
 
-pub holds-lock : (j t l : ℕ) (es : List (E.Event ℤ)) → H.unlocked t l es ≤ H.locked t l es → H.Holds t l (E.lock j t l ∷ es)
-unfolding H.Holds H.locked H.unlocked
-holds-lock j t l es h = go (ℕ-discrete t t) (ℕ-discrete l l)
+pub holds-lock : (j t l : ℕ) (es : List (E.Event ℤ)) → H.Holds t l (E.lock j t l ∷ es)
+unfolding H.Holds H.held
+holds-lock j t l es = go (ℕ-discrete t t) (ℕ-discrete l l)
   where
-    go : (d : Dec (t ≡ t)) (d′ : Dec (l ≡ l)) → H.unlocked t l es < H.bump d d′ (H.locked t l es)
+    go : (d : Dec (t ≡ t)) (d′ : Dec (l ≡ l)) → 0 < H.where-both d d′ (suc (H.held t l es)) (H.held t l es)
     go (yes p) (yes q) = omega arith
     go (yes p) (no q) = absurd (q refl)
     go (no p) (yes q) = absurd (p refl)

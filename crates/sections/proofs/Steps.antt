@@ -28,7 +28,6 @@ use Rattle.sections.specs.View.{viewed, view}
 use Rattle.sections.specs.Order.{told, sections}
 use Rattle.sections.specs.Places.{soFar, unlocksBy, holdsSome}
 use Rattle.sections.proofs.Valid.{Valid, pairs, Declared}
-use Rattle.sections.proofs.Whole.{lockeds, unlockeds}
 use Rattle.sections.proofs.Ordered.{whose, locking, unlocking, busy-some, some-busy, holds-lock}
 use Rattle.sections.proofs.Places.{locksAt, unlocksAt, holdsAfter, Here, at-place, length-so-far, valid-so-far, all-so-far, lock-signal, unlock-signal, holds-more}
 use Rattle.serial.proofs.Stacks.{own, grow, rest, front, own-push, own-next-other, own-next-lock, own-next-open}
@@ -65,7 +64,7 @@ unfolding locksBy of
 is-lock u l j e p = let q : (locks e ≡ true) × (e .thread ≡ u) = locking (e .kind) (e .thread) (e .line) u l j p in rw (q .0, eq-eqb (e .thread) u (q .1))
 
 none-held : (n : ℕ) (t : ℕ) → Rules.some n (λ l. Rules.held (wordsOf []) t l) ≡ false
-unfolding Rules.some wordsOf depth count
+unfolding Rules.some wordsOf depth
 none-held zero t = refl
 none-held (suc n) t = none-held n t
 
@@ -109,7 +108,7 @@ module _ (c : Counts) (events : List Event) (d : All (Declared c) events) (a : V
           let w : (l : ℕ) × (view e ≡ E.lock 0 u l) = as-lock u (e .thread) (e .line) (e .kind) (sym l-sig ∙ k) in
           now ∙ busy-some c u (w .0) (e ∷ es) both
           (subst (λ x. H.Holds u (w .0) (x ∷ map view es)) (sym (w .1))
-          (holds-lock 0 u (w .0) (map view es) (omega (arith, pairs c es (valid-so-far c n events a) .unlocks u (w .0), lockeds u (w .0) es, unlockeds u (w .0) es))))
+          (holds-lock 0 u (w .0) (map view es)))
 
       idle-keeps : holdsAfter c u events n ≡ false → locksAt u events (suc n) ≡ false → holdsAfter c u events (suc n) ≡ false
       idle-keeps i k = now ∙ go (holdsSome c u (e ∷ es)) refl

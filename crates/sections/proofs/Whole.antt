@@ -1,5 +1,5 @@
 -- Demand 3 from the rules' own acceptance.
-use Prim.Native.Nat.{ℕ, zero, suc, _-_, _≤_, _<_}
+use Prim.Native.Nat.{ℕ, zero, suc, pred, _-_, _≤_, _<_}
 use native.Mathlib.Decide.{ℕ-discrete}
 use native.Mathlib.Omega.{arith}
 use mathlib.Core.Path.{_≡_, refl, sym, ap, _∙_, subst, subst₂}
@@ -13,7 +13,7 @@ use Rattle.rules.specs.declared.Kind.{Kind}
 use Rattle.rules.specs.declared.Kind.the-variants.{Use, Assign, Load, Store, Read, Write, Lock, Unlock, PrescientStore, PrescientAssign}
 use Rattle.rules.specs.Events.{A, B, K, L, N, P, R, S, U, W, letter, is, of, on, locks, unlocks}
 use Rattle.rules.specs.declared.Counts.{Counts}
-use Rattle.rules.specs.Words.{acquires, releases, count, depth}
+use Rattle.rules.specs.Words.{acquires, releases, depth}
 use Rattle.rules.specs.Rules.{Words, wordsOf, loc, held, judge}
 use Rattle.rules.proofs.Laws.{and-left, and-right, lock-free, some-none}
 use Rattle.serial.specs.Words as C
@@ -37,72 +37,50 @@ accepted h v b (e ∷ es) a = (here, accepted h v b es (before h e es a))
 
 -- ---- the locks: more K than N
 
-one-lock : (t l : ℕ) (e : Event) (es : List Event) (m : ℕ) → H.locked t l (map view es) ≡ m → H.locked t l (map view (e ∷ es)) ≡ cond (acquires t l e) (suc m) m
-unfolding H.locked acquires locks is of on
-one-lock t l e es m h = go (e .kind) h
+one-held : (t l : ℕ) (e : Event) (es : List Event) (m : ℕ) → H.held t l (map view es) ≡ m → H.held t l (map view (e ∷ es)) ≡ cond (acquires t l e) (suc m) (cond (releases t l e) (pred m) m)
+unfolding H.held acquires releases locks unlocks is of on
+one-held t l e es m h = go (e .kind) h
   where
-    go : (k : Kind) → H.locked t l (map view es) ≡ m
-        → H.locked t l (viewed (e .thread) k ∷ map view es) ≡ cond (acquires t l (record { thread = e .thread; line = e .line; kind = k })) (suc m) m
+    go : (k : Kind) → H.held t l (map view es) ≡ m
+        → H.held t l (viewed (e .thread) k ∷ map view es)
+        ≡ cond (acquires t l (record { thread = e .thread; line = e .line; kind = k })) (suc m) (cond (releases t l (record { thread = e .thread; line = e .line; kind = k })) (pred m) m)
     go (Use v x) h = h
     go (Assign v x) h = h
     go (Load v x) h = h
     go (Store v x) h = h
     go (Read v x) h = h
     go (Write v x) h = h
-    go (Unlock i) h = h
     go (PrescientStore v x) h = h
     go (PrescientAssign v x) h = h
     go (Lock i) h = both (ℕ-discrete (e .thread) t) (ℕ-discrete i l)
       where
-        both : (d : Dec (e .thread ≡ t)) (d′ : Dec (i ≡ l)) → H.bump d d′ (H.locked t l (map view es)) ≡ cond (eqb (e .thread) t && eqb i l) (suc m) m
+        both : (d : Dec (e .thread ≡ t)) (d′ : Dec (i ≡ l)) → H.where-both d d′ (suc (H.held t l (map view es))) (H.held t l (map view es)) ≡ cond (eqb (e .thread) t && eqb i l) (suc m) m
         both (yes p) (yes q) = rw (eqb-yes (e .thread) t p, eqb-yes i l q) (ap suc h)
         both (yes p) (no q) = rw (eqb-yes (e .thread) t p, eqb-no i l q) h
         both (no p) (yes q) = rw (eqb-no (e .thread) t p) h
         both (no p) (no q) = rw (eqb-no (e .thread) t p) h
-
-one-unlock : (t l : ℕ) (e : Event) (es : List Event) (m : ℕ) → H.unlocked t l (map view es) ≡ m → H.unlocked t l (map view (e ∷ es)) ≡ cond (releases t l e) (suc m) m
-unfolding H.unlocked releases unlocks is of on
-one-unlock t l e es m h = go (e .kind) h
-  where
-    go : (k : Kind) → H.unlocked t l (map view es) ≡ m
-        → H.unlocked t l (viewed (e .thread) k ∷ map view es) ≡ cond (releases t l (record { thread = e .thread; line = e .line; kind = k })) (suc m) m
-    go (Use v x) h = h
-    go (Assign v x) h = h
-    go (Load v x) h = h
-    go (Store v x) h = h
-    go (Read v x) h = h
-    go (Write v x) h = h
-    go (Lock i) h = h
-    go (PrescientStore v x) h = h
-    go (PrescientAssign v x) h = h
     go (Unlock i) h = both (ℕ-discrete (e .thread) t) (ℕ-discrete i l)
       where
-        both : (d : Dec (e .thread ≡ t)) (d′ : Dec (i ≡ l)) → H.bump d d′ (H.unlocked t l (map view es)) ≡ cond (eqb (e .thread) t && eqb i l) (suc m) m
-        both (yes p) (yes q) = rw (eqb-yes (e .thread) t p, eqb-yes i l q) (ap suc h)
+        both : (d : Dec (e .thread ≡ t)) (d′ : Dec (i ≡ l)) → H.where-both d d′ (pred (H.held t l (map view es))) (H.held t l (map view es)) ≡ cond (eqb (e .thread) t && eqb i l) (pred m) m
+        both (yes p) (yes q) = rw (eqb-yes (e .thread) t p, eqb-yes i l q) (ap pred h)
         both (yes p) (no q) = rw (eqb-yes (e .thread) t p, eqb-no i l q) h
         both (no p) (yes q) = rw (eqb-no (e .thread) t p) h
         both (no p) (no q) = rw (eqb-no (e .thread) t p) h
 
-pub lockeds : (t l : ℕ) (es : List Event) → H.locked t l (map view es) ≡ count (acquires t l) es
-unfolding count
-lockeds t l [] = unfold H.locked in refl
-lockeds t l (e ∷ es) = one-lock t l e es (count (acquires t l) es) (lockeds t l es)
-
-pub unlockeds : (t l : ℕ) (es : List Event) → H.unlocked t l (map view es) ≡ count (releases t l) es
-unfolding count
-unlockeds t l [] = unfold H.unlocked in refl
-unlockeds t l (e ∷ es) = one-unlock t l e es (count (releases t l) es) (unlockeds t l es)
+-- the holds are the same
+pub helds : (t l : ℕ) (es : List Event) → H.held t l (map view es) ≡ depth t l es
+unfolding depth
+helds t l [] = unfold H.held in refl
+helds t l (e ∷ es) = one-held t l e es (depth t l es) (helds t l es)
 
 -- Held, in the theory's terms and in the rules'
 pub to-held : (t l : ℕ) (es : List Event) → H.Holds t l (map view es) → held (wordsOf es) t l ≡ true
-unfolding H.Holds wordsOf depth
-to-held t l es h = lt-ltb 0 (count (acquires t l) es - count (releases t l) es) (omega (arith, h, lockeds t l es, unlockeds t l es))
+unfolding H.Holds wordsOf
+to-held t l es h = lt-ltb 0 (depth t l es) (omega (arith, h, helds t l es))
 
 pub from-held : (t l : ℕ) (es : List Event) → held (wordsOf es) t l ≡ true → H.Holds t l (map view es)
-unfolding H.Holds wordsOf depth
-from-held t l es h =
-    let q : 0 < count (acquires t l) es - count (releases t l) es = ltb-true 0 (count (acquires t l) es - count (releases t l) es) h in
-    omega (arith, q, lockeds t l es, unlockeds t l es)
+unfolding H.Holds wordsOf
+from-held t l es h = let q : 0 < depth t l es = ltb-true 0 (depth t l es) h in omega (arith, q, helds t l es)
 
 -- ---- a thread that holds something is declared
 
@@ -110,18 +88,22 @@ acquired-by : (t l : ℕ) (e : Event) → T (acquires t l e) → e .thread ≡ t
 unfolding acquires of
 acquired-by t l e b = eqb→eq (e .thread) t (and-left (of t e) (on l e) (and-right (locks e) (of t e && on l e) b))
 
-below : (h : Counts) (t l : ℕ) (es : List Event) → All (Declared h) es → 0 < count (acquires t l) es → t < h .threads
-unfolding count
+below : (h : Counts) (t l : ℕ) (es : List Event) → All (Declared h) es → 0 < depth t l es → t < h .threads
+unfolding depth
 below h t l [] a b = absurd (omega arith)
-below h t l (e ∷ es) a b = go (acquires t l e) refl b (below h t l es (a .1))
+below h t l (e ∷ es) a b = go (acquires t l e) refl (releases t l e) b (below h t l es (a .1))
   where
-    go : (c : Bool) → acquires t l e ≡ c → 0 < cond c (suc (count (acquires t l) es)) (count (acquires t l) es) → (0 < count (acquires t l) es → t < h .threads) → t < h .threads
-    go true p b r = subst (λ i. i < h .threads) (acquired-by t l e (subst T (sym p) tt)) (a .0 .0)
-    go false p b r = r b
+    less : (n : ℕ) → 0 < pred n → 0 < n
+    less n h = omega arith
+
+    go : (c : Bool) → acquires t l e ≡ c → (r : Bool) → 0 < cond c (suc (depth t l es)) (cond r (pred (depth t l es)) (depth t l es)) → (0 < depth t l es → t < h .threads) → t < h .threads
+    go true p r b f = subst (λ i. i < h .threads) (acquired-by t l e (subst T (sym p) tt)) (a .0 .0)
+    go false p true b f = f (less (depth t l es) b)
+    go false p false b f = f b
 
 pub holds-below : (h : Counts) (t l : ℕ) (es : List Event) → All (Declared h) es → H.Holds t l (map view es) → t < h .threads
 unfolding H.Holds
-holds-below h t l es a b = below h t l es a (omega (arith, b, lockeds t l es))
+holds-below h t l es a b = below h t l es a (omega (arith, b, helds t l es))
 
 -- 11, as the theory words it
 sole : (h : Counts) (w : Words) (e : Event) (t : ℕ) → judge h w e ≡ 0 → T (is (K ∷ []) e) → t < h .threads → held w t (loc e) ≡ true → t ≡ e .thread

@@ -5,7 +5,7 @@ use mathlib.Core.Path.{_≡_, refl}
 use mathlib.Core.List.{List, [], _∷_}
 use Rattle.serial.specs.Events.{Kind, Use, Assign, Load, Store, Read, Write, PrescientStore, PrescientAssign, Event, lock, unlock, mem}
 use Rattle.serial.specs.Sections.{push, current, without, next, flat, sections}
-use Rattle.serial.proofs.Counted.{locked, unlocked, Holds, ever, look, holds-some?, counted}
+use Rattle.serial.proofs.Counted.{held, Holds, ever, look, holds-some?, counted}
 use Rattle.serial.specs.Entry.{Entry}
 use Rattle.serial.proofs.Trace.{order, serially, between, given, stated, after}
 
@@ -18,7 +18,7 @@ abbrev section : ℕ → ℕ → ℕ → Entry
 section t a b = record { owner = t; first = a; last = b }
 
 listing-order : order counted listing ≡ section 0 1 5 ∷ section 1 6 10 ∷ []
-unfolding listing order sections next push current without ℕ-discrete decLt locked unlocked Holds ever look holds-some?
+unfolding listing order sections next push current without ℕ-discrete decLt held Holds ever look holds-some?
 listing-order = refl
 
 -- thread 0 takes lock 0; thread 1 takes lock 1, assigns, stores, is written, unlocks; thread 0 takes lock 1 and uses the new value
@@ -28,5 +28,5 @@ crossed =
     ∷ lock 0 0 1 ∷ mem Read 0 0 7 ∷ mem Load 0 0 7 ∷ mem Use 0 0 7 ∷ unlock 0 0 1 ∷ unlock 0 0 0 ∷ []
 
 crossed-order : order counted crossed ≡ section 1 2 6 ∷ section 0 1 12 ∷ []
-unfolding crossed order sections next push current without ℕ-discrete decLt locked unlocked Holds ever look holds-some?
+unfolding crossed order sections next push current without ℕ-discrete decLt held Holds ever look holds-some?
 crossed-order = refl
