@@ -4,3 +4,4 @@ pub mod TextLaws
 pub mod RowLaws
 pub mod ScanLaws
 pub mod NumberLaws
+pub mod PutLaws

@@ -1,5 +1,4 @@
 -- Laws of a number up to a byte: the scan of its digits, and what a leading zero and an empty field do.
--- Assumes nothing.
 use mathlib.Core.Path.{_≡_, refl, sym, ap, _∙_}
 use mathlib.Core.Bool.{Bool, true, false, not, cond, _&&_}
 use mathlib.Core.List.{List, [], _∷_}
@@ -15,8 +14,7 @@ use Rattle.decimal.specs.declared.Natural.the-variants as natural
 use Rattle.decimal.specs.Decimal.{cap, isDigit, digitsFrom, naturalOf}
 use Rattle.lines.specs.Lines.{before}
 use Rattle.lines.proofs.FieldLaws.{before-le}
-use Rattle.decimal.specs.declared.Reached.{Reached}
-use Rattle.decimal.specs.Decimal.{scan, nowhere, reached, numberUntil}
+use Rattle.decimal.specs.Computed.Forward.{scan, nowhere, reached, numberUntil}
 use Rattle.decimal.proofs.ScanLaws.{scan-field}
 
 -- a byte that is no digit spoils a number

@@ -1,15 +1,19 @@
--- Laws of a row of numbers, written one after the other.
--- Assumes nothing.
+-- Laws of a row of numbers, written one after the other, and of lines.
 use mathlib.Core.Path.{_≡_, refl, sym, ap, _∙_}
 use mathlib.Core.List.{List, [], _∷_, _++_, append-assoc, append-nil}
-use Prim.Native.Nat.{ℕ, zero, suc, _<_, _≤_, _+_, _-_, _*_}
+use Prim.Native.Nat.{ℕ, _<_, _≤_, _+_, _-_, _*_, _/_}
 use native.Mathlib.Numerals.{add-one}
 use native.Mathlib.Omega.{arith}
+use mathlib.Core.Logic.{⊎-elim}
+use borrow.Author.Tests.{le-leb, lt-leb}
+use lib.Dec.{leb}
+use lib.IntN.{ℤ}
 use lib.ListN.{length, getD, take, drop, length-append}
 use lib.Seq.{take-suc, take-all, length-take-le}
 use borrow.Rule.Slice.PartMut.{putMid}
-use Rattle.decimal.specs.Text.{naturalText, rowText, room, Wrote, over}
-use Rattle.decimal.proofs.TextLaws.{text-short, over-length, over-then, room-yes, rest-length, wrote-text}
+use Rattle.lines.proofs.PartLaws.{lt-or-le}
+use Rattle.decimal.specs.Text.{naturalText, integerText, rowText, wordRow, wordValue, ended, room, Wrote, over}
+use Rattle.decimal.proofs.TextLaws.{text-short, value-short, over-length, over-then, room-yes, rest-length, wrote-text}
 
 -- one number more
 row-snoc : (l : List ℕ) (n : ℕ) → rowText (l ++ (n ∷ [])) ≡ rowText l ++ (32 ∷ naturalText n)
@@ -65,3 +69,31 @@ module _ (ns o : List ℕ) (i a : ℕ) (p : List ℕ) (r : RowAt ns o i a p) whe
       let e : take i ns ≡ ns = take-all i ns h in
       wrote-text (32 * length ns) (rowText ns) o p a (r .space) (r .count ∙ ap (λ (u : List ℕ). length (rowText u)) e)
       (r .bytes ∙ ap (λ (u : List ℕ). over (rowText u) o) e)
+
+-- ---- lines
+
+-- a word, k numbers and e bytes more, behind a test that does not wrap
+pub enough-same : (n w k e : ℕ) → w + e ≤ n → leb k ((n - w - e) / 32) ≡ leb (w + 32 * k + e) n
+enough-same n w k e h = ⊎-elim
+    (λ l. lt-leb k ((n - w - e) / 32) (omega arith) ∙ sym (lt-leb (w + 32 * k + e) n l))
+    (λ l. le-leb k ((n - w - e) / 32) (omega arith) ∙ sym (le-leb (w + 32 * k + e) n l))
+    (lt-or-le n (w + 32 * k + e))
+
+pub word-short : (w ns : List ℕ) → length (wordRow w ns) ≤ length w + 32 * length ns
+unfolding wordRow
+word-short w ns = simp length-append (omega (arith, row-short ns))
+
+pub end-short : (x : ℤ) → length (ended (32 ∷ integerText x)) ≤ 33
+end-short x = simp length-append (omega (arith, value-short x))
+
+-- the end of a line of a value
+pub value-text : (w ns : List ℕ) (x : ℤ) → wordRow w ns ++ ended (32 ∷ integerText x) ≡ ended (wordValue w ns x)
+unfolding wordValue
+value-text w ns x = sym (append-assoc (wordRow w ns) (32 ∷ integerText x) (10 ∷ []))
+
+pub row-line-short : (w ns : List ℕ) → length (ended (wordRow w ns)) ≤ length w + 32 * length ns + 1
+row-line-short w ns = simp length-append (omega (arith, word-short w ns))
+
+pub value-line-short : (w ns : List ℕ) (x : ℤ) → length (ended (wordValue w ns x)) ≤ length w + 32 * length ns + 33
+unfolding wordValue
+value-line-short w ns x = simp length-append (omega (arith, word-short w ns, value-short x))

@@ -1,5 +1,4 @@
 -- Laws of `scan`: what one byte more does, and that it reads the field up to d.
--- Assumes nothing.
 use mathlib.Core.Path.{_≡_, refl, sym, ap, _∙_}
 use mathlib.Core.Bool.{Bool, true, false, cond}
 use mathlib.Core.List.{List, [], _∷_}
@@ -12,12 +11,11 @@ use lib.ListN.{length, getD, take, drop, drop-of-length-le}
 use lib.Seq.{drop-cons}
 use mathlib.Core.Logic.{⊎-elim}
 use Rattle.lines.proofs.PartLaws.{lt-or-le}
-use Rattle.decimal.specs.declared.Natural.{Natural}
 use Rattle.decimal.specs.declared.Natural.the-variants as natural
 use Rattle.decimal.specs.Decimal.{cap, isDigit, digitsFrom}
 use Rattle.lines.specs.Lines.{before}
 use Rattle.decimal.specs.declared.Reached.{Reached}
-use Rattle.decimal.specs.Decimal.{scan, nowhere, reached}
+use Rattle.decimal.specs.Computed.Forward.{scan, nowhere, reached}
 
 -- the cap may be taken at any place
 capped : (d n i : ℕ) (bs : List ℕ) → scan d (min cap n) i bs ≡ scan d n i bs

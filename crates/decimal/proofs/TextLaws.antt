@@ -1,27 +1,25 @@
 -- Laws of numbers as text, and of text laid over a buffer.
--- Assumes nothing.
 use mathlib.Core.Path.{_≡_, refl, sym, ap, _∙_}
 use mathlib.Core.List.{List, [], _∷_, _++_, append-assoc, append-nil}
-use Prim.Native.Nat.{ℕ, zero, suc, _<_, _≤_, _+_, _-_, _*_, _/_, _%_, _^_}
+use Prim.Native.Nat.{ℕ, zero, suc, _<_, _≤_, _+_, _-_, _/_, _%_, _^_}
 use native.Mathlib.Nat.{pow-suc}
 use native.Mathlib.Numerals.{add-one}
 use native.Mathlib.Omega.{arith}
 use mathlib.Core.Bool.{Bool, true, false}
-use mathlib.Core.Logic.{_⊎_, inl, inr, ⊎-elim}
-use lib.Dec.{ltb}
+use mathlib.Core.Logic.{_⊎_, ⊎-elim}
 use lib.IntN.{ℤ, pos, negsuc, natAbs}
-use borrow.Author.Tests.{lt-ltb, le-ltb, le-leb, lt-leb, ltb-true, ltb-false}
-use lib.ListN.{length, getD, take, drop, set, length-append, length-drop, length-set, drop-of-length-le}
-use lib.Seq.{take-suc, length-take-le, drop-cons, set-at, drop-drop, take-at, drop-at, drop-append-add}
+use borrow.Author.Tests.{lt-ltb, le-ltb, le-leb, lt-leb}
+use lib.ListN.{length, getD, take, drop, set, length-append, length-drop, drop-of-length-le}
+use lib.Seq.{take-suc, length-take-le, drop-cons, set-at, drop-drop, take-at, drop-at}
 use borrow.Rule.Slice.PartMut.{putMid}
 use Rattle.lines.proofs.PartLaws.{rest, lt-or-le}
 use Rattle.decimal.specs.Text.{digitsIn, naturalText, integerText, isNegative, room, Wrote, andThen, over}
 
-digits-small : (k n : ℕ) → n < 10 → digitsIn (suc k) n ≡ (48 + n) ∷ []
+pub digits-small : (k n : ℕ) → n < 10 → digitsIn (suc k) n ≡ (48 + n) ∷ []
 unfolding digitsIn
 digits-small k n h = rw (lt-ltb n 10 h)
 
-digits-large : (k n : ℕ) → 10 ≤ n → digitsIn (suc k) n ≡ digitsIn k (n / 10) ++ ((48 + n % 10) ∷ [])
+pub digits-large : (k n : ℕ) → 10 ≤ n → digitsIn (suc k) n ≡ digitsIn k (n / 10) ++ ((48 + n % 10) ∷ [])
 unfolding digitsIn
 digits-large k n h = rw (le-ltb n 10 h)
 
@@ -47,22 +45,12 @@ pub text-length-large : (n : ℕ) → 10 ≤ n → n < 2 ^ 64 → length (natura
 text-length-large n h l = ap length (text-large n h l) ∙ simp length-append
 
 -- one byte more, stored behind the text
-pub over-next : (t o : List ℕ) (b : ℕ) → length t < length o → set (over t o) (length t) b ≡ over (t ++ (b ∷ [])) o
+pub over-next : {A : Type 0} (t o : List A) (b : A) → length t < length o → set (over t o) (length t) b ≡ over (t ++ (b ∷ [])) o
 over-next t o b h =
-    rw (drop-cons o (length t) 0 h, set-at t (getD o (length t) 0) (drop (suc (length t)) o) b (length t) refl, length-append, add-one, append-assoc)
+    rw (drop-cons o (length t) b h, set-at t (getD o (length t) b) (drop (suc (length t)) o) b (length t) refl, length-append, add-one, append-assoc)
 
-pub over-length : (t o : List ℕ) → length t ≤ length o → length (over t o) ≡ length o
+pub over-length : {A : Type 0} (t o : List A) → length t ≤ length o → length (over t o) ≡ length o
 over-length t o h = simp (length-append, length-drop) (omega arith)
-
--- the two cases of the writer of a number
-pub write-small : (n : ℕ) (o : List ℕ) → n < 10 → 0 < length o → set o 0 (48 + n) ≡ over (naturalText n) o
-write-small n o h l = rw (text-small n h) (over-next [] o (48 + n) l)
-
-pub write-large : (n k : ℕ) (o p : List ℕ) → 10 ≤ n → n < 2 ^ 64 → length (naturalText n) ≤ length o
-    → k ≡ length (naturalText (n / 10)) → p ≡ over (naturalText (n / 10)) o
-    → set p k (48 + n % 10) ≡ over (naturalText n) o
-write-large n k o p h l f e q =
-    rw (q, e, text-large n h l) (over-next (naturalText (n / 10)) o (48 + n % 10) (omega (arith, text-length-large n h l)))
 
 -- a text at the front, and a second one written into what remains: what the whole holds when that part is back
 pub over-then : (l t o xs ys : List ℕ) (a : ℕ) → xs ≡ over l o → a ≡ length l → ys ≡ over t (take (length xs - a) (drop a xs))
@@ -96,29 +84,12 @@ module _ (x y : ℤ) (n : ℕ) (t : Bool) (same : y ≡ x) (size : n ≡ natAbs 
   is-positive-text g = rw (size, same, text-positive x (ap isNegative (sym same) ∙ sym sign ∙ g))
 
 -- one more byte of a text that is copied
-pub over-take : (t o : List ℕ) (i : ℕ) → i < length t → length t ≤ length o → set (over (take i t) o) i (getD t i 0) ≡ over (take (i + 1) t) o
-over-take t o i h l =
+pub over-take : {A : Type 0} (t o : List A) (i : ℕ) (d : A) → i < length t → length t ≤ length o → set (over (take i t) o) i (getD t i d) ≡ over (take (i + 1) t) o
+over-take {A} t o i d h l =
     let n : length (take i t) ≡ i = length-take-le i t (omega arith) in
-    let s : set (over (take i t) o) (length (take i t)) (getD t i 0) ≡ over (take i t ++ (getD t i 0 ∷ [])) o = over-next (take i t) o (getD t i 0) (omega arith) in
-    let more : take i t ++ (getD t i 0 ∷ []) ≡ take (i + 1) t = rw add-one (sym (take-suc t i 0 h)) in
-    ap (λ (k : ℕ). set (over (take i t) o) k (getD t i 0)) (sym n) ∙ s ∙ ap (λ (u : List ℕ). over u o) more
-
--- A writer of two parts: l went to the front of o and gave p, and t goes into what remains of p from a on.
-module _ (l t o p : List ℕ) (a : ℕ) (fits : length (l ++ t) ≤ length o) (e : p ≡ over l o) (f : a ≡ length l) where
-  pub first-fits : length l ≤ length o
-  first-fits = omega (arith, length-append l t)
-
-  pub first-length : length p ≡ length o
-  first-length = ap length e ∙ over-length l o first-fits
-
-  pub then-start : a ≤ length p
-  then-start = omega (arith, first-length, first-fits)
-
-  pub then-room : length t ≤ length (take (length p - a) (drop a p))
-  then-room = omega (arith, rest-length a p, first-length, length-append l t)
-
-  pub then-length : (b : ℕ) → b ≡ length t → a + b ≡ length (l ++ t)
-  then-length b g = omega (arith, length-append l t)
+    let s : set (over (take i t) o) (length (take i t)) (getD t i d) ≡ over (take i t ++ (getD t i d ∷ [])) o = over-next (take i t) o (getD t i d) (omega arith) in
+    let more : take i t ++ (getD t i d ∷ []) ≡ take (i + 1) t = rw add-one (sym (take-suc t i d h)) in
+    ap (λ (k : ℕ). set (over (take i t) o) k (getD t i d)) (sym n) ∙ s ∙ ap (λ (u : List A). over u o) more
 
 digits-short : (k n : ℕ) → length (digitsIn k n) ≤ k
 unfolding digitsIn
@@ -128,6 +99,7 @@ digits-short (suc k) n = ⊎-elim
     (λ l. rw (digits-large k n l, length-append) (omega (arith, digits-short k (n / 10))))
     (lt-or-le n 10)
 
+-- no text of a number has more than 20 digits, and none of a value more than a minus and 20 digits: of 64 bits as of 32
 pub text-short : (n : ℕ) → length (naturalText n) ≤ 20
 unfolding naturalText
 text-short n = digits-short 20 n
@@ -166,6 +138,10 @@ wrote-then f g o p q a b v w =
 pub wrote-start : (f : List ℕ → List ℕ) (o p : List ℕ) (a : ℕ) → Wrote f o a p → length (f o) ≤ length o → a ≤ length p
 wrote-start f o p a v h = omega (arith, v .count, ap length (v .bytes), over-length (f o) o h)
 
+-- the same text in this output
+pub wrote-like : (f g : List ℕ → List ℕ) (o p : List ℕ) (a : ℕ) → f o ≡ g o → Wrote f o a p → Wrote g o a p
+wrote-like f g o p a e v = record { count = v .count ∙ ap length e; bytes = v .bytes ∙ ap (λ (t : List ℕ). over t o) e }
+
 -- the same writer of a value that the machine read back
 pub wrote-same : (f g : List ℕ → List ℕ) (o p : List ℕ) (a : ℕ) → f ≡ g → Wrote f o a p → Wrote g o a p
 wrote-same f g o p a e v = rw e at v
@@ -199,5 +175,12 @@ wrote-both j k t u o p q a b h l v w =
     let m : k ≤ length (drop (length t) o) = omega (arith, length-drop (length t) o) in
     let f : andThen (room j t) (room k u) o ≡ room (j + k) (t ++ u) o =
     rw (e) (ap (λ (z : List ℕ). t ++ z) (sym (room-yes k u (drop (length t) o) m)) ∙ room-yes (j + k) (t ++ u) o l) in
-    let x = wrote-then (room j t) (room k u) o p q a b v w in
-    record { count = x .count ∙ ap length f; bytes = x .bytes ∙ ap (λ (z : List ℕ). over z o) f }
+    wrote-like (andThen (room j t) (room k u)) (room (j + k) (t ++ u)) o (putMid a (length p - a) p q) (a + b) f (wrote-then (room j t) (room k u) o p q a b v w)
+
+-- the same text, and more room asked for, where it is there
+pub wrote-line : (m n : ℕ) (t u o p : List ℕ) (a : ℕ) → m ≤ n → n ≤ length o → t ≡ u → Wrote (room m t) o a p → Wrote (room n u) o a p
+wrote-line m n t u o p a h l e v = wrote-like (room m t) (room n u) o p a (sym (room-yes m t o (omega arith)) ∙ e ∙ room-yes n u o l) v
+
+-- what a writer of a text that fits its room leaves has the same length
+pub wrote-length : (n : ℕ) (t o p : List ℕ) (a : ℕ) → length t ≤ n → Wrote (room n t) o a p → length p ≡ length o
+wrote-length n t o p a h v = ap length (v .bytes) ∙ over-length (room n t o) o (room-fits n t o h)

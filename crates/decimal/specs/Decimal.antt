@@ -1,14 +1,12 @@
 -- Numbers are base ten, no leading zeros, no plus sign, no `-0`; only a value may have a minus.
-use Prim.Native.Nat.{ℕ, suc, _+_, _*_, _-_, _^_, min}
+use Prim.Native.Nat.{ℕ, _+_, _*_, _-_, _^_, min}
 use mathlib.Core.List.{List, [], _∷_}
-use mathlib.Core.Bool.{Bool, true, false, cond}
+use mathlib.Core.Bool.{Bool, false, cond}
 use lib.Dec.{ltb, leb, eqb}
-use lib.ListN.{length, getD, take, drop}
-use lib.IntN.{ℤ, pos, negsuc}
+use lib.ListN.{length, getD, drop}
+use lib.IntN.{pos, negsuc}
 use mir.Val.{hbits}
 use Rattle.rules.specs.Limits.{valueWidth}
-use Rattle.lines.specs.Lines.{before}
-use Rattle.decimal.specs.declared.Reached.{Reached}
 use Rattle.decimal.specs.declared.Natural.{Natural}
 use Rattle.decimal.specs.declared.Natural.the-variants as natural
 use Rattle.decimal.specs.declared.Integer.{Integer}
@@ -48,22 +46,3 @@ negativeOf (natural.Of n) = cond (eqb n 0) integer.Bad (cond (leb n limit) (inte
 -- with or without a minus
 unfoldable pub integerOf : List ℕ → Integer
 integerOf f = cond (eqb (getD f 0 0) 45) (negativeOf (naturalOf (drop 1 f))) (positiveOf (naturalOf f))
-
--- no number, and nothing behind it
-abbrev pub nowhere : Reached
-nowhere = record { number = natural.Bad; next = 0 }
-
-abbrev pub reached : ℕ → Natural → Reached
-reached e natural.Bad = nowhere
-reached e (natural.Of n) = record { number = natural.Of n; next = e }
-
--- the number from the front of t, which starts at `at`, up to the byte d, and the place behind this byte
-unfoldable pub numberUntil : ℕ → ℕ → List ℕ → Reached
-numberUntil d at t = cond (ltb (before d t) (length t)) (reached (at + before d t + 1) (naturalOf (take (before d t) t))) nowhere
-
--- the same without a look at a leading zero or an empty field, byte after byte, with n before the byte at i
-unfoldable pub scan : ℕ → ℕ → ℕ → List ℕ → Reached
-scan d n i [] = nowhere
-scan d n i (b ∷ bs) =
-    cond (eqb b d) (record { number = natural.Of (min cap n); next = i + 1 })
-    (cond (isDigit b) (scan d (n * 10 + (b - 48)) (i + 1) bs) nowhere)

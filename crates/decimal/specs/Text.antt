@@ -30,8 +30,20 @@ unfoldable pub rowText : List ℕ → List ℕ
 rowText [] = []
 rowText (n ∷ ns) = (32 ∷ naturalText n) ++ rowText ns
 
--- an output with its front overwritten by a text
-abbrev pub over : List ℕ → List ℕ → List ℕ
+-- a word, and a row of numbers
+unfoldable pub wordRow : List ℕ → List ℕ → List ℕ
+wordRow w ns = w ++ rowText ns
+
+-- a word, a row of numbers and a value
+unfoldable pub wordValue : List ℕ → List ℕ → ℤ → List ℕ
+wordValue w ns x = wordRow w ns ++ (32 ∷ integerText x)
+
+-- Each line is ended by byte 10.
+abbrev pub ended : List ℕ → List ℕ
+ended l = l ++ (10 ∷ [])
+
+-- a row with its front overwritten: an output by a text
+abbrev pub over : {A : Type 0} → List A → List A → List A
 over t o = t ++ drop (length t) o
 
 -- a text that is written only where n bytes remain

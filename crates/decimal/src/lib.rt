@@ -3,12 +3,13 @@ use rules::Value;
 ghost use mathlib.Core.Path.{_≡_};
 ghost use mathlib.Core.Bool.{not, _&&_};
 ghost use mathlib.Core.List.{[], _∷_};
-ghost use Prim.Native.Nat.{_+_, _*_, _-_, _≤_, _<_, min};
+ghost use Prim.Native.Nat.{_+_, _*_, _≤_, _<_, min};
 ghost use lib.Dec.{eqb, leb};
 ghost use lib.IntN.{natAbs};
 ghost use lib.ListN.{length, drop};
-ghost use Rattle.decimal.specs.Decimal.{cap, digitsFrom, naturalOf, positiveOf, negativeOf, integerOf, nowhere, scan, numberUntil};
-ghost use Rattle.decimal.specs.Text.{naturalText, integerText, isNegative, rowText, over, room, Wrote};
+ghost use Rattle.decimal.specs.Decimal.{cap, digitsFrom, naturalOf, positiveOf, negativeOf};
+ghost use Rattle.decimal.specs.Computed.Forward.{nowhere, scan, numberUntil};
+ghost use Rattle.decimal.specs.Text.{naturalText, integerText, isNegative, rowText, wordRow, wordValue, ended, over, room, Wrote};
 
 // A field read as a number without a sign: Of(n) with n at most CAP, which stands for every larger number too.
 pub enum Natural {
@@ -204,33 +205,34 @@ pub fn negative(n: Natural) -> Integer
     }
 }
 
-// A field as a value: an optional minus, then a number that is not 0 after a minus.
-pub fn read_integer(f: &[u8]) -> Integer
-    ensures { λ r. ⌜ r ≡ integerOf (now (f .entry)) ⌝ }
+// The number of digits of a number in base ten.
+fn count_digits(n: usize) -> usize
+    ensures { λ r. ⌜ r ≡ length (naturalText n) ⌝ }
 {
-    if f.len() == 0 {
-        return Integer::Bad;
+    let mut m = n;
+    let mut k: usize = 1;
+    while 10 <= m {
+        m = m / 10;
+        k += 1;
     }
-    if f[0] == 45 {
-        negative(read_natural(&f[1..]))
-    } else {
-        positive(read_natural(f))
-    }
+    k
 }
 
-// A number in base ten, at the front of the buffer; the number of its digits.
+// A number in base ten, at the front of the buffer, from its last digit to its first; the number of its digits.
 fn put_natural(out: &mut [u8], n: usize) -> usize
     requires { ⌜ length (naturalText n) ≤ length (now out) ⌝ }
     ensures { λ r. ⌜ (r ≡ length (naturalText n)) × (now (out .exit) ≡ over (naturalText n) (now (out .entry))) ⌝ }
 {
-    if n < 10 {
-        out[0] = 48 + (n as u8);
-        1
-    } else {
-        let k = put_natural(out, n / 10);
-        out[k] = 48 + (n % 10) as u8;
-        k + 1
+    let k = count_digits(n);
+    let mut m = n;
+    let mut i = k;
+    while 10 <= m {
+        i -= 1;
+        out[i] = 48 + (m % 10) as u8;
+        m = m / 10;
     }
+    out[0] = 48 + m as u8;
+    k
 }
 
 // A byte, and then a number.
@@ -356,4 +358,64 @@ pub fn write_row(out: &mut [u8], ns: &[usize]) -> usize
         i += 1;
     }
     a
+}
+
+// ---- Lines: a word, a space and a number for each of the numbers, and for some a value.
+
+// Whether n bytes are enough for a word of w bytes, k numbers and e bytes more.
+fn is_enough(n: usize, w: usize, k: usize, e: usize) -> bool
+    ensures { λ r. ⌜ r ≡ leb (w + 32 * k + e) n ⌝ }
+{
+    if n < w {
+        return false;
+    }
+    let m = n - w;
+    if m < e {
+        return false;
+    }
+    k <= (m - e) / NUMBER_ROOM
+}
+
+// A word, and a space and a number for each of the numbers.
+fn word_row(out: &mut [u8], word: &[u8], ns: &[usize]) -> usize
+    requires { ⌜ length (now word) + 32 * length (now ns) ≤ length (now out) ⌝ }
+    ensures { λ r. ⌜ Wrote (room (length (now (word .entry)) + 32 * length (now (ns .entry))) (wordRow (now (word .entry)) (now (ns .entry)))) (now (out .entry)) r (now (out .exit)) ⌝ }
+{
+    let a = write_bytes(out, word);
+    let b = write_row(&mut out[a..], ns);
+    a + b
+}
+
+// A space and a value, and the end of the line.
+fn end_value(out: &mut [u8], x: Value) -> usize
+    requires { ⌜ 33 ≤ length (now out) ⌝ }
+    ensures { λ r. ⌜ Wrote (room 33 (ended (32 ∷ integerText x))) (now (out .entry)) r (now (out .exit)) ⌝ }
+{
+    let a = write_value(out, 32, x);
+    let b = write_byte(&mut out[a..], 10);
+    a + b
+}
+
+// A line of a word and numbers.
+pub fn write_row_line(out: &mut [u8], word: &[u8], ns: &[usize]) -> usize
+    ensures { λ r. ⌜ Wrote (room (length (now (word .entry)) + 32 * length (now (ns .entry)) + 1) (ended (wordRow (now (word .entry)) (now (ns .entry))))) (now (out .entry)) r (now (out .exit)) ⌝ }
+{
+    if !is_enough(out.len(), word.len(), ns.len(), 1) {
+        return 0;
+    }
+    let a = word_row(out, word, ns);
+    let b = write_byte(&mut out[a..], 10);
+    a + b
+}
+
+// A line of a word, numbers and a value.
+pub fn write_value_line(out: &mut [u8], word: &[u8], ns: &[usize], x: Value) -> usize
+    ensures { λ r. ⌜ Wrote (room (length (now (word .entry)) + 32 * length (now (ns .entry)) + 33) (ended (wordValue (now (word .entry)) (now (ns .entry)) x))) (now (out .entry)) r (now (out .exit)) ⌝ }
+{
+    if !is_enough(out.len(), word.len(), ns.len(), 33) {
+        return 0;
+    }
+    let a = word_row(out, word, ns);
+    let b = end_value(&mut out[a..], x);
+    a + b
 }

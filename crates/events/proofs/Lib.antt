@@ -1,3 +1,6 @@
 pub mod StageLaws
 pub mod LineLaws
+pub mod FormLaws
 pub mod WalkLaws
+pub mod ReadLaws
+pub mod LinedLaws

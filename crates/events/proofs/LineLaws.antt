@@ -1,30 +1,33 @@
 -- Laws of an event line: its last field, and its letter.
--- Assumes nothing.
 use mathlib.Core.Path.{_≡_, refl, sym, ap, _∙_}
-use mathlib.Core.Bool.{Bool, true, false, cond}
+use mathlib.Core.Bool.{Bool, true, false, cond, false≢true}
 use mathlib.Core.List.{List, [], _∷_}
-use mathlib.Core.Logic.{⊎-elim}
-use Prim.Native.Nat.{ℕ, zero, suc, _≤_, _<_, _+_, _-_, _*_, min}
+use Prim.Native.Nat.{ℕ, zero, suc, _≤_, _<_, _+_, _-_}
 use native.Mathlib.Omega.{arith}
 use native.Mathlib.Numerals.{add-one}
-use borrow.Author.Tests.{lt-ltb, le-ltb, eq-eqb, ne-eqb, ltb-true}
+use borrow.Author.Tests.{ne-eqb}
 use lib.Dec.{eqb, ltb}
-use lib.IntN.{ℤ, pos}
+use lib.IntN.{pos}
 use lib.ListN.{length, getD, take, drop, drop-of-length-le}
 use lib.Seq.{drop-cons}
+use Rattle.rules.specs.Events.{isLetter, isLockLetter}
 use Rattle.decimal.specs.declared.Natural.{Natural}
 use Rattle.decimal.specs.declared.Natural.the-variants as natural
-use Rattle.decimal.specs.declared.Integer.{Integer}
 use Rattle.decimal.specs.declared.Integer.the-variants as integer
-use Rattle.decimal.specs.Decimal.{isDigit, naturalOf, integerOf, positiveOf, negativeOf}
+use Rattle.decimal.specs.Decimal.{naturalOf, integerOf, positiveOf, negativeOf}
 use Rattle.lines.specs.Lines.{before, splitOn, onFirst, letter}
 use Rattle.lines.proofs.FieldLaws.{split-some}
-use Rattle.events.specs.declared.Line.{Line}
-use Rattle.decimal.specs.Decimal.{reached, nowhere, numberUntil}
-use Rattle.events.specs.Events.{Fields, wrong, placed, kindOf, noLine, right, onNumber, onInteger, isLock, field, last, lockEnd, valueEnd, afterThread, afterLetter, fromFields, front, stage}
+use Rattle.decimal.specs.Computed.Forward.{reached, nowhere, numberUntil}
+use Rattle.events.specs.Events.{Fields, wrong, right, onNumber, onInteger, field, last, lockEnd, valueEnd, afterThread, fromFields}
+use Rattle.events.specs.Computed.Lines.{placed, noLine, front, stage}
 use Rattle.decimal.proofs.ScanLaws.{ltb-suc}
 use Rattle.decimal.proofs.NumberLaws.{natural-bad}
 use Rattle.events.proofs.StageLaws.{stage-last}
+
+-- 0, which stands for a field that is no letter, is none
+pub zero-none : isLetter 0 ≡ false
+unfolding isLetter
+zero-none = refl
 
 space-bad : (i : ℕ) (x : List ℕ) → i < length x → getD x i 0 ≡ 32 → naturalOf x ≡ natural.Bad
 space-bad i x h e = natural-bad i x h (rw (e))
@@ -105,61 +108,68 @@ either-none : (q : Bool) → cond q wrong wrong ≡ wrong
 either-none true = refl
 either-none false = refl
 
-no-letter : (x : ℕ) (f : List ℕ) → kindOf x ≡ 0 → kindOf (letter (x ∷ f)) ≡ 0
+no-letter : (x : ℕ) (f : List ℕ) → isLetter x ≡ false → isLetter (letter (x ∷ f)) ≡ false
 unfolding letter
 no-letter x [] h = h
-no-letter x (c ∷ cs) h = refl
+no-letter x (c ∷ cs) h = zero-none
 
 -- a first byte that is no letter
-none-letter : (at x : ℕ) (xs : List ℕ) → kindOf x ≡ 0 → stage fromFields at (x ∷ xs) ≡ noLine
+none-letter : (at x : ℕ) (xs : List ℕ) → isLetter x ≡ false → stage fromFields at (x ∷ xs) ≡ noLine
 unfolding stage front before splitOn letter
 none-letter at x xs h = none-either (ltb (before 10 (x ∷ xs)) (suc (length xs))) (at + before 10 (x ∷ xs) + 1) _ (by (eqb x 10) (eqb x 32) refl)
   where
     by : (q p : Bool) → eqb x 32 ≡ p → fromFields (splitOn 32 (take (cond q 0 (suc (before 10 xs))) (x ∷ xs))) ≡ wrong
-    by true p r = refl
-    by false true r = rw (r)
+    by true p r = rw zero-none
+    by false true r = rw (r, zero-none)
     by false false r =
         let w = split-some 32 (take (before 10 xs) xs) in
         rw (r, w .2, no-letter x (w .0) h)
 
-kind-not : (x b : ℕ) → (kindOf x ≡ 0 → ⊥) → kindOf b ≡ 0 → x ≡ b → ⊥
-kind-not x b k z e = k (ap kindOf e ∙ z)
+letter-not : (x b : ℕ) → isLetter x ≡ true → isLetter b ≡ false → x ≡ b → ⊥
+letter-not x b k z e = false≢true (sym z ∙ ap isLetter (sym e) ∙ k)
+
+-- a byte that ends a line or a field is no letter
+pub not-end : (x : ℕ) → isLetter x ≡ true → x ≡ 10 → ⊥
+not-end x k = letter-not x 10 k (unfold isLetter in refl)
+
+pub not-space : (x : ℕ) → isLetter x ≡ true → x ≡ 32 → ⊥
+not-space x k = letter-not x 32 k (unfold isLetter in refl)
 
 -- a letter alone at the end
-none-end : (at x : ℕ) → (kindOf x ≡ 0 → ⊥) → stage fromFields at (x ∷ []) ≡ noLine
+none-end : (at x : ℕ) → isLetter x ≡ true → stage fromFields at (x ∷ []) ≡ noLine
 unfolding stage before
-none-end at x k = rw (ne-eqb x 10 (kind-not x 10 k refl))
+none-end at x k = rw (ne-eqb x 10 (not-end x k))
 
 -- a letter and no space behind it
-none-space : (at x y : ℕ) (ys : List ℕ) → (kindOf x ≡ 0 → ⊥) → (y ≡ 32 → ⊥) → stage fromFields at (x ∷ y ∷ ys) ≡ noLine
+none-space : (at x y : ℕ) (ys : List ℕ) → isLetter x ≡ true → (y ≡ 32 → ⊥) → stage fromFields at (x ∷ y ∷ ys) ≡ noLine
 unfolding stage front before splitOn letter
 none-space at x y ys k n =
-    rw (ne-eqb x 10 (kind-not x 10 k refl), ne-eqb x 32 (kind-not x 32 k refl))
+    rw (ne-eqb x 10 (not-end x k), ne-eqb x 32 (not-space x k))
     (none-either (ltb (suc (before 10 (y ∷ ys))) (suc (suc (length ys)))) (at + suc (before 10 (y ∷ ys)) + 1) _ (by (eqb y 10)))
   where
     by : (q : Bool) → fromFields (onFirst x (splitOn 32 (take (cond q 0 (suc (before 10 ys))) (y ∷ ys)))) ≡ wrong
-    by true = either-none (eqb (kindOf x) 0)
+    by true = either-none (isLetter x)
     by false =
         let w = split-some 32 (take (before 10 ys) ys) in
-        rw (ne-eqb y 32 n, w .2)
+        rw (ne-eqb y 32 n, w .2, zero-none)
 
 -- a letter and a space
-with-space : (at x : ℕ) (ys : List ℕ) → (kindOf x ≡ 0 → ⊥)
-    → stage fromFields at (x ∷ 32 ∷ ys) ≡ stage (field (afterThread (kindOf x))) (at + 1 + 1) ys
+with-space : (at x : ℕ) (ys : List ℕ) → isLetter x ≡ true
+    → stage fromFields at (x ∷ 32 ∷ ys) ≡ stage (field (afterThread x)) (at + 1 + 1) ys
 unfolding stage front before splitOn letter
 with-space at x ys k =
     let e : at + suc (suc (before 10 ys)) + 1 ≡ at + 1 + 1 + before 10 ys + 1 = omega arith in
-    rw (ne-eqb x 10 (kind-not x 10 k refl), ne-eqb x 32 (kind-not x 32 k refl), ltb-suc (suc (before 10 ys)) (suc (length ys)), ltb-suc (before 10 ys) (length ys), ne-eqb (kindOf x) 0 k, e)
+    rw (ne-eqb x 10 (not-end x k), ne-eqb x 32 (not-space x k), ltb-suc (suc (before 10 ys)) (suc (length ys)), ltb-suc (before 10 ys) (length ys), k, e)
 
-pub at-none : (s : List ℕ) (at : ℕ) → at < length s → kindOf (getD s at 0) ≡ 0 → stage fromFields at (drop at s) ≡ noLine
+pub at-none : (s : List ℕ) (at : ℕ) → at < length s → isLetter (getD s at 0) ≡ false → stage fromFields at (drop at s) ≡ noLine
 at-none s at h k = rw (drop-cons s at 0 h) (none-letter at (getD s at 0) (drop (suc at) s) k)
 
-pub at-last : (s : List ℕ) (at : ℕ) → at < length s → length s ≤ at + 1 → (kindOf (getD s at 0) ≡ 0 → ⊥) → stage fromFields at (drop at s) ≡ noLine
+pub at-last : (s : List ℕ) (at : ℕ) → at < length s → length s ≤ at + 1 → isLetter (getD s at 0) ≡ true → stage fromFields at (drop at s) ≡ noLine
 at-last s at h l k =
     let m : length s ≤ suc at = omega arith in
     rw (drop-cons s at 0 h, drop-of-length-le s m) (none-end at (getD s at 0) k)
 
-pub at-other : (s : List ℕ) (at : ℕ) → at + 1 < length s → (kindOf (getD s at 0) ≡ 0 → ⊥) → (getD s (at + 1) 0 ≡ 32 → ⊥)
+pub at-other : (s : List ℕ) (at : ℕ) → at + 1 < length s → isLetter (getD s at 0) ≡ true → (getD s (at + 1) 0 ≡ 32 → ⊥)
     → stage fromFields at (drop at s) ≡ noLine
 at-other s at h k n =
     let m : suc at < length s = omega arith in
@@ -167,8 +177,8 @@ at-other s at h k n =
     rw (drop-cons s at 0 (omega arith), drop-cons s (suc at) 0 m)
     (none-space at (getD s at 0) (getD s (suc at) 0) (drop (suc (suc at)) s) k (λ e. n (ap (λ (i : ℕ). getD s i 0) g ∙ e)))
 
-pub at-space : (s : List ℕ) (at : ℕ) → at + 1 < length s → (kindOf (getD s at 0) ≡ 0 → ⊥) → getD s (at + 1) 0 ≡ 32
-    → stage fromFields at (drop at s) ≡ stage (field (afterThread (kindOf (getD s at 0)))) (at + 1 + 1) (drop (at + 1 + 1) s)
+pub at-space : (s : List ℕ) (at : ℕ) → at + 1 < length s → isLetter (getD s at 0) ≡ true → getD s (at + 1) 0 ≡ 32
+    → stage fromFields at (drop at s) ≡ stage (field (afterThread (getD s at 0))) (at + 1 + 1) (drop (at + 1 + 1) s)
 at-space s at h k n =
     let m : suc at < length s = omega arith in
     let g : at + 1 ≡ suc at = omega arith in
@@ -176,23 +186,19 @@ at-space s at h k n =
     let g2 : suc (suc at) ≡ at + 1 + 1 = omega arith in
     ap (λ (u : List ℕ). stage fromFields at u) (drop-cons s at 0 (omega arith) ∙ ap (λ (u : List ℕ). getD s at 0 ∷ u) (drop-cons s (suc at) 0 m ∙ ap (λ (z : ℕ). z ∷ drop (suc (suc at)) s) b))
     ∙ with-space at (getD s at 0) (drop (suc (suc at)) s) k
-    ∙ ap (λ (i : ℕ). stage (field (afterThread (kindOf (getD s at 0)))) (at + 1 + 1) (drop i s)) g2
+    ∙ ap (λ (i : ℕ). stage (field (afterThread (getD s at 0))) (at + 1 + 1) (drop i s)) g2
 
 pub stage-out : (f : List (List ℕ) → Fields) (s : List ℕ) (at : ℕ) → length s ≤ at → noLine ≡ stage f at (drop at s)
 unfolding stage before
 stage-out f s at h = rw (drop-of-length-le s h)
 
 pub thread-none : (k t : ℕ) → afterThread k t [] ≡ wrong
-thread-none k t = either-none (isLock k)
+thread-none k t = either-none (isLockLetter k)
 
-pub thread-lock : (k t at : ℕ) (u : List ℕ) → k ≡ 7 → stage (last (lockEnd k t)) at u ≡ stage (afterThread k t) at u
+pub thread-lock : (k t at : ℕ) (u : List ℕ) → isLockLetter k ≡ true → stage (last (lockEnd k t)) at u ≡ stage (afterThread k t) at u
 unfolding stage
-thread-lock k t at u e = rw (eq-eqb k 7 e)
+thread-lock k t at u e = rw e
 
-pub thread-unlock : (k t at : ℕ) (u : List ℕ) → (k ≡ 7 → ⊥) → k ≡ 8 → stage (last (lockEnd k t)) at u ≡ stage (afterThread k t) at u
+pub thread-value : (k t at : ℕ) (u : List ℕ) → isLockLetter k ≡ false → stage (field (λ v. last (valueEnd k t v))) at u ≡ stage (afterThread k t) at u
 unfolding stage
-thread-unlock k t at u n e = rw (ne-eqb k 7 n, eq-eqb k 8 e)
-
-pub thread-value : (k t at : ℕ) (u : List ℕ) → (k ≡ 7 → ⊥) → (k ≡ 8 → ⊥) → stage (field (λ v. last (valueEnd k t v))) at u ≡ stage (afterThread k t) at u
-unfolding stage
-thread-value k t at u n e = rw (ne-eqb k 7 n, ne-eqb k 8 e)
+thread-value k t at u e = rw e

@@ -1,27 +1,24 @@
 -- Laws of a line's fields at the front of what remains of the part.
--- Assumes nothing.
 use mathlib.Core.Path.{_≡_, refl, sym, ap, _∙_}
 use mathlib.Core.Bool.{Bool, true, false, cond}
 use mathlib.Core.List.{List, [], _∷_}
 use mathlib.Core.Logic.{⊎-elim}
-use Prim.Native.Nat.{ℕ, zero, suc, _≤_, _<_, _+_, _-_, _*_, min}
+use Prim.Native.Nat.{ℕ, suc, _≤_, _<_, _+_, _-_}
 use native.Mathlib.Omega.{arith}
-use native.Mathlib.Numerals.{add-one}
-use borrow.Author.Tests.{lt-ltb, le-ltb, le-leb, lt-leb, eq-eqb, ne-eqb, eqb-true, ltb-true}
+use borrow.Author.Tests.{lt-ltb, le-ltb, eqb-true}
 use lib.Dec.{eqb, ltb}
-use lib.ListN.{length, getD, take, drop, drop-of-length-le, length-drop}
-use lib.Seq.{drop-cons, drop-drop, getD-take, length-take-le}
+use lib.ListN.{length, getD, take, drop, length-drop}
+use lib.Seq.{drop-drop, getD-take, length-take-le}
 use Rattle.decimal.specs.declared.Natural.{Natural}
 use Rattle.decimal.specs.declared.Natural.the-variants as natural
-use Rattle.decimal.specs.Decimal.{cap, isDigit, digitsFrom, naturalOf}
+use Rattle.decimal.specs.Decimal.{isDigit, naturalOf}
 use Rattle.lines.proofs.PartLaws.{lt-or-le}
-use Rattle.lines.specs.Lines.{before, splitOn, onFirst, letter}
+use Rattle.lines.specs.Lines.{before, splitOn}
 use Rattle.lines.proofs.FieldLaws.{before-le, split-some}
 use Rattle.decimal.proofs.NumberLaws.{natural-bad, bad-not, Got, got}
-use Rattle.decimal.specs.declared.Reached.{Reached}
-use Rattle.events.specs.declared.Line.{Line}
-use Rattle.decimal.specs.Decimal.{nowhere, reached, numberUntil}
-use Rattle.events.specs.Events.{Fields, wrong, placed, noLine, onNumber, field, last, front, stage}
+use Rattle.decimal.specs.Computed.Forward.{nowhere, reached, numberUntil}
+use Rattle.events.specs.Events.{Fields, wrong, onNumber, field, last}
+use Rattle.events.specs.Computed.Lines.{placed, noLine, front, stage}
 
 -- the byte that was looked for
 pub getD-before : (b : ℕ) (t : List ℕ) → before b t < length t → getD t (before b t) 0 ≡ b

@@ -1,120 +1,142 @@
--- The walk from line to line: each turn reads the next line of the text.
--- Assumes nothing.
-use mathlib.Core.Path.{_≡_, refl, sym, ap, _∙_}
-use mathlib.Core.Bool.{Bool, true, false, cond}
-use mathlib.Core.List.{List, [], _∷_}
-use Prim.Native.Nat.{ℕ, zero, suc, _≤_, _<_, _+_, _-_}
+-- The lines of a part one after the other, and what `line_at` says of each.
+use Prim.Native.Nat.{ℕ, zero, suc, _≤_, _<_, _+_}
 use native.Mathlib.Omega.{arith}
+use native.Mathlib.Nat.{not-suc-le-zero, le-refl}
+use mathlib.Core.Path.{_≡_, refl, sym, ap, _∙_}
+use mathlib.Core.Bool.{Bool, true, false, cond, false≢true}
+use mathlib.Core.List.{List, [], _∷_}
+use mathlib.Core.Option.{Option, none, some}
+use mathlib.Core.Logic.{⊎-elim}
 use borrow.Author.Tests.{lt-ltb, ltb-true}
 use lib.Dec.{ltb}
-use lib.ListN.{length, getD, take, drop, length-drop}
-use lib.Seq.{drop-drop, getD-drop}
-use Rattle.rules.specs.declared.Counts.{Counts}
-use Rattle.lines.specs.Lines.{before, upTo, linesOf}
-use Rattle.lines.proofs.FieldLaws.{ended-drop, ended-before}
-use Rattle.lines.proofs.FieldLaws as field-laws
+use lib.ListN.{length, take, drop, length-drop, drop-of-length-le}
+use lib.Seq.{drop-drop}
+use Rattle.rules.specs.declared.Event.{Event}
+use Rattle.rules.specs.Events.{isLetter}
+use Rattle.lines.specs.Lines.{before, upTo, splitOn, ended, letter, linesOf}
+use Rattle.lines.proofs.PartLaws.{lt-or-le}
+use Rattle.lines.proofs.FieldLaws.{split-more, split-last, split-some, ended-drop, ended-before, lines-more}
+use Rattle.records.specs.Records.{whatOf, packed, valueIn}
 use Rattle.events.specs.declared.Line.{Line}
-use Rattle.events.specs.declared.Reading.{Reading}
-use Rattle.events.specs.Events.{Fields, wrong, right, fromFields, lineOf, noLine, placed, front, stage, lineAt, start, eventFrom, eventOf, checked, readingOf, readings}
+use Rattle.events.specs.Events.{Fields, wrong, right, lineOf, eventIn, eventOf, readings, partLines}
+use Rattle.events.specs.Computed.Lines.{noLine, placed, front, stage, lineAt}
+use Rattle.events.proofs.LineLaws.{zero-none}
+use Rattle.events.proofs.FormLaws.{Good, good, made}
 
--- the line at `at` by the definition of a line
+-- ---- the lines of a part
+
+part-more : (s : List ℕ) → before 10 s < length s → partLines s ≡ take (before 10 s) s ∷ partLines (drop (before 10 s + 1) s)
+unfolding partLines
+part-more s h = let w = split-some 10 (drop (before 10 s + 1) s) in rw (split-more 10 s h, w .2)
+
+-- the same, with the line as `line_at` has it
+front-more : (s : List ℕ) → before 10 s < length s → partLines s ≡ front s ∷ partLines (drop (before 10 s + 1) s)
+unfolding front
+front-more s h = part-more s h
+
+part-tail : (s : List ℕ) → 0 < length s → length s ≤ before 10 s → partLines s ≡ [] ∷ []
+unfolding partLines
+part-tail [] k h = absurd (not-suc-le-zero k)
+part-tail (x ∷ xs) k h = rw (split-last 10 (x ∷ xs) h)
+
+pub part-none : (s : List ℕ) (at : ℕ) → length s ≤ at → partLines (drop at s) ≡ []
+unfolding partLines splitOn
+part-none s at h = rw (drop-of-length-le s h)
+
+-- a part of whole lines
+part-empty : (s : List ℕ) → length s ≤ 0 → partLines s ≡ linesOf s
+unfolding partLines linesOf splitOn ended
+part-empty [] h = refl
+part-empty (x ∷ xs) h = absurd (not-suc-le-zero h)
+
+part-within : (n : ℕ) (s : List ℕ) → length s ≤ n → upTo 10 s ≡ length s → partLines s ≡ linesOf s
+part-within zero s l w = part-empty s l
+part-within (suc n) s l w =
+    ⊎-elim
+    (λ k. more (ended-before 10 s w k) (λ h. part-within n (drop (before 10 s + 1) s) (shorter h) (ended-drop 10 (before 10 s + 1) s w)))
+    (λ k. part-empty s k)
+    (lt-or-le 0 (length s))
+  where
+    shorter : before 10 s < length s → length (drop (before 10 s + 1) s) ≤ n
+    shorter h = omega (arith, length-drop (before 10 s + 1) s)
+
+    more : (h : before 10 s < length s) → (before 10 s < length s → partLines (drop (before 10 s + 1) s) ≡ linesOf (drop (before 10 s + 1) s)) → partLines s ≡ linesOf s
+    more h r = part-more s h ∙ ap (λ (ls : List (List ℕ)). take (before 10 s) s ∷ ls) (r h) ∙ sym (lines-more s h)
+
+-- the lines of a part that ends in byte 10, or is empty, are its whole lines
+pub part-lines : (s : List ℕ) → upTo 10 s ≡ length s → partLines s ≡ linesOf s
+part-lines s w = part-within (length s) s (le-refl (length s)) w
+
+-- ---- the line at `at`, which is line n
+
 at-as : (s : List ℕ) (at : ℕ) → lineAt s at
     ≡ cond (ltb (before 10 (drop at s)) (length (drop at s))) (placed (at + before 10 (drop at s) + 1) (lineOf (front (drop at s)))) noLine
 unfolding lineAt stage lineOf
 at-as s at = refl
 
-pub at-ended : (s : List ℕ) (at : ℕ) → before 10 (drop at s) < length (drop at s)
+at-ended : (s : List ℕ) (at : ℕ) → before 10 (drop at s) < length (drop at s)
     → lineAt s at ≡ placed (at + before 10 (drop at s) + 1) (lineOf (front (drop at s)))
 at-ended s at h = at-as s at ∙ ap (λ (q : Bool). cond q (placed (at + before 10 (drop at s) + 1) (lineOf (front (drop at s)))) noLine) (lt-ltb _ _ h)
 
--- what is known where `line_at` reads an event line
-pub record Step (s : List ℕ) (at : ℕ) : Type 0 where
-  pub ended : before 10 (drop at s) < length (drop at s)
-  pub place : lineAt s at .next ≡ at + before 10 (drop at s) + 1
+-- it is the event that its numbers say, and the next line starts where they say
+pub record Here (n : ℕ) (s : List ℕ) (at : ℕ) (l : Line) : Type 0 where
+  pub event : Event
+  pub lines : readings n (partLines (drop at s)) ≡ some event ∷ readings (suc n) (partLines (drop (l .next) s))
+  pub what-is : packed event ≡ whatOf (l .letter) (l .thread) (l .place)
+  pub value-is : valueIn event ≡ l .value
+  pub more : at < l .next
 
-placed-next : (e : ℕ) (f : Fields) → (placed e f .kind ≡ 0 → ⊥) → placed e f .next ≡ e
-placed-next e wrong h = absurd (h refl)
-placed-next e (right k t p v) h = refl
-
-pub step : (s : List ℕ) (at : ℕ) → (lineAt s at .kind ≡ 0 → ⊥) → Step s at
-step s at h = by (ltb (before 10 t) (length t)) refl (λ z. h (ap (λ (l : Line). l .kind) (at-as s at) ∙ z))
+pub here : (n : ℕ) (s : List ℕ) (at : ℕ) → (lineAt s at .letter ≡ 0 → ⊥) → Here n s at (lineAt s at)
+here n s at z = rw (at-as s at) (by (ltb (before 10 t) (length t)) refl (lineOf (front t)) refl (good (front t)) (λ e. z (ap (λ (l : Line). l .letter) (at-as s at) ∙ e)))
   where
     t : List ℕ
     t = drop at s
 
-    by : (q : Bool) → ltb (before 10 t) (length t) ≡ q → (cond q (placed (at + before 10 t + 1) (lineOf (front t))) noLine .kind ≡ 0 → ⊥) → Step s at
-    by false e r = absurd (r refl)
-    by true e r =
+    e : ℕ
+    e = at + before 10 t + 1
+
+    behind : (x : Option Event) → eventOf n (front t) ≡ x → before 10 t < length t → readings n (partLines (drop at s)) ≡ x ∷ readings (suc n) (partLines (drop e s))
+    behind x q h =
+        let m : at + (before 10 t + 1) ≡ e = omega arith in
+        let d : drop (before 10 t + 1) t ≡ drop e s = drop-drop (before 10 t + 1) at s ∙ ap (λ (i : ℕ). drop i s) m in
+        ap (readings n) (front-more t h ∙ ap (λ (u : List ℕ). front t ∷ partLines u) d) ∙ (unfold readings in ap (λ (y : Option Event). y ∷ readings (suc n) (partLines (drop e s))) q)
+
+    by : (q : Bool) → ltb (before 10 t) (length t) ≡ q → (f : Fields) → lineOf (front t) ≡ f → Good f → (cond q (placed e f) noLine .letter ≡ 0 → ⊥) → Here n s at (cond q (placed e f) noLine)
+    by false r f w g z = absurd (z refl)
+    by true r wrong w g z = absurd (z refl)
+    by true r (right k u p x) w g z =
+        let v = made n k u p x g in
         record {
-          ended = ltb-true _ _ e;
-          place = ap (λ (l : Line). l .next) (at-ended s at (ltb-true _ _ e)) ∙ placed-next (at + before 10 t + 1) (lineOf (front t)) r;
+          event = v .event;
+          lines = behind (some (v .event)) (unfold eventOf in ap (eventIn n) w ∙ v .is) (ltb-true _ _ r);
+          what-is = v .what-is;
+          value-is = v .value-is;
+          more = omega arith;
         }
 
-pub step-more : (s : List ℕ) (at : ℕ) → (lineAt s at .kind ≡ 0 → ⊥) → at < lineAt s at .next
-step-more s at h = omega (arith, step s at h .place)
+-- it is no event
+pub record Wrong (n : ℕ) (s : List ℕ) (at : ℕ) : Type 0 where
+  pub rest : List (Option Event)
+  pub lines : readings n (partLines (drop at s)) ≡ none ∷ rest
 
-pub step-within : (s : List ℕ) (at : ℕ) → (lineAt s at .kind ≡ 0 → ⊥) → lineAt s at .next ≤ length s
-step-within s at h = omega (arith, step s at h .place, step s at h .ended, length-drop at s)
+empty-none : (n : ℕ) → eventOf n [] ≡ none
+unfolding eventOf lineOf splitOn letter
+empty-none n = rw zero-none
 
--- a line, and the lines of what is behind it
-pub lines-more : (s : List ℕ) (at : ℕ) → before 10 (drop at s) < length (drop at s)
-    → linesOf (drop at s) ≡ front (drop at s) ∷ linesOf (drop (at + before 10 (drop at s) + 1) s)
-unfolding front
-lines-more s at h =
-    let t = drop at s in
-    let m : at + (before 10 t + 1) ≡ at + before 10 t + 1 = omega arith in
-    field-laws.lines-more t h ∙ ap (λ (u : List ℕ). take (before 10 t) t ∷ linesOf u) (drop-drop (before 10 t + 1) at s ∙ ap (λ (i : ℕ). drop i s) m)
+pub wrong-here : (n : ℕ) (s : List ℕ) (at : ℕ) → at < length s → lineAt s at .letter ≡ 0 → Wrong n s at
+wrong-here n s at inside z = ⊎-elim
+    (λ h. record { rest = readings (suc n) (partLines (drop (before 10 t + 1) t)); lines = first (front t) (partLines (drop (before 10 t + 1) t)) (front-more t h) (by h (lineOf (front t)) refl (good (front t))) })
+    (λ h. record { rest = readings (suc n) []; lines = first [] [] (part-tail t (omega (arith, length-drop at s)) h) (empty-none n) })
+    (lt-or-le (before 10 t) (length t))
+  where
+    t : List ℕ
+    t = drop at s
 
-pub lines-step : (s : List ℕ) (at : ℕ) → (lineAt s at .kind ≡ 0 → ⊥) → linesOf (drop at s) ≡ front (drop at s) ∷ linesOf (drop (lineAt s at .next) s)
-lines-step s at h =
-    let w = step s at h in
-    lines-more s at (w .ended) ∙ ap (λ (i : ℕ). front (drop at s) ∷ linesOf (drop i s)) (sym (w .place))
+    first : (l : List ℕ) (ls : List (List ℕ)) → partLines t ≡ l ∷ ls → eventOf n l ≡ none → readings n (partLines t) ≡ none ∷ readings (suc n) ls
+    first l ls q e = ap (readings n) q ∙ (unfold readings in ap (λ (y : Option Event). y ∷ readings (suc n) ls) e)
 
--- the event does not hang on where the next line starts
-event-placed : (n e : ℕ) (f : Fields) → eventFrom n (placed e f) ≡ eventFrom n (placed 0 f)
-unfolding eventFrom
-event-placed n e wrong = refl
-event-placed n e (right k t p v) = refl
-
-pub event-here : (n : ℕ) (s : List ℕ) (at : ℕ) → before 10 (drop at s) < length (drop at s) → eventFrom n (lineAt s at) ≡ eventOf n (front (drop at s))
-unfolding eventOf
-event-here n s at h = ap (eventFrom n) (at-ended s at h) ∙ event-placed n (at + before 10 (drop at s) + 1) (lineOf (front (drop at s)))
-
--- One turn of the walk over a text in which each line is ended: the reading of the line at `at`, and those of the lines behind it.
-module _ (h : Counts) (n : ℕ) (s : List ℕ) (at : ℕ) (inside : at < length s) (whole : upTo 10 s ≡ length s) where
-  pub here-ended : before 10 (drop at s) < length (drop at s)
-  here-ended = ended-before 10 (drop at s) (ended-drop 10 at s whole) (omega (arith, length-drop at s))
-
-  pub readings-here : readings h n (linesOf (drop at s)) ≡ checked h (eventFrom n (lineAt s at)) ∷ readings h (n + 1) (linesOf (drop (at + before 10 (drop at s) + 1) s))
-  unfolding readings readingOf
-  readings-here = rw (lines-more s at here-ended, event-here n s at here-ended)
-
-  pub readings-step : (lineAt s at .kind ≡ 0 → ⊥)
-      → readings h n (linesOf (drop at s)) ≡ checked h (eventFrom n (lineAt s at)) ∷ readings h (n + 1) (linesOf (drop (lineAt s at .next) s))
-  readings-step k =
-      readings-here ∙ ap (λ (i : ℕ). checked h (eventFrom n (lineAt s at)) ∷ readings h (n + 1) (linesOf (drop i s))) (sym (step s at k .place))
-
--- the n-th turn of the walk stands at the n-th line
-pub turn : (s : List ℕ) (n : ℕ) → ((m : ℕ) → m < n → lineAt s (start s m) .kind ≡ 0 → ⊥) → drop n (linesOf s) ≡ linesOf (drop (start s n) s)
-unfolding start
-turn s zero h = refl
-turn s (suc n) h =
-    let at = start s n in
-    let r = turn s n (λ m k. h m (omega arith)) in
-    let e : suc n ≡ n + 1 = omega arith in
-    ap (λ (i : ℕ). drop i (linesOf s)) e ∙ sym (drop-drop 1 n (linesOf s)) ∙ ap (λ (ls : List (List ℕ)). drop 1 ls) (r ∙ lines-step s at (h n (omega arith)))
-
--- and what `line_at` reads there is that line
-pub nth-line : (s : List ℕ) (n : ℕ) → ((m : ℕ) → m < suc n → lineAt s (start s m) .kind ≡ 0 → ⊥)
-    → lineAt s (start s n) ≡ placed (start s (suc n)) (lineOf (getD (linesOf s) n []))
-unfolding start
-nth-line s n h =
-    let at = start s n in
-    let g = h n (omega arith) in
-    let w = step s at g in
-    let e : n + 0 ≡ n = omega arith in
-    let p : getD (linesOf s) n [] ≡ front (drop at s) =
-    ap (λ (i : ℕ). getD (linesOf s) i []) (sym e) ∙ sym (getD-drop n (linesOf s) 0 [])
-    ∙ ap (λ (ls : List (List ℕ)). getD ls 0 []) (turn s n (λ m k. h m (omega arith)) ∙ lines-step s at g) in
-    at-ended s at (w .ended) ∙ ap (λ (i : ℕ). placed i (lineOf (front (drop at s)))) (sym (w .place))
-    ∙ ap (λ (l : List ℕ). placed (lineAt s at .next) (lineOf l)) (sym p)
+    by : before 10 t < length t → (f : Fields) → lineOf (front t) ≡ f → Good f → eventOf n (front t) ≡ none
+    by h wrong w g = unfold eventOf in ap (eventIn n) w
+    by h (right k u p x) w g =
+        let q : k ≡ 0 = sym (ap (λ (l : Line). l .letter) (at-ended s at h ∙ ap (placed (at + before 10 t + 1)) w)) ∙ z in
+        absurd (false≢true (sym zero-none ∙ ap isLetter (sym q) ∙ g .0))

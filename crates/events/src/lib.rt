@@ -2,35 +2,36 @@
 use decimal::Integer;
 use decimal::Natural;
 use rules::Counts;
-use rules::Event;
-use rules::Kind;
 use rules::Value;
+use rules::Verdict;
 ghost use mathlib.Core.Path.{_≡_};
-ghost use Prim.Native.Nat.{_+_, _-_, _≤_, _<_};
+ghost use Prim.Native.Nat.{_≤_};
 ghost use lib.ListN.{length, drop};
-ghost use Rattle.events.specs.Events.{kindOf, noLine, onInteger, right, placed, stage, last, lockEnd, valueEnd, field, afterThread, lineAt, eventFrom, checked};
+ghost use Rattle.rules.specs.Limits.{full};
+ghost use Rattle.events.specs.Events.{onInteger, right, last, lockEnd, valueEnd, field, afterThread};
+ghost use Rattle.events.specs.Computed.Lines.{noLine, placed, stage, lineAt};
+ghost use Rattle.events.specs.Computed.Reading.{Reads};
 
-// An event line as plain numbers, and where the next line starts; `kind` is 1 to 10, and all is 0 where there is no event line.
+// An event line as plain numbers, and where the next line starts; all is 0 where there is no event line.
 pub struct Line {
-    pub kind: usize,
+    pub letter: u8,
     pub thread: usize,
     pub place: usize,
     pub value: Value,
     pub next: usize,
 }
 
-// An event line: the event, 4, or 5.
-pub enum Reading {
-    NoEvent,
-    Undeclared,
-    Of(Event),
+// How many events were read, and what ended the reading.
+pub struct Read {
+    pub count: usize,
+    pub verdict: Verdict,
 }
 
 fn no_line() -> Line
     ensures { λ r. ⌜ r ≡ noLine ⌝ }
 {
     Line {
-        kind: 0,
+        letter: 0,
         thread: 0,
         place: 0,
         value: 0,
@@ -38,27 +39,8 @@ fn no_line() -> Line
     }
 }
 
-// The ten letters; every other byte is refused.
-fn choose_kind(k: u8) -> usize
-    ensures { λ r. ⌜ r ≡ kindOf k ⌝ }
-{
-    match k {
-        b'U' => 1,
-        b'A' => 2,
-        b'L' => 3,
-        b'S' => 4,
-        b'R' => 5,
-        b'W' => 6,
-        b'K' => 7,
-        b'N' => 8,
-        b'P' => 9,
-        b'B' => 10,
-        _ => 0,
-    }
-}
-
 // The last field of a lock event.
-fn lock_end(s: &[u8], at: usize, k: usize, t: usize) -> Line
+fn lock_end(s: &[u8], at: usize, k: u8, t: usize) -> Line
     ensures { λ r. ⌜ r ≡ stage (last (lockEnd k t)) at (drop at (now (s .entry))) ⌝ }
 {
     let r = decimal::number_until(s, at, 10);
@@ -66,7 +48,7 @@ fn lock_end(s: &[u8], at: usize, k: usize, t: usize) -> Line
     match n {
         Natural::Bad => no_line(),
         Natural::Of(l) => Line {
-            kind: k,
+            letter: k,
             thread: t,
             place: l,
             value: 0,
@@ -75,14 +57,14 @@ fn lock_end(s: &[u8], at: usize, k: usize, t: usize) -> Line
     }
 }
 
-fn made(k: usize, t: usize, v: usize, x: Integer, e: usize) -> Line
+fn made(k: u8, t: usize, v: usize, x: Integer, e: usize) -> Line
     ensures { λ r. ⌜ r ≡ placed e (onInteger x (λ z. right k t v z)) ⌝ }
 {
     match x {
         Integer::Bad => no_line(),
         Integer::Outside => no_line(),
         Integer::Of(z) => Line {
-            kind: k,
+            letter: k,
             thread: t,
             place: v,
             value: z,
@@ -92,7 +74,7 @@ fn made(k: usize, t: usize, v: usize, x: Integer, e: usize) -> Line
 }
 
 // The last field of an event with a value.
-fn value_end(s: &[u8], at: usize, k: usize, t: usize, v: usize) -> Line
+fn value_end(s: &[u8], at: usize, k: u8, t: usize, v: usize) -> Line
     ensures { λ r. ⌜ r ≡ stage (last (valueEnd k t v)) at (drop at (now (s .entry))) ⌝ }
 {
     if s.len() <= at {
@@ -109,13 +91,10 @@ fn value_end(s: &[u8], at: usize, k: usize, t: usize, v: usize) -> Line
 }
 
 // The fields behind the thread: a lock, or a variable and a value.
-fn after_thread(s: &[u8], at: usize, k: usize, t: usize) -> Line
+fn after_thread(s: &[u8], at: usize, k: u8, t: usize) -> Line
     ensures { λ r. ⌜ r ≡ stage (afterThread k t) at (drop at (now (s .entry))) ⌝ }
 {
-    if k == 7 {
-        return lock_end(s, at, k, t);
-    }
-    if k == 8 {
+    if rules::is_lock_letter(k) {
         return lock_end(s, at, k, t);
     }
     let r = decimal::number_until(s, at, 32);
@@ -127,7 +106,7 @@ fn after_thread(s: &[u8], at: usize, k: usize, t: usize) -> Line
 }
 
 // The fields behind the letter.
-fn after_letter(s: &[u8], at: usize, k: usize) -> Line
+fn after_letter(s: &[u8], at: usize, k: u8) -> Line
     ensures { λ r. ⌜ r ≡ stage (field (afterThread k)) at (drop at (now (s .entry))) ⌝ }
 {
     let r = decimal::number_until(s, at, 32);
@@ -145,8 +124,8 @@ pub fn line_at(s: &[u8], at: usize) -> Line
     if s.len() <= at {
         return no_line();
     }
-    let k = choose_kind(s[at]);
-    if k == 0 {
+    let k = s[at];
+    if !rules::is_letter(k) {
         return no_line();
     }
     let a = at + 1;
@@ -160,83 +139,47 @@ pub fn line_at(s: &[u8], at: usize) -> Line
     }
 }
 
-// The event of line n that the numbers of a line stand for.
-pub fn event_of(l: Line, n: usize) -> Reading
-    ensures { λ r. ⌜ r ≡ eventFrom n l ⌝ }
+// The events of the lines of a part, one record for each at the front of the two rows.
+fn read_into(h: Counts, part: &[u8], what: &mut [u32], value: &mut [Value]) -> Read
+    requires { ⌜ (full .events ≤ length (now what)) × (full .events ≤ length (now value)) ⌝ }
+    ensures { λ r. ⌜ Reads h (now (part .entry)) r (now (what .entry)) (now (what .exit)) (now (value .entry)) (now (value .exit)) ⌝ }
 {
-    let k = l.kind;
-    let v = l.value;
-    let thread = l.thread;
-    let place = l.place;
-    match k {
-        1 => Reading::Of(Event {
-            thread,
-            line: n,
-            kind: Kind::Use(place, v),
-        }),
-        2 => Reading::Of(Event {
-            thread,
-            line: n,
-            kind: Kind::Assign(place, v),
-        }),
-        3 => Reading::Of(Event {
-            thread,
-            line: n,
-            kind: Kind::Load(place, v),
-        }),
-        4 => Reading::Of(Event {
-            thread,
-            line: n,
-            kind: Kind::Store(place, v),
-        }),
-        5 => Reading::Of(Event {
-            thread,
-            line: n,
-            kind: Kind::Read(place, v),
-        }),
-        6 => Reading::Of(Event {
-            thread,
-            line: n,
-            kind: Kind::Write(place, v),
-        }),
-        7 => Reading::Of(Event {
-            thread,
-            line: n,
-            kind: Kind::Lock(place),
-        }),
-        8 => Reading::Of(Event {
-            thread,
-            line: n,
-            kind: Kind::Unlock(place),
-        }),
-        9 => Reading::Of(Event {
-            thread,
-            line: n,
-            kind: Kind::PrescientStore(place, v),
-        }),
-        10 => Reading::Of(Event {
-            thread,
-            line: n,
-            kind: Kind::PrescientAssign(place, v),
-        }),
-        _ => Reading::NoEvent,
+    let mut at: usize = 0;
+    let mut n: usize = 0;
+    while at < part.len() {
+        let l = line_at(part, at);
+        let k = l.letter;
+        if k == 0 {
+            let wrong = Verdict::Refused(4, rules::line_after(h, n as u32));
+            return Read {
+                count: n,
+                verdict: wrong,
+            };
+        }
+        if 2000 <= n {
+            let excess = Verdict::Refused(9, rules::line_after(h, n as u32));
+            return Read {
+                count: n,
+                verdict: excess,
+            };
+        }
+        let x = l.value;
+        what[n] = records::what_of(k, l.thread, l.place);
+        value[n] = x;
+        at = l.next;
+        n += 1;
+    }
+    let all = Verdict::Accepted;
+    Read {
+        count: n,
+        verdict: all,
     }
 }
 
-// The event of line n, or its refusal.
-pub fn read_event(h: Counts, l: Line, n: usize) -> Reading
-    ensures { λ r. ⌜ r ≡ checked h (eventFrom n l) ⌝ }
+// The events of the lines of a part, one record for each at the front of the two rows: until a line that is no event, or an event more
+// than 2,000.
+pub fn read_lines(h: Counts, part: &[u8], what: &mut [u32; 2000], value: &mut [Value; 2000]) -> Read
+    ensures { λ r. ⌜ Reads h (now (part .entry)) r (now (what .entry)) (now (what .exit)) (now (value .entry)) (now (value .exit)) ⌝ }
 {
-    let r = event_of(l, n);
-    match r {
-        Reading::NoEvent => Reading::NoEvent,
-        Reading::Undeclared => Reading::Undeclared,
-        Reading::Of(e) => {
-            if rules::is_declared(h, e) {
-                Reading::Of(e)
-            } else {
-                Reading::Undeclared
-            }
-        }
-    }
+    read_into(h, part, what, value)
 }

@@ -1,5 +1,4 @@
 -- Laws of fields.
--- Assumes nothing.
 use mathlib.Core.Path.{_≡_, refl, sym, ap, _∙_}
 use mathlib.Core.Bool.{Bool, true, false, cond}
 use mathlib.Core.List.{List, [], _∷_}
@@ -11,7 +10,7 @@ use lib.Dec.{eqb}
 use lib.ListN.{length, getD, take, drop, drop-of-length-le, length-drop, List·getD-eq-default}
 use lib.Seq.{drop-cons, take-all, drop-drop, getD-drop}
 use mathlib.Core.Logic.{_⊎_, inl, inr, ⊎-elim}
-use Rattle.lines.proofs.PartLaws.{rest, lt-or-le}
+use Rattle.lines.proofs.PartLaws.{lt-or-le}
 use Rattle.lines.specs.Lines.{before, upTo, splitOn, onFirst, ended, linesOf, letter}
 
 pub before-here : (b i : ℕ) (s : List ℕ) → i < length s → getD s i 0 ≡ b → before b (drop i s) ≡ 0
@@ -60,15 +59,6 @@ split-last b (x ∷ xs) h = by (eqb x b) h (split-last b xs)
         → cond t ([] ∷ splitOn b xs) (onFirst x (splitOn b xs)) ≡ (x ∷ xs) ∷ []
     by true h r = absurd (omega arith)
     by false h r = rw (r (omega arith))
-
--- the same, at a place a that `find` gave, with the part behind it as the code has it
-pub split-at : (b : ℕ) (s : List ℕ) (a : ℕ) → a ≡ before b s → a < length s
-    → splitOn b s ≡ take a s ∷ splitOn b (take (length s - (a + 1)) (drop (a + 1) s))
-split-at b s a e h =
-    rw (e, rest (before b s + 1) s) (split-more b s (omega arith))
-
-pub split-one : (b : ℕ) (s : List ℕ) (a : ℕ) → a ≡ before b s → length s ≤ a → splitOn b s ≡ s ∷ []
-split-one b s a e h = split-last b s (omega arith)
 
 -- there is always a first piece
 pub split-some : (b : ℕ) (s : List ℕ) → (f : List ℕ) × (fs : List (List ℕ)) × (splitOn b s ≡ f ∷ fs)

@@ -2,51 +2,29 @@
 -- Assumes nothing.
 use mathlib.Core.Path.{_≡_, refl, sym, ap, _∙_}
 use mathlib.Core.List.{List, [], _∷_, _++_, append-assoc, append-nil}
-use Prim.Native.Nat.{ℕ, _≤_, _<_, _+_, _-_, _*_}
+use Prim.Native.Nat.{ℕ, _≤_, _<_, _+_, _-_}
 use native.Mathlib.Omega.{arith}
 use lib.IntN.{ℤ}
 use lib.ListN.{length, take, drop, length-append, length-drop}
 use lib.Seq.{drop-drop}
 use borrow.Rule.Slice.PartMut.{putMid}
-use Rattle.decimal.specs.Text.{integerText, room, Wrote, andThen, over}
-use Rattle.decimal.proofs.TextLaws.{value-short, over-length, room-yes, room-fits, wrote-then, wrote-start}
-use Rattle.decimal.proofs.RowLaws.{row-short}
+use Rattle.decimal.specs.Text.{wordRow, wordValue, ended, room, Wrote, andThen}
+use Rattle.decimal.proofs.TextLaws.{over-length, room-yes, room-fits, wrote-then, wrote-start, wrote-like}
+use Rattle.decimal.proofs.RowLaws.{row-line-short, value-line-short}
 use Rattle.serial.specs.Lists.{All}
-use Rattle.listing.specs.Listing.{wordRow, wordValue, ended, textOf, lineRoom, writeAll}
+use Rattle.listing.specs.Listing.{textOf, lineRoom, writeAll}
 
 -- ---- one line
-
--- the same text, and more room asked for, where it is there
-pub wrote-line : (m n : ℕ) (t u o p : List ℕ) (a : ℕ) → m ≤ n → n ≤ length o → t ≡ u → Wrote (room m t) o a p → Wrote (room n u) o a p
-wrote-line m n t u o p a h l e v =
-    let f : room m t o ≡ room n u o = sym (room-yes m t o (omega arith)) ∙ e ∙ room-yes n u o l in
-    record { count = v .count ∙ ap length f; bytes = v .bytes ∙ ap (λ (z : List ℕ). over z o) f }
-
--- what a writer of a text that fits its room leaves has the same length
-pub wrote-length : (n : ℕ) (t o p : List ℕ) (a : ℕ) → length t ≤ n → Wrote (room n t) o a p → length p ≡ length o
-wrote-length n t o p a h v = ap length (v .bytes) ∙ over-length (room n t o) o (room-fits n t o h)
-
-pub word-short : (w ns : List ℕ) → length w ≤ 16 → length (wordRow w ns) ≤ 16 + 32 * length ns
-unfolding wordRow
-word-short w ns h = simp length-append (omega (arith, row-short ns))
-
-pub end-short : (x : ℤ) → length ((32 ∷ integerText x) ++ (10 ∷ [])) ≤ 33
-end-short x = simp length-append (omega (arith, value-short x))
-
-pub value-text : (w ns : List ℕ) (x : ℤ) → wordRow w ns ++ ((32 ∷ integerText x) ++ (10 ∷ [])) ≡ ended (wordValue w ns x)
-unfolding wordValue
-value-text w ns x = sym (append-assoc (wordRow w ns) (32 ∷ integerText x) (10 ∷ []))
 
 -- a line that fits the room that is asked for it
 abbrev pub Fits : List ℕ → Type 0
 Fits l = length (ended l) ≤ lineRoom
 
 pub row-fits : (w ns : List ℕ) → length w ≤ 16 → length ns ≤ 3 → Fits (wordRow w ns)
-row-fits w ns h k = simp length-append (omega (arith, word-short w ns h))
+row-fits w ns h k = omega (arith, row-line-short w ns)
 
 pub value-fits : (w ns : List ℕ) (x : ℤ) → length w ≤ 16 → length ns ≤ 2 → Fits (wordValue w ns x)
-unfolding wordValue
-value-fits w ns x h k = simp length-append (omega (arith, word-short w ns h, value-short x))
+value-fits w ns x h k = omega (arith, value-line-short w ns x)
 
 -- ---- lines
 
@@ -71,15 +49,11 @@ all-within (l ∷ ls) f o =
 pub wrote-all : (ls ms : List (List ℕ)) (o p q : List ℕ) (a b : ℕ) → Wrote (writeAll ls) o a p → Wrote (writeAll ms) (take (length p - a) (drop a p)) b q
     → Wrote (writeAll (ls ++ ms)) o (a + b) (putMid a (length p - a) p q)
 wrote-all ls ms o p q a b v w =
-    let x = wrote-then (writeAll ls) (writeAll ms) o p q a b v w in
-    let e = all-append ls ms o in
-    record { count = x .count ∙ ap length e; bytes = x .bytes ∙ ap (λ (z : List ℕ). over z o) e }
+    wrote-like (andThen (writeAll ls) (writeAll ms)) (writeAll (ls ++ ms)) o (putMid a (length p - a) p q) (a + b) (all-append ls ms o) (wrote-then (writeAll ls) (writeAll ms) o p q a b v w)
 
 pub wrote-one : (l o p : List ℕ) (a : ℕ) → Wrote (room lineRoom (ended l)) o a p → Wrote (writeAll (l ∷ [])) o a p
 unfolding writeAll
-wrote-one l o p a v =
-    let e = sym (append-nil (room lineRoom (ended l) o)) in
-    record { count = v .count ∙ ap length e; bytes = v .bytes ∙ ap (λ (z : List ℕ). over z o) e }
+wrote-one l o p a v = wrote-like (room lineRoom (ended l)) (writeAll (l ∷ [])) o p a (sym (append-nil (room lineRoom (ended l) o))) v
 
 pub wrote-nothing : (o : List ℕ) → Wrote (writeAll []) o 0 o
 unfolding writeAll
@@ -87,9 +61,7 @@ wrote-nothing o = record { count = refl; bytes = refl }
 
 -- the same lines
 pub wrote-as : (ls ms : List (List ℕ)) (o p : List ℕ) (a : ℕ) → ls ≡ ms → Wrote (writeAll ls) o a p → Wrote (writeAll ms) o a p
-wrote-as ls ms o p a e v =
-    let f = ap (λ (z : List (List ℕ)). writeAll z o) e in
-    record { count = v .count ∙ ap length f; bytes = v .bytes ∙ ap (λ (z : List ℕ). over z o) f }
+wrote-as ls ms o p a e v = wrote-like (writeAll ls) (writeAll ms) o p a (ap (λ (z : List (List ℕ)). writeAll z o) e) v
 
 -- the next line starts in the output, whose length stays
 pub all-place : (ls : List (List ℕ)) (o p : List ℕ) (a : ℕ) → All Fits ls → Wrote (writeAll ls) o a p → a ≤ length p

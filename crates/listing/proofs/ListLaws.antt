@@ -1,26 +1,26 @@
--- Laws of the lists of lines of a state and of an order, one line more at a time.
+-- Laws of the lists of lines of memories and of an order, one line more at a time.
 -- Assumes nothing.
 use mathlib.Core.Path.{_≡_, refl, sym, ap, _∙_}
 use mathlib.Core.Bool.{Bool, true, false, cond}
 use mathlib.Core.List.{List, [], _∷_, _++_, append-assoc, append-nil, map, map-append}
-use Prim.Native.Nat.{ℕ, zero, suc, _≤_, _<_, _+_}
+use Prim.Native.Nat.{ℕ, zero, suc, _<_, _+_, _*_, _/_, _%_}
 use native.Mathlib.Numerals.{add-one}
 use native.Mathlib.Omega.{arith}
 use lib.IntN.{ℤ}
 use lib.ListN.{length, getD, take, length-append}
 use lib.Seq.{take-suc, take-all}
-use borrow.Author.Tests.{lt-ltb, le-ltb}
+use Rattle.rules.specs.declared.Cached.{Cached}
+use Rattle.rules.specs.declared.Counts.{Counts}
+use Rattle.rules.specs.declared.Main.{Main}
+use Rattle.rules.specs.declared.Memories.{Memories}
 use Rattle.rules.specs.Limits.{full, allowed}
-use Rattle.rules.specs.Memories.{Copy, below, each, memory, copies}
-use Rattle.machine.specs.declared.Cell.{Cell}
-use Rattle.machine.specs.declared.Main.{Main}
-use Rattle.machine.specs.declared.State.{State}
-use Rattle.machine.specs.State.{blank, noMain, cellAt, wordsIn}
-use Rattle.machine.specs.Parts.{cellPlace}
+use Rattle.rules.specs.Rules.{Words}
+use Rattle.rules.specs.Memories.{Copy, below, each, memory, copies, from, mainIn, cachedIn, memoriesOf}
+use Rattle.rules.proofs.Bounds.{allowed-bounds}
 use Rattle.serial.specs.Lists.{All}
 use Rattle.sections.specs.CriticalSections.{Entry}
 use Rattle.sections.specs.Entries.{entryIn}
-use Rattle.listing.specs.Listing.{acceptedLine, mainLine, copyLine, sectionLine, mainLinesFrom, mainLines, copyLines, stateLines, linesIn, sectionLines, entryLines, valuesIn, cellIn, copyIn, copiesOf, copiesIn}
+use Rattle.listing.specs.Listing.{acceptedLine, mainLine, copyLine, sectionLine, mainLinesFrom, mainLines, copyLines, stateLines, sectionLines, entryLines, noMain, noCached, mainAt, mainsIn, usableCopy, copyAt, copiesAt, cachedCopies, linesFor}
 use Rattle.listing.proofs.LineLaws.{Fits, row-fits, value-fits}
 
 -- ---- one more
@@ -44,67 +44,47 @@ mains-append v (x ∷ xs) ys =
     let e : suc v + length xs ≡ v + suc (length xs) = omega arith in
     ap (λ z. mainLine v x ∷ z) (mains-append (suc v) xs ys ∙ ap (λ (k : ℕ). mainLinesFrom (suc v) xs ++ mainLinesFrom k ys) e)
 
-values-length : (ms : List Main) (n : ℕ) → length (valuesIn ms n) ≡ n
-unfolding valuesIn
-values-length ms zero = unfold below each in refl
-values-length ms (suc n) =
-    let f : ℕ → List ℤ = λ v. getD ms v noMain .value ∷ [] in
-    ap length (each-suc f n) ∙ length-append (each f (below n)) (f n) ∙ ap (λ (k : ℕ). k + 1) (values-length ms n) ∙ add-one n
+-- what f gives, one value for each number
+abbrev pub single : (ℕ → ℤ) → ℕ → List ℤ
+single f v = f v ∷ []
 
-pub mains-none : (ms : List Main) → mainLines (valuesIn ms 0) ≡ []
-unfolding valuesIn below each mainLinesFrom
-mains-none ms = refl
+values-length : (f : ℕ → ℤ) (n : ℕ) → length (each (single f) (below n)) ≡ n
+values-length f zero = unfold below each in refl
+values-length f (suc n) =
+    ap length (each-suc (single f) n) ∙ length-append (each (single f) (below n)) (single f n) ∙ ap (λ (k : ℕ). k + 1) (values-length f n) ∙ add-one n
 
-one : (v : ℕ) (x : ℤ) → mainLine v x ∷ [] ≡ mainLinesFrom v (x ∷ [])
+one-line : (v : ℕ) (x : ℤ) → mainLine v x ∷ [] ≡ mainLinesFrom v (x ∷ [])
 unfolding mainLinesFrom
-one v x = refl
+one-line v x = refl
 
-pub mains-more : (ms : List Main) (v : ℕ) → mainLines (valuesIn ms v) ++ (mainLine v (getD ms v noMain .value) ∷ []) ≡ mainLines (valuesIn ms (v + 1))
-mains-more ms v =
-    let x = getD ms v noMain .value in
-    let e : v ≡ 0 + length (valuesIn ms v) = omega (arith, values-length ms v) in
-    let last : mainLine v x ∷ [] ≡ mainLinesFrom (0 + length (valuesIn ms v)) (x ∷ []) = ap (λ (k : ℕ). mainLine k x ∷ []) e ∙ one (0 + length (valuesIn ms v)) x in
-    ap (λ z. mainLines (valuesIn ms v) ++ z) last ∙ sym (mains-append 0 (valuesIn ms v) (x ∷ []))
-    ∙ ap mainLines (sym (unfold valuesIn in each-more (λ i. getD ms i noMain .value ∷ []) v))
+pub mains-none : (f : ℕ → ℤ) → mainLines (each (single f) (below 0)) ≡ []
+unfolding below each mainLinesFrom
+mains-none f = refl
+
+pub mains-more : (f : ℕ → ℤ) (v : ℕ) → mainLines (each (single f) (below v)) ++ (mainLine v (f v) ∷ []) ≡ mainLines (each (single f) (below (v + 1)))
+mains-more f v =
+    let xs = each (single f) (below v) in
+    let e : v ≡ 0 + length xs = omega (arith, values-length f v) in
+    let last : mainLine v (f v) ∷ [] ≡ mainLinesFrom (0 + length xs) (f v ∷ []) = ap (λ (k : ℕ). mainLine k (f v) ∷ []) e ∙ one-line (0 + length xs) (f v) in
+    ap (λ z. mainLines xs ++ z) last ∙ sym (mains-append 0 xs (f v ∷ [])) ∙ ap mainLines (sym (each-more (single f) v))
 
 -- a copy is listed where it is usable, and else not
-pub copy-there : (k t v : ℕ) (c : Cell) → k < c .source → copyLine (record { thread = t; variable = v; value = c .copy }) ∷ [] ≡ copyLines (copyIn k t v c)
-unfolding copyIn copyLines
-copy-there k t v c h = rw (lt-ltb k (c .source) h) refl
+pub copy-there : (t v : ℕ) (c : Cached) → c .usable ≡ true → copyLine (record { thread = t; variable = v; value = c .value }) ∷ [] ≡ copyLines (usableCopy t v c)
+unfolding copyLines
+copy-there t v c h = rw h refl
 
-pub copy-not : (k t v : ℕ) (c : Cell) → c .source ≤ k → [] ≡ copyLines (copyIn k t v c)
-unfolding copyIn copyLines
-copy-not k t v c h = rw (le-ltb k (c .source) h) refl
+pub copy-not : (t v : ℕ) (c : Cached) → c .usable ≡ false → [] ≡ copyLines (usableCopy t v c)
+unfolding copyLines
+copy-not t v c h = rw h refl
 
--- the cell at the place of thread t and variable v
-cell-here : (cs : List Cell) (t v i : ℕ) → t < 8 → v < 16 → i ≡ cellPlace t v → getD cs i blank ≡ cellIn cs t v
-unfolding cellIn cellPlace
-cell-here cs t v i h k e = rw (e, lt-ltb t 8 h, lt-ltb v 16 k) refl
+-- the copies of one more variable, or of one more thread
+pub copies-none : (f : ℕ → List Copy) → copyLines (each f (below 0)) ≡ []
+unfolding copyLines below each
+copies-none f = refl
 
-pub copies-none : (cs : List Cell) (k t : ℕ) → copyLines (copiesOf cs k t 0) ≡ []
-unfolding copyLines copiesOf below each
-copies-none cs k t = refl
-
-pub copies-more : (cs : List Cell) (k t v i : ℕ) → t < 8 → v < 16 → i ≡ cellPlace t v
-    → copyLines (copiesOf cs k t v) ++ copyLines (copyIn k t v (getD cs i blank)) ≡ copyLines (copiesOf cs k t (v + 1))
-copies-more cs k t v i h j e = ap (λ (c : Cell). copyLines (copiesOf cs k t v) ++ copyLines (copyIn k t v c)) (cell-here cs t v i h j e) ∙ more
-  where
-    f : ℕ → List Copy
-    f i = copyIn k t i (cellIn cs t i)
-
-    more : copyLines (copiesOf cs k t v) ++ copyLines (f v) ≡ copyLines (copiesOf cs k t (v + 1))
-    more = unfold copiesOf copyLines in sym (map-append copyLine (each f (below v)) (f v)) ∙ ap (map copyLine) (sym (each-more f v))
-
-pub threads-none : (cs : List Cell) (ks : List ℕ) (n : ℕ) → copyLines (copiesIn cs ks n 0) ≡ []
-unfolding copyLines copiesIn below each
-threads-none cs ks n = refl
-
-pub threads-more : (cs : List Cell) (ks : List ℕ) (n t : ℕ)
-    → copyLines (copiesIn cs ks n t) ++ copyLines (copiesOf cs (getD ks t 0) t n) ≡ copyLines (copiesIn cs ks n (t + 1))
-unfolding copyLines copiesIn
-threads-more cs ks n t =
-    let f : ℕ → List Copy = λ i. copiesOf cs (getD ks i 0) i n in
-    sym (map-append copyLine (each f (below t)) (f t)) ∙ ap copyLines (sym (each-more f t))
+pub copies-more : (f : ℕ → List Copy) (i : ℕ) → copyLines (each f (below i)) ++ copyLines (f i) ≡ copyLines (each f (below (i + 1)))
+unfolding copyLines
+copies-more f i = sym (map-append copyLine (each f (below i)) (f i)) ∙ ap (map copyLine) (sym (each-more f i))
 
 pub entries-more : (ws : List ℕ) (i : ℕ) → i < length ws → entryLines (take i ws) ++ (sectionLine (entryIn (getD ws i 0)) ∷ []) ≡ entryLines (take (i + 1) ws)
 unfolding sectionLines
@@ -120,25 +100,66 @@ pub entries-none : (ws : List ℕ) → entryLines (take 0 ws) ≡ []
 unfolding sectionLines
 entries-none ws = refl
 
--- ---- the parts of a state
+-- ---- the parts of the lines of memories
 
--- the lines of a state as they are written: the events, with main memory, and with the copies
-abbrev pub firstLines : State → List (List ℕ)
-firstLines s = acceptedLine (s .events) ∷ []
+-- the lines as they are written: the events, with main memory, and with the copies
+abbrev pub firstLines : ℕ → List (List ℕ)
+firstLines n = acceptedLine n ∷ []
 
-abbrev pub headLines : State → List (List ℕ)
-headLines s = firstLines s ++ mainLines (valuesIn (s .memory) (s .counts .variables))
+abbrev pub headLines : ℕ → Counts → Memories → List (List ℕ)
+headLines n h m = firstLines n ++ mainLines (each (mainAt (m .main)) (below (h .variables)))
 
-abbrev pub allLines : State → List (List ℕ)
-allLines s = headLines s ++ copyLines (copiesIn (s .cells) (s .locked) (s .counts .variables) (s .counts .threads))
+abbrev pub allLines : ℕ → Counts → Memories → List (List ℕ)
+allLines n h m = headLines n h m ++ copyLines (each (copiesAt (m .copies) (h .variables)) (below (h .threads)))
 
-pub state-lines : (s : State) → allowed full (s .counts) ≡ true → allLines s ≡ linesIn s
-unfolding linesIn stateLines memory copies wordsIn cellAt valuesIn copiesIn copiesOf copyIn cellIn
-state-lines s a = rw a refl
+pub all-lines : (n : ℕ) (h : Counts) (m : Memories) → allowed full h ≡ true → allLines n h m ≡ linesFor n h m
+unfolding linesFor stateLines mainsIn cachedCopies
+all-lines n h m a = rw a refl
 
-pub no-lines : (s : State) → allowed full (s .counts) ≡ false → [] ≡ linesIn s
-unfolding linesIn
-no-lines s a = rw a refl
+pub no-lines : (n : ℕ) (h : Counts) (m : Memories) → allowed full h ≡ false → [] ≡ linesFor n h m
+unfolding linesFor
+no-lines n h m a = rw a refl
+
+-- ---- memories that are those of words
+
+each-same : {A : Type 0} (f g : ℕ → List A) (n : ℕ) → ((i : ℕ) → i < n → f i ≡ g i) → each f (below n) ≡ each g (below n)
+each-same f g zero e = unfold below each in refl
+each-same f g (suc n) e =
+    each-suc f n ∙ ap (λ z. z ++ f n) (each-same f g n (λ i k. e i (omega arith))) ∙ ap (λ z. each g (below n) ++ z) (e n (omega arith)) ∙ sym (each-suc g n)
+
+-- what stands at a place of a row
+from-at : {X : Type 0} (f : ℕ → X) (i n k : ℕ) (d : X) → k < n → getD (from f i n) k d ≡ f (i + k)
+unfolding from
+from-at f i zero k d h = absurd (omega arith)
+from-at f i (suc n) zero d h = ap f (omega arith)
+from-at f i (suc n) (suc k) d h = from-at f (suc i) n k d (omega arith) ∙ ap f (omega arith)
+
+row-at : {X : Type 0} (f : ℕ → X) (n k : ℕ) (d : X) → k < n → getD (from f 0 n) k d ≡ f k
+row-at f n k d h = from-at f 0 n k d h ∙ ap f (omega arith)
+
+module _ (h : Counts) (w : Words) (a : allowed full h ≡ true) where
+  mains-are : mainsIn (memoriesOf w) h ≡ memory h w
+  unfolding mainsIn memoriesOf memory
+  mains-are = each-same (mainAt (from (mainIn w) 0 16)) (λ v. w .main v ∷ []) (h .variables)
+      (λ v k. ap (λ (m : Main). m .value ∷ []) (row-at (mainIn w) 16 v noMain (omega (arith, allowed-bounds h a))))
+
+  -- the copy of thread t and variable v
+  copy-is : (t v : ℕ) → t < 8 → v < 16 → copyAt (from (cachedIn w) 0 128) t v ≡ cond (w .usable t v) (record { thread = t; variable = v; value = w .copy t v } ∷ []) []
+  copy-is t v i j =
+      let at : getD (from (cachedIn w) 0 128) (16 * t + v) noCached ≡ cachedIn w (16 * t + v) = row-at (cachedIn w) 128 (16 * t + v) noCached (omega arith) in
+      let p : (16 * t + v) / 16 ≡ t = omega arith in
+      let q : (16 * t + v) % 16 ≡ v = omega arith in
+      ap (usableCopy t v) at ∙ ap (λ (u : ℕ). usableCopy t v (record { value = w .copy u ((16 * t + v) % 16); usable = w .usable u ((16 * t + v) % 16) })) p
+      ∙ ap (λ (u : ℕ). usableCopy t v (record { value = w .copy t u; usable = w .usable t u })) q
+
+  copies-are : cachedCopies (memoriesOf w) h ≡ copies h w
+  unfolding cachedCopies memoriesOf copies
+  copies-are = each-same _ _ (h .threads) (λ t i. each-same _ _ (h .variables) (λ v j. copy-is t v (omega (arith, allowed-bounds h a)) (omega (arith, allowed-bounds h a))))
+
+-- the lines of the memories of words are those of the words
+pub lines-are : (n : ℕ) (h : Counts) (w : Words) → allowed full h ≡ true → linesFor n h (memoriesOf w) ≡ stateLines n (memory h w) (copies h w)
+unfolding linesFor
+lines-are n h w a = rw a (ap (λ xs. stateLines n xs (cachedCopies (memoriesOf w) h)) (mains-are h w a) ∙ ap (stateLines n (memory h w)) (copies-are h w a))
 
 -- ---- every line fits its room
 
@@ -165,19 +186,19 @@ pub fit-state : (n : ℕ) (xs : List ℤ) (cs : List Copy) → All Fits (stateLi
 unfolding stateLines
 fit-state n xs cs = (row-fits _ (n ∷ []) (omega arith) (omega arith), both Fits (mainLines xs) (copyLines cs) (fit-mains 0 xs) (fit-copies cs))
 
-pub fit-lines : (s : State) → All Fits (linesIn s)
-unfolding linesIn
-fit-lines s = by (allowed full (s .counts))
+pub fit-lines : (n : ℕ) (h : Counts) (m : Memories) → All Fits (linesFor n h m)
+unfolding linesFor
+fit-lines n h m = by (allowed full h)
   where
-    by : (b : Bool) → All Fits (cond b (stateLines (s .events) (memory (s .counts) (wordsIn s)) (copies (s .counts) (wordsIn s))) [])
+    by : (b : Bool) → All Fits (cond b (stateLines n (mainsIn m h) (cachedCopies m h)) [])
     by true = fit-state _ _ _
     by false = tt
 
-pub fit-first : (s : State) → All Fits (firstLines s)
-fit-first s = (row-fits _ (s .events ∷ []) (omega arith) (omega arith), tt)
+pub fit-first : (n : ℕ) → All Fits (firstLines n)
+fit-first n = (row-fits _ (n ∷ []) (omega arith) (omega arith), tt)
 
-pub fit-head : (s : State) → All Fits (headLines s)
-fit-head s = both Fits (firstLines s) (mainLines (valuesIn (s .memory) (s .counts .variables))) (fit-first s) (fit-mains 0 _)
+pub fit-head : (n : ℕ) (h : Counts) (m : Memories) → All Fits (headLines n h m)
+fit-head n h m = both Fits (firstLines n) (mainLines (each (mainAt (m .main)) (below (h .variables)))) (fit-first n) (fit-mains 0 _)
 
-pub fit-all : (s : State) → All Fits (allLines s)
-fit-all s = both Fits (headLines s) (copyLines (copiesIn (s .cells) (s .locked) (s .counts .variables) (s .counts .threads))) (fit-head s) (fit-copies _)
+pub fit-all : (n : ℕ) (h : Counts) (m : Memories) → All Fits (allLines n h m)
+fit-all n h m = both Fits (headLines n h m) (copyLines (each (copiesAt (m .copies) (h .variables)) (below (h .threads)))) (fit-head n h m) (fit-copies _)

@@ -2,7 +2,7 @@
 -- Assumes nothing.
 use mathlib.Core.Path.{_≡_, refl, sym, ap, _∙_}
 use mathlib.Core.Bool.{Bool, true, false, cond}
-use mathlib.Core.List.{List, [], _∷_, _++_, append-assoc, map}
+use mathlib.Core.List.{List, [], _∷_, _++_, append-assoc, append-nil}
 use mathlib.Core.Logic.{⊎-elim}
 use Prim.Native.Nat.{ℕ, zero, suc, _≤_, _<_, _+_, _*_, _/_, _^_}
 use native.Mathlib.Nat.{pow-suc, mul-suc}
@@ -13,21 +13,19 @@ use Rattle.rules.specs.declared.Counts.{Counts}
 use Rattle.rules.specs.Limits.{full, allowed}
 use Rattle.rules.specs.Rules.{Words}
 use Rattle.rules.specs.Memories.{Copy, below, each, memory, copies}
-use Rattle.machine.specs.declared.State.{State}
-use Rattle.machine.specs.State.{wordsIn}
-use Rattle.machine.proofs.Joined.{up-to-full}
-use Rattle.machine.proofs.Kept.{room}
+use Rattle.rules.proofs.Bounds.{allowed-bounds}
 use Rattle.lines.proofs.PartLaws.{lt-or-le}
-use Rattle.decimal.specs.Text.{naturalText, rowText, Wrote, over}
+use Rattle.decimal.specs.Text.{naturalText, rowText, wordRow, wordValue, ended, Wrote, over}
 use Rattle.decimal.proofs.TextLaws.{text-small, text-length-large, value-short}
+use Rattle.decimal.proofs.RowLaws.{row-line-short}
 use Rattle.serial.specs.Lists.{All}
 use Rattle.sections.specs.CriticalSections.{Entry}
-use Rattle.sections.specs.Entries.{entryIn}
-use Rattle.listing.specs.Listing.{wordRow, wordValue, acceptedLine, mainLine, copyLine, sectionLine, refusedLine, unorderedLine, ended, textOf, writeAll, mainLinesFrom, mainLines, copyLines, stateLines, linesIn, sectionLines}
+use Rattle.sections.proofs.Entries.{Small}
+use Rattle.listing.specs.Listing.{acceptedLine, mainLine, copyLine, sectionLine, refusedLine, unorderedLine, textOf, writeAll, mainLinesFrom, mainLines, copyLines, stateLines, sectionLines}
 use Rattle.listing.proofs.LineLaws.{all-text}
 use Rattle.listing.proofs.ListLaws.{each-suc, both}
 
--- ---- the length of a line
+-- ---- the length of a line; a value of any width up to 64 bits has at most 21 bytes, a minus and 20 digits (`value-short`)
 
 -- a number below 10 to the k has at most k digits
 digits-most : (k n : ℕ) → n < 10 ^ suc k → n < 2 ^ 64 → length (naturalText n) ≤ suc k
@@ -63,17 +61,9 @@ section-most : (e : Entry) → e .thread < 10 → e .first < 10000 → e .last <
 unfolding wordRow rowText
 section-most e h k l = simp length-append (omega (arith, one-digit (e .thread) h, four-digits (e .first) k, four-digits (e .last) l))
 
-refused-most : (l n : ℕ) → l < 10000 → n < 100 → length (ended (refusedLine l n)) ≤ 16
-unfolding wordRow rowText
-refused-most l n h k = simp length-append (omega (arith, four-digits l h, two-digits n k))
-
-unordered-most : (l n : ℕ) → l < 10000 → n < 100 → length (ended (unorderedLine l n)) ≤ 18
-unfolding wordRow rowText
-unordered-most l n h k = simp length-append (omega (arith, four-digits l h, two-digits n k))
-
 -- ---- the length of a text
 
-pub text-append : (ls ms : List (List ℕ)) → textOf (ls ++ ms) ≡ textOf ls ++ textOf ms
+text-append : (ls ms : List (List ℕ)) → textOf (ls ++ ms) ≡ textOf ls ++ textOf ms
 unfolding textOf
 text-append [] ms = refl
 text-append (l ∷ ls) ms = ap (λ (t : List ℕ). ended l ++ t) (text-append ls ms) ∙ sym (append-assoc (ended l) (textOf ls) (textOf ms))
@@ -115,10 +105,10 @@ Known c = (c .thread < 8) × (c .variable < 16)
 
 module _ (h : Counts) (w : Words) (a : allowed full h ≡ true) where
   threads : h .threads ≤ 8
-  threads = room full h up-to-full a .threads
+  threads = allowed-bounds h a .0
 
   variables : h .variables ≤ 16
-  variables = room full h up-to-full a .variables
+  variables = allowed-bounds h a .1
 
   memory-most : length (memory h w) ≤ 16
   unfolding memory
@@ -159,10 +149,10 @@ copy-lines-count : (cs : List Copy) → length (copyLines cs) ≡ length cs
 unfolding copyLines
 copy-lines-count cs = length-map cs copyLine
 
--- the lines of a state: one of 14 bytes, 16 of 30 and 128 of 32
-pub state-text : (h : Counts) (w : Words) (n : ℕ) → allowed full h ≡ true → n ≤ 2000 → length (textOf (stateLines n (memory h w) (copies h w))) ≤ 4590
+-- the lines of the memories: one of 14 bytes, 16 of 30 and 128 of 32
+state-text : (n : ℕ) (h : Counts) (w : Words) → n ≤ full .events → allowed full h ≡ true → length (textOf (stateLines n (memory h w) (copies h w))) ≤ 4590
 unfolding stateLines textOf
-state-text h w n a l =
+state-text n h w l a =
     let ms = mainLines (memory h w) in
     let cs = copyLines (copies h w) in
     omega (
@@ -180,51 +170,58 @@ state-text h w n a l =
 
 -- ---- what comes behind them: at most 20,000 bytes
 
--- an entry of a trace: a declared thread, and lines of at most four digits
-pub record Small (e : Entry) : Type 0 where
-  pub thread : e .thread < 8
-  pub first : e .first < 10000
-  pub last : e .last < 10000
-
 sections-most : (es : List Entry) → All Small es → All (λ l. length (ended l) ≤ 20) (sectionLines es)
 unfolding sectionLines
 sections-most [] f = tt
-sections-most (e ∷ es) f = (section-most e (omega (arith, f .0 .thread)) (f .0 .first) (f .0 .last), sections-most es (f .1))
+sections-most (e ∷ es) f = (section-most e (omega (arith, f .0 .thread)) (omega (arith, f .0 .first)) (omega (arith, f .0 .last)), sections-most es (f .1))
 
 sections-count : (es : List Entry) → length (sectionLines es) ≡ length es
 unfolding sectionLines
 sections-count es = length-map es sectionLine
 
-pub sections-text : (es : List Entry) → All Small es → length es ≤ 1000 → length (textOf (sectionLines es)) ≤ 20000
-sections-text es f h = omega (arith, text-most 20 (sectionLines es) (sections-most es f), sections-count es)
-
-pub unordered-text : (l n : ℕ) → l < 10000 → n < 100 → length (textOf (unorderedLine l n ∷ [])) ≤ 20000
+-- a word of at most 16 bytes and two numbers
+row-text : (w : List ℕ) (l n : ℕ) → length w ≤ 16 → length (textOf (wordRow w (l ∷ n ∷ []) ∷ [])) ≤ 81
 unfolding textOf
-unordered-text l n h k = omega (arith, unordered-most l n h k, length-append (ended (unorderedLine l n)) [])
+row-text w l n h = rw (append-nil (ended (wordRow w (l ∷ n ∷ [])))) (omega (arith, row-line-short w (l ∷ n ∷ [])))
 
-pub none-text : length (textOf []) ≤ 20000
-unfolding textOf
-none-text = omega arith
+-- the sections of an order, one line `unordered`, or nothing
+pub data Behind : List (List ℕ) → Type 0 where
+  sections : (es : List Entry) → length es ≤ full .entries → All Small es → Behind (sectionLines es)
+  unordered : (line number : ℕ) → Behind (unorderedLine line number ∷ [])
+  nothing : Behind []
+
+behind-text : (ls : List (List ℕ)) → Behind ls → length (textOf ls) ≤ 20000
+behind-text ls (sections es h f) = omega (arith, text-most 20 (sectionLines es) (sections-most es f), sections-count es)
+behind-text ls (unordered l n) = let t : length (textOf (unorderedLine l n ∷ [])) ≤ 81 = row-text _ l n (omega arith) in omega arith
+behind-text ls nothing = unfold textOf in omega arith
 
 -- ---- 32,768 bytes are enough
 
 -- the lines never need more, and all of them are written where there is so much
 pub record Enough (ls : List (List ℕ)) : Type 0 where
-  pub size : length (textOf ls) ≤ 32768
-  pub whole : (o : List ℕ) → 32768 ≤ length o → writeAll ls o ≡ textOf ls
+  pub size : length (textOf ls) ≤ full .output
+  pub whole : (o : List ℕ) → full .output ≤ length o → writeAll ls o ≡ textOf ls
 
 enough : (ls : List (List ℕ)) → length (textOf ls) ≤ 24590 → Enough ls
 enough ls h = record { size = omega arith; whole = λ o k. all-text ls o (omega arith) }
 
--- the listing of an accepted trace: the lines of its state, and then sections, one line `unordered`, or none
-pub room-enough : (h : Counts) (w : Words) (n : ℕ) → allowed full h ≡ true → n ≤ 2000 → (ends : List (List ℕ)) → length (textOf ends) ≤ 20000
+-- the listing of an accepted trace: the lines of its memories, and what comes behind them
+pub room-enough : (n : ℕ) (h : Counts) (w : Words) → n ≤ full .events → allowed full h ≡ true → (ends : List (List ℕ)) → Behind ends
     → Enough (stateLines n (memory h w) (copies h w) ++ ends)
-room-enough h w n a l ends k =
+room-enough n h w l a ends b =
     let ls = stateLines n (memory h w) (copies h w) in
-    enough (ls ++ ends) (omega (arith, text-both ls ends, state-text h w n a l))
+    enough (ls ++ ends) (omega (arith, text-both ls ends, state-text n h w l a, behind-text ends b))
+
+-- the same where no order is wanted
+pub room-brief : (n : ℕ) (h : Counts) (w : Words) → n ≤ full .events → allowed full h ≡ true → Enough (stateLines n (memory h w) (copies h w))
+room-brief n h w l a = enough (stateLines n (memory h w) (copies h w)) (omega (arith, state-text n h w l a))
+
+-- the one line of a refused trace
+pub room-refused : (line number : ℕ) → Enough (refusedLine line number ∷ [])
+room-refused l n = let t : length (textOf (refusedLine l n ∷ [])) ≤ 81 = row-text _ l n (omega arith) in enough (refusedLine l n ∷ []) (omega arith)
 
 -- the writer's contract then says that the whole text lies at the front of the output
-pub wrote-whole : (ls : List (List ℕ)) (o p : List ℕ) (a : ℕ) → Enough ls → 32768 ≤ length o → Wrote (writeAll ls) o a p → (a ≡ length (textOf ls)) × (p ≡ over (textOf ls) o)
+pub wrote-whole : (ls : List (List ℕ)) (o p : List ℕ) (a : ℕ) → Enough ls → full .output ≤ length o → Wrote (writeAll ls) o a p → (a ≡ length (textOf ls)) × (p ≡ over (textOf ls) o)
 wrote-whole ls o p a e h v =
     let f = e .whole o h in
     (v .count ∙ ap length f, v .bytes ∙ ap (λ (t : List ℕ). over t o) f)

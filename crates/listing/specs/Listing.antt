@@ -1,29 +1,20 @@
 -- Document 01, "One paper whole": the lines that are printed for a trace.
 use Prim.Native.Nat.{ℕ, suc, _+_, _*_}
-use mathlib.Core.Bool.{cond, _&&_}
+use mathlib.Core.Bool.{false, cond}
 use mathlib.Core.List.{List, [], _∷_, _++_, map}
-use lib.Dec.{ltb}
-use lib.IntN.{ℤ}
+use lib.IntN.{ℤ, pos}
 use lib.ListN.{getD}
+use Rattle.rules.specs.declared.Cached.{Cached}
+use Rattle.rules.specs.declared.Counts.{Counts}
+use Rattle.rules.specs.declared.Main.{Main}
+use Rattle.rules.specs.declared.Memories.{Memories}
 use Rattle.rules.specs.Limits.{full, allowed}
-use Rattle.rules.specs.Memories.{Copy, below, each, memory, copies}
-use Rattle.machine.specs.declared.Cell.{Cell}
-use Rattle.machine.specs.declared.Main.{Main}
-use Rattle.machine.specs.declared.State.{State}
-use Rattle.machine.specs.State.{blank, noMain, wordsIn}
-use Rattle.decimal.specs.Text.{integerText, rowText, room, andThen}
+use Rattle.rules.specs.Memories.{Copy, below, each}
+use Rattle.decimal.specs.Text.{wordRow, wordValue, ended, room, andThen}
 use Rattle.sections.specs.CriticalSections.{Entry}
 use Rattle.sections.specs.Entries.{entryIn}
 
 -- ---- lines, without their end
-
--- a word, and a space and a number for each of the list
-unfoldable pub wordRow : List ℕ → List ℕ → List ℕ
-wordRow w ns = w ++ rowText ns
-
--- a word, a row of numbers and a value
-unfoldable pub wordValue : List ℕ → List ℕ → ℤ → List ℕ
-wordValue w ns x = wordRow w ns ++ (32 ∷ integerText x)
 
 -- `accepted n`: events
 abbrev pub acceptedLine : ℕ → List ℕ
@@ -52,9 +43,6 @@ unorderedLine l n = wordRow (117 ∷ 110 ∷ 111 ∷ 114 ∷ 100 ∷ 101 ∷ 114
 -- ---- texts
 
 -- each line ended by byte 10
-abbrev pub ended : List ℕ → List ℕ
-ended l = l ++ (10 ∷ [])
-
 unfoldable pub textOf : List (List ℕ) → List ℕ
 textOf [] = []
 textOf (l ∷ ls) = ended l ++ textOf ls
@@ -85,10 +73,6 @@ copyLines cs = map copyLine cs
 unfoldable pub stateLines : ℕ → List ℤ → List Copy → List (List ℕ)
 stateLines n xs cs = acceptedLine n ∷ (mainLines xs ++ copyLines cs)
 
--- the lines of a state; none where no head may declare its counts
-unfoldable pub linesIn : State → List (List ℕ)
-linesIn s = cond (allowed full (s .counts)) (stateLines (s .events) (memory (s .counts) (wordsIn s)) (copies (s .counts) (wordsIn s))) []
-
 -- thread, first and last line of each section
 unfoldable pub sectionLines : List Entry → List (List ℕ)
 sectionLines es = map sectionLine es
@@ -97,24 +81,39 @@ sectionLines es = map sectionLine es
 abbrev pub entryLines : List ℕ → List (List ℕ)
 entryLines ws = sectionLines (map entryIn ws)
 
--- ---- parts of a state
+-- ---- the lines of memories that are handed on
 
--- the values of the first n variables
-unfoldable pub valuesIn : List Main → ℕ → List ℤ
-valuesIn ms n = each (λ v. getD ms v noMain .value ∷ []) (below n)
+-- past the last place
+abbrev pub noMain : Main
+noMain = record { value = pos 0 }
 
--- the cell of thread t and variable v
-unfoldable pub cellIn : List Cell → ℕ → ℕ → Cell
-cellIn cs t v = cond (ltb t 8 && ltb v 16) (getD cs (16 * t + v) blank) blank
+abbrev pub noCached : Cached
+noCached = record { value = pos 0; usable = false }
 
--- the copy in a cell, where it is usable: its source came after its thread's last lock, k
-unfoldable pub copyIn : ℕ → ℕ → ℕ → Cell → List Copy
-copyIn k t v c = cond (ltb k (c .source)) (record { thread = t; variable = v; value = c .copy } ∷ []) []
+-- variable v and its value
+abbrev pub mainAt : List Main → ℕ → List ℤ
+mainAt ms v = getD ms v noMain .value ∷ []
+
+-- each declared variable, rising, and its value in main memory
+unfoldable pub mainsIn : Memories → Counts → List ℤ
+mainsIn m h = each (mainAt (m .main)) (below (h .variables))
+
+-- a copy of thread t and variable v, where it is usable
+abbrev pub usableCopy : ℕ → ℕ → Cached → List Copy
+usableCopy t v c = cond (c .usable) (record { thread = t; variable = v; value = c .value } ∷ []) []
+
+-- the copy of thread t and variable v stands at 16 * t + v
+abbrev pub copyAt : List Cached → ℕ → ℕ → List Copy
+copyAt cs t v = usableCopy t v (getD cs (16 * t + v) noCached)
 
 -- the usable copies of thread t, of the first n variables
-unfoldable pub copiesOf : List Cell → ℕ → ℕ → ℕ → List Copy
-copiesOf cs k t n = each (λ v. copyIn k t v (cellIn cs t v)) (below n)
+abbrev pub copiesAt : List Cached → ℕ → ℕ → List Copy
+copiesAt cs n t = each (copyAt cs t) (below n)
 
--- those of the first m threads, whose last locks are ks
-unfoldable pub copiesIn : List Cell → List ℕ → ℕ → ℕ → List Copy
-copiesIn cs ks n m = each (λ t. copiesOf cs (getD ks t 0) t n) (below m)
+-- thread, variable and value of each usable copy, by thread then variable
+unfoldable pub cachedCopies : Memories → Counts → List Copy
+cachedCopies m h = each (copiesAt (m .copies) (h .variables)) (below (h .threads))
+
+-- the lines after n events; none where no head may declare the counts
+unfoldable pub linesFor : ℕ → Counts → Memories → List (List ℕ)
+linesFor n h m = cond (allowed full h) (stateLines n (mainsIn m h) (cachedCopies m h)) []

@@ -1,10 +1,5 @@
-pub mod CellTable
-pub mod Joined
-pub mod Kept
-pub mod LeafLaws
-pub mod RangeLaws
-pub mod Rings
 pub mod Steps
-pub mod StepWords
-pub mod Whole
-pub mod Sides
+pub mod Tallies
+pub mod Running
+pub mod Copies
+pub mod RowMarks

@@ -1,6 +1,5 @@
-pub mod State
-pub mod Range
-pub mod Step
 pub mod Stepped
 pub mod Follows
-pub mod Parts
+pub mod Rows
+-- what is only computed
+pub mod Computed

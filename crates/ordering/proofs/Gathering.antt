@@ -1,15 +1,13 @@
 -- The numbers of a part that are not 0, written to the front of a list.
-use Prim.Native.Nat.{ℕ, zero, suc, _+_, _*_, _-_, _≤_, _<_}
+use Prim.Native.Nat.{ℕ, suc, _+_, _≤_, _<_}
 use native.Mathlib.Omega.{arith}
 use native.Mathlib.Numerals.{add-one}
-use mathlib.Core.Path.{_≡_, refl, sym, ap, ap₂, _∙_, subst}
-use mathlib.Core.Bool.{Bool, true, false, cond}
+use mathlib.Core.Path.{_≡_, refl, sym, ap, ap₂, _∙_}
 use mathlib.Core.List.{List, [], _∷_, _++_, append-assoc, append-nil}
-use lib.Dec.{eqb}
-use lib.ListN.{length, getD, set, take, drop, length-append, length-drop, take-append-drop}
+use lib.ListN.{length, getD, set, take, drop, length-append, take-append-drop}
 use lib.Seq.{take-suc, set-split, take-append-seam, drop-append-add, drop-drop, take-length}
 use borrow.Author.Tests.{eq-eqb, ne-eqb}
-use Rattle.ordering.specs.Parts.{unlessZero, nonzero, Put}
+use Rattle.ordering.specs.Computed.Parts.{unlessZero, nonzero, Put}
 
 pub put-none : (list : List ℕ) (c x : ℕ) → x ≡ 0 → Put (unlessZero x) list c c list
 unfolding unlessZero

@@ -1,11 +1,11 @@
 pub mod Loops
 pub mod Gathering
-pub mod Rows
 pub mod Scanned
+pub mod Rows
 pub mod Denying
 pub mod Buckets
 pub mod Filling
 pub mod Listing
 pub mod Answering
-pub mod Traces
 pub mod Serial
+pub mod Traces

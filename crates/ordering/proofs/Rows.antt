@@ -1,102 +1,145 @@
--- The events of a row: those before an index, and those from it on.
-use Prim.Native.Nat.{ℕ, zero, suc, _+_, _*_, _-_, _≤_, _<_}
+-- The events of two rows that fit: those before an index, those from it on, and what is known of each.
+use Prim.Native.Nat.{ℕ, zero, suc, _+_, _-_, _≤_, _<_}
+use native.Mathlib.Decide.{ℕ-discrete}
 use native.Mathlib.Omega.{arith}
-use native.Mathlib.Numerals.{add-one}
-use mathlib.Core.Path.{_≡_, refl, sym, ap, ap₂, _∙_, subst}
-use mathlib.Core.Bool.{Bool, true, false, not, cond, _&&_, _||_, true≢false, false≢true}
-use mathlib.Core.List.{List, [], _∷_, reverse, reverseAux}
-use lib.Dec.{T, eqb, ltb}
-use lib.ListN.{length, getD, drop, drop-of-length-le}
-use lib.Seq.{drop-cons}
+use mathlib.Core.Path.{_≡_, refl, sym, ap, _∙_, subst}
+use mathlib.Core.Bool.{true}
+use mathlib.Core.List.{List, [], _∷_, map, reverse, reverseAux, reverse-reverse}
+use mathlib.Core.Option.{some}
+use lib.Dec.{T}
+use lib.IntN.{ℤ, pos}
+use lib.ListN.{length, getD, length-reverse}
 use Rattle.rules.specs.declared.Event.{Event}
 use Rattle.rules.specs.declared.Counts.{Counts}
-use Rattle.rules.specs.Limits.{lineAfter, declared}
+use Rattle.rules.specs.Limits.{full, lineAfter, allowed, declared}
+use Rattle.rules.specs.Rules.{legal, accepted, markRead}
+use Rattle.rules.proofs.Bounds.{declared-bounds}
+use Rattle.rules.proofs.Laws.{few, legal-known, legal-before}
+use Rattle.rules.proofs.Marking.{mark-accepts}
+use Rattle.state.proofs.Kept.{up-to-full}
+use Rattle.records.specs.Records.{packed, valueIn, letterIn, threadIn, placeIn, rowLines, eventAt, rowEvents}
+use Rattle.rules.specs.Memories.{from}
+use Rattle.records.proofs.RecordLaws as Rec
+use Rattle.records.proofs.RowLaws.{Numbered, Small, row-lines, row-back, lines-events, lines-lettered}
+use Rattle.rules.proofs.From.{from-step, from-end, length-from}
+use Rattle.records.proofs.MarkedRows.{lines-named, row-accepted}
 use Rattle.serial.specs.Lists.{All}
+use Rattle.sections.specs.Demand3.{AcceptedTrace}
 use Rattle.sections.proofs.Valid.{Declared, to-declared}
-use Rattle.records.specs.Records.{unpacked, unpackedFrom, rowEvents}
-use Rattle.ordering.specs.Answer.{allDeclared}
-use Rattle.ordering.specs.Parts.{past}
+use Rattle.sections.proofs.Ordered.{All-turn}
+use Rattle.sections.proofs.Demand3.{valid}
+use Rattle.ordering.specs.Computed.Parts.{Fits, past}
+use Rattle.ordering.proofs.Scanned.{Reads, reads}
 
-pub and-l : (a b : Bool) → (a && b) ≡ true → a ≡ true
-and-l true b q = refl
-and-l false b q = q
+-- ---- the events before an index
 
-pub and-r : (a b : Bool) → (a && b) ≡ true → b ≡ true
-and-r true b q = q
-and-r false b q = absurd (false≢true q)
-
-module _ (row : List ℕ) where
-  -- the event at index i
-  abbrev pub at : ℕ → Event
-  at i = unpacked (lineAfter i) (getD row i 0)
-
-  -- the events from index i on
-  unfoldable pub rest : ℕ → List Event
-  rest i = unpackedFrom (lineAfter i) (drop i row)
-
-  pub rest-start : rest 0 ≡ rowEvents row
-  unfolding rest rowEvents
-  rest-start = refl
-
-  pub rest-split : (i : ℕ) → i < length row → rest i ≡ at i ∷ rest (suc i)
-  unfolding rest unpackedFrom
-  rest-split i h =
-      let e : suc (lineAfter i) ≡ lineAfter (suc i) = omega arith in
-      ap (unpackedFrom (lineAfter i)) (drop-cons row i 0 h) ∙ ap (λ n. at i ∷ unpackedFrom n (drop (suc i) row)) e
-
-  pub rest-end : (i : ℕ) → length row ≤ i → rest i ≡ []
-  unfolding rest unpackedFrom
-  rest-end i h = ap (unpackedFrom (lineAfter i)) (drop-of-length-le row h)
-
-  pub past-length : (i : ℕ) → length (past row i) ≡ i
+module _ (ev : ℕ → Event) where
+  pub past-length : (i : ℕ) → length (past ev i) ≡ i
   unfolding past
   past-length zero = refl
   past-length (suc i) = ap suc (past-length i)
 
-  turned : (i : ℕ) → i ≤ length row → reverseAux (rest i) (past row i) ≡ reverse (rowEvents row)
-  unfolding past
-  turned zero h = ap reverse rest-start
-  turned (suc i) h = sym (ap (λ l. reverseAux l (past row i)) (rest-split i h)) ∙ turned i (omega arith)
-
-  pub past-all : past row (length row) ≡ reverse (rowEvents row)
-  past-all = sym (ap (λ l. reverseAux l (past row (length row))) (rest-end (length row) (omega arith))) ∙ turned (length row) (omega arith)
-
-  module _ (h : Counts) (k : allDeclared h (rowEvents row) ≡ true) where
-    known-rest : (i : ℕ) → i ≤ length row → allDeclared h (rest i) ≡ true
-    unfolding allDeclared
-    known-rest zero b = ap (allDeclared h) rest-start ∙ k
-    known-rest (suc i) b = and-r (declared h (at i)) (allDeclared h (rest (suc i))) (sym (ap (allDeclared h) (rest-split i b)) ∙ known-rest i (omega arith))
-
-    pub known-at : (i : ℕ) → i < length row → Declared h (at i)
-    unfolding allDeclared
-    known-at i b = to-declared h (at i) (and-l (declared h (at i)) (allDeclared h (rest (suc i))) (sym (ap (allDeclared h) (rest-split i b)) ∙ known-rest i (omega arith)))
-
-    pub known-past : (i : ℕ) → i ≤ length row → All (Declared h) (past row i)
+  module _ (n : ℕ) where
+    turned : (i : ℕ) → i ≤ n → reverseAux (from ev i (n - i)) (past ev i) ≡ reverse (from ev 0 n)
     unfolding past
-    known-past zero b = tt
-    known-past (suc i) b = (known-at i b, known-past i (omega arith))
+    turned zero h = ap (λ (k : ℕ). reverse (from ev 0 k)) {x = n - 0} {y = n} (omega arith)
+    turned (suc i) h = sym (ap (λ (l : List Event). reverseAux l (past ev i)) (from-step ev i n h)) ∙ turned i (omega arith)
 
--- ---- the loop that asks it
+    pub past-all : past ev n ≡ reverse (from ev 0 n)
+    past-all = sym (ap (λ (l : List Event). reverseAux l (past ev n)) (from-end ev n n (omega arith))) ∙ turned n (omega arith)
 
-module _ (h : Counts) (row : List ℕ) where
-  pub record Knows (i : ℕ) : Type 0 where
-    pub upto : i ≤ length row
-    pub left : allDeclared h (rest row i) ≡ allDeclared h (rowEvents row)
+-- ---- what is known of each event
 
-  pub knows-start : Knows 0
-  knows-start = record { upto = omega arith; left = ap (allDeclared h) (rest-start row) }
+-- what all events have, the one at an index has
+from-all : (P : Event → Type 0) (ev : ℕ → Event) (i n : ℕ) → All P (from ev i n) → (j : ℕ) → i ≤ j → j < i + n → P (ev j)
+unfolding from
+from-all P ev i zero a j b c = absurd (omega arith)
+from-all P ev i (suc n) a j b c = go (ℕ-discrete i j) (from-all P ev (suc i) n (a .1) j)
+  where
+    go : Dec (i ≡ j) → (suc i ≤ j → j < suc i + n → P (ev j)) → P (ev j)
+    go (yes q) r = subst (λ (k : ℕ). P (ev k)) q (a .0)
+    go (no q) r = r (omega arith) (omega arith)
 
-  module _ (i : ℕ) (k : Knows i) where
-    split : i < length row → allDeclared h (rowEvents row) ≡ (declared h (at row i) && allDeclared h (rest row (suc i)))
-    unfolding allDeclared
-    split b = sym (k .left) ∙ ap (allDeclared h) (rest-split row i b)
+-- each event of an accepted trace is declared
+abbrev Known : Counts → Event → Type 0
+Known h e = declared h e ≡ true
 
-    pub knows-not : i < length row → declared h (at row i) ≡ false → false ≡ allDeclared h (rowEvents row)
-    knows-not b d = rw (split b, d)
+trace-known : (h : Counts) (events : List Event) → AcceptedTrace full h events → All (Known h) events
+trace-known h events a =
+    subst (λ (l : List Event). All (Known h) l) (reverse-reverse events)
+    (All-turn (Known h) (reverse events) [] (all-known (reverse events) (valid full h events a)) tt)
+  where
+    all-known : (es : List Event) → T (legal h es) → All (Known h) es
+    all-known [] l = tt
+    all-known (e ∷ es) l = (legal-known h e es l, all-known es (legal-before h e es l))
 
-    pub knows-more : i < length row → declared h (at row i) ≡ true → Knows (i + 1)
-    knows-more b d = rw (add-one i) (record { upto = b; left = sym (split b ∙ ap (λ x. x && allDeclared h (rest row (suc i))) d) })
+module _ (h : Counts) (ws : List ℕ) (xs : List ℤ) (f : Fits h ws xs) where
+  abbrev es : List Event
+  es = rowEvents h ws xs
 
-    pub knows-end : length row ≤ i → true ≡ allDeclared h (rowEvents row)
-    unfolding allDeclared
-    knows-end b = sym (ap (allDeclared h) (rest-end row i b)) ∙ k .left
+  abbrev ev : ℕ → Event
+  ev = eventAt h ws xs
+
+  pub row-few : length ws ≤ 2000
+  unfolding rowEvents
+  row-few =
+      let n : length es ≡ length ws = length-from ev 0 (length ws) in
+      let m = length-reverse es in
+      omega (arith, few full h (reverse es) (f .accepted .limits .excess) (mark-accepts full h es (f .accepted .marked)))
+
+  pub known-at : (i : ℕ) → i < length ws → declared h (ev i) ≡ true
+  unfolding rowEvents
+  known-at i b = from-all (Known h) ev 0 (length ws) (trace-known h es (f .accepted)) i (omega arith) (omega arith)
+
+  pub known-past : (i : ℕ) → i ≤ length ws → All (Declared h) (past ev i)
+  unfolding past
+  known-past zero b = tt
+  known-past (suc i) b = (to-declared h (ev i) (known-at i b), known-past i (omega arith))
+
+  module _ (i : ℕ) (b : i < length ws) where
+    whose : ev i .thread ≡ threadIn (getD ws i 0)
+    unfolding eventAt
+    whose = Rec.thread-is (lineAfter h i) (getD ws i 0) (getD xs i (pos 0))
+
+    pub thread-at : (t : ℕ) → t ≡ threadIn (getD ws i 0) → t < 8
+    thread-at t q = let z = declared-bounds h (ev i) (f .accepted .head) (known-at i b) .0 in omega (arith, whose)
+
+    pub reads-at : (k t p : ℕ) → k ≡ letterIn (getD ws i 0) → t ≡ threadIn (getD ws i 0) → p ≡ placeIn (getD ws i 0) → Reads k t p (ev i)
+    unfolding eventAt
+    reads-at k t p x y z =
+        let l = f .lettered i b in
+        let w = Rec.place-is (lineAfter h i) (getD ws i 0) (getD xs i (pos 0)) l ∙ sym z in
+        let low = declared-bounds h (ev i) (f .accepted .head) (known-at i b) .1 in
+        reads k t p (ev i) (Rec.letter-is (lineAfter h i) (getD ws i 0) (getD xs i (pos 0)) l ∙ sym x) (whose ∙ sym y) w (thread-at t y) (subst (λ (j : ℕ). j < 16) w low)
+
+-- ---- rows that fit
+
+module _ (h : Counts) (ws : List ℕ) (xs : List ℤ) where
+  -- their lines are the events of an accepted trace
+  pub trace-fits : (events : List Event) → AcceptedTrace full h events → rowLines h ws xs ≡ map some events → Fits h ws xs
+  trace-fits events a q = record {
+    lettered = lines-lettered h ws xs events q;
+    accepted = subst (AcceptedTrace full h) (sym (lines-events h ws xs events q)) a;
+  }
+
+  -- marking accepts them
+  pub marked-fits : allowed full h ≡ true → markRead full h [] (rowLines h ws xs) ≡ accepted → Fits h ws xs
+  marked-fits a q = record {
+    lettered = lines-lettered h ws xs (rowEvents h ws xs) (lines-named full h ws xs q);
+    accepted = record { limits = up-to-full; head = a; marked = row-accepted full h ws xs q };
+  }
+
+-- the records of an accepted trace whose events stand in their lines
+module _ (h : Counts) (events : List Event) (a : AcceptedTrace full h events) (k : Numbered h 0 events) where
+  small : Small events
+  small = go events (trace-known h events a)
+    where
+      go : (es : List Event) → All (Known h) es → Small es
+      go [] d = tt
+      go (e ∷ es) d = let b = declared-bounds h e (a .head) (d .0) in (omega (arith, b), omega (arith, b), go es (d .1))
+
+  pub packed-fits : Fits h (map packed events) (map valueIn events)
+  packed-fits = trace-fits h (map packed events) (map valueIn events) events a (row-lines h events k small)
+
+  pub packed-events : rowEvents h (map packed events) (map valueIn events) ≡ events
+  packed-events = row-back h events k small

@@ -1,31 +1,28 @@
 -- What the levels, what is owed and what is late stand for after one event more.
-use Prim.Native.Nat.{ℕ, zero, suc, _+_, _*_, _-_, _<_, _≤_}
+use Prim.Native.Nat.{ℕ, zero, suc, pred, _+_, _*_, _<_, _≤_}
 use native.Mathlib.Decide.{ℕ-discrete}
 use native.Mathlib.Omega.{arith}
-use native.Mathlib.Numerals.{add-one}
 use mathlib.Core.Path.{_≡_, refl, sym, _∙_, ap, ap₂, subst}
-use mathlib.Core.Bool.{Bool, true, false, not, cond, _&&_, _||_, or-false, and-false, true≢false, false≢true}
+use mathlib.Core.Bool.{Bool, true, false, not, cond, _&&_, _||_, or-false, and-false, and-true, false≢true}
 use mathlib.Core.List.{List, [], _∷_}
 use mathlib.Core.Option as Option
-use borrow.Author.Tests.{eqb-true, ltb-true, ltb-false, lt-ltb, le-ltb, eq-eqb, ne-eqb}
+use borrow.Author.Tests.{ltb-true, lt-ltb, eq-eqb, ne-eqb}
 use lib.Dec.{eqb, ltb}
 use lib.ListN.{length, getD, set, replicate, length-set, getD-replicate}
 use lib.Seq.{getD-set-same, getD-set-other}
 use Rattle.rules.specs.declared.Event.{Event}
 use Rattle.rules.specs.declared.Counts.{Counts}
-use Rattle.rules.specs.Events.{A, B, K, N, P, U, letter, among, is, of, on, locks, unlocks}
-use Rattle.rules.specs.Words.{by, acquires, releases, count, depth, pending, latest, letterIn}
+use Rattle.rules.specs.Events.{A, B, K, N, P, U, letter, is, of, on, locks, unlocks}
+use Rattle.rules.specs.Words.{by, acquires, releases, depth, pending, latest, letterIn}
 use Rattle.rules.specs.Rules.{some, loc, wordsOf, held}
 use Rattle.rules.proofs.Laws.{some-has}
-use Rattle.records.specs.Records as Rec
-use Rattle.records.specs.Records.{threadIn, placeIn, unpacked}
-use Rattle.records.proofs.LetterLaws.{is-lock, is-unlock, is-use, is-assign, is-prescient-assign, is-prescient-store, place-is, thread-small, place-small}
+use Rattle.rules.proofs.Letters.{eqb-turn}
 use Rattle.sections.specs.Places.{usesOrAssigns, unlocksBy, holdsSome}
-use Rattle.sections.specs.Refusals.{afterUnlock, notUnder, lateLock, unfinished}
-use Rattle.ordering.specs.Parts.{guardCell, brokenBy, levelAfter, pendingAfter, lateAfter, busyAfter, heldIn, pendingIn, unfinishedIn}
+use Rattle.sections.specs.Refusals.{afterUnlock, unfinished}
+use Rattle.ordering.specs.Computed.Parts.{levelAfter, pendingAfter, lateAfter, busyAfter, heldIn, pendingIn, unfinishedIn}
 use Rattle.ordering.proofs.Loops.{some-ext}
 
--- ---- an event by the parts of its record
+-- ---- an event by its letter k, thread t and place p
 
 pub record Reads (k t p : ℕ) (e : Event) : Type 0 where
   pub whose : e .thread ≡ t
@@ -38,86 +35,66 @@ pub record Reads (k t p : ℕ) (e : Event) : Type 0 where
   pub thread-low : t < 8
   pub place-low : p < 16
 
-pub reads : (n w : ℕ) → Reads (Rec.letterIn w) (threadIn w) (placeIn w) (unpacked n w)
+pub reads : (k t p : ℕ) (e : Event) → letter (e .kind) ≡ k → e .thread ≡ t → loc e ≡ p → t < 8 → p < 16 → Reads k t p e
 unfolding locks unlocks usesOrAssigns is
-reads n w = record {
-  whose = unfold unpacked in refl;
-  places = place-is n w;
-  locking = or-false (eqb K (letter (unpacked n w .kind))) ∙ is-lock n w;
-  unlocking = or-false (eqb N (letter (unpacked n w .kind))) ∙ is-unlock n w;
-  uses = rw (is-use n w, is-assign n w, is-prescient-assign n w, or-false (eqb (Rec.letterIn w) B));
-  owing = rw (is-prescient-store n w, is-prescient-assign n w, or-false (eqb (Rec.letterIn w) B));
-  announcing = or-false (eqb P (letter (unpacked n w .kind))) ∙ is-prescient-store n w;
-  thread-low = thread-small w;
-  place-low = place-small w;
+reads k t p e a b c ht hp = record {
+  whose = b;
+  places = c;
+  locking = one K;
+  unlocking = one N;
+  uses = rw (a, eqb-turn U k, eqb-turn A k, eqb-turn B k, or-false (eqb k B));
+  owing = rw (a, eqb-turn P k, eqb-turn B k, or-false (eqb k B));
+  announcing = one P;
+  thread-low = ht;
+  place-low = hp;
 }
-
--- ---- counts
-
-pub count-le : (p : Event → Bool) (es : List Event) → count p es ≤ length es
-unfolding count
-count-le p [] = omega arith
-count-le p (e ∷ es) = step (p e) (count-le p es)
   where
-    step : (b : Bool) → count p es ≤ length es → cond b (suc (count p es)) (count p es) ≤ suc (length es)
-    step true h = omega arith
-    step false h = omega arith
-
-level-held : (x m n : ℕ) → x + n ≡ 4096 + m → ltb 4096 x ≡ ltb 0 (m - n)
-level-held x m n h = step (ltb 4096 x) refl
-  where
-    step : (b : Bool) → ltb 4096 x ≡ b → ltb 4096 x ≡ ltb 0 (m - n)
-    step true p =
-        let q : 4096 < x = ltb-true 4096 x p in
-        p ∙ sym (lt-ltb 0 (m - n) (omega (arith, q, h)))
-    step false p =
-        let q : x ≤ 4096 = ltb-false 4096 x p in
-        p ∙ sym (le-ltb 0 (m - n) (omega (arith, q, h)))
+    one : (c : ℕ) → (eqb c (letter (e .kind)) || false) ≡ eqb k c
+    one c = or-false (eqb c (letter (e .kind))) ∙ ap (eqb c) a ∙ eqb-turn c k
 
 -- ---- the levels
 
 pub record Levels (levels : List ℕ) (es : List Event) : Type 0 where
   pub long : length levels ≡ 128
-  pub level : (t l : ℕ) → t < 8 → l < 16 → getD levels (t * 16 + l) 0 + count (releases t l) es ≡ 4096 + count (acquires t l) es
+  pub level : (t l : ℕ) → t < 8 → l < 16 → getD levels (t * 16 + l) 0 ≡ depth t l es
 
-pub levels-start : Levels (replicate 128 4096) []
-unfolding count
-levels-start = record { long = refl; level = λ t l ht hl. ap (λ x. x + 0) (getD-replicate 128 (t * 16 + l) 4096 0 (omega arith)) }
+pub levels-start : Levels (replicate 128 0) []
+unfolding depth
+levels-start = record { long = refl; level = λ t l ht hl. getD-replicate {A = ℕ} 128 (t * 16 + l) 0 0 (omega arith) }
 
-level-one : (x k m n : ℕ) → 0 < x → x + n ≡ 4096 + m → levelAfter x k + cond (eqb k N) (suc n) n ≡ 4096 + cond (eqb k K) (suc m) m
-unfolding levelAfter
-level-one x k m n low h = go (ℕ-discrete k K) (ℕ-discrete k N)
+depth-low : (t l : ℕ) (es : List Event) → depth t l es ≤ length es
+unfolding depth
+depth-low t l [] = omega arith
+depth-low t l (e ∷ es) = step (acquires t l e) (releases t l e) (depth t l es) (depth-low t l es)
   where
-    go : Dec (k ≡ K) → Dec (k ≡ N) → cond (eqb k K) (x + 1) (cond (eqb k N) (x - 1) x) + cond (eqb k N) (suc n) n ≡ 4096 + cond (eqb k K) (suc m) m
-    go (yes p) q = rw p (omega (arith, h))
-    go (no p) (yes q) = rw q (omega (arith, h, low))
-    go (no p) (no q) = rw (ne-eqb k K p, ne-eqb k N q) h
+    step : (a b : Bool) (d : ℕ) → d ≤ length es → cond a (suc d) (cond b (pred d) d) ≤ suc (length es)
+    step true b d h = omega arith
+    step false true d h = less d (length es) h
+      where
+        less : (d n : ℕ) → d ≤ n → pred d ≤ suc n
+        less d n h = omega arith
+    step false false d h = omega arith
 
 module _ (levels : List ℕ) (es : List Event) (L : Levels levels es) where
   pub held-is : (t l : ℕ) → t < 8 → l < 16 → heldIn levels t l ≡ held (wordsOf es) t l
-  unfolding heldIn wordsOf depth
-  held-is t l ht hl = level-held (getD levels (t * 16 + l) 0) (count (acquires t l) es) (count (releases t l) es) (L .level t l ht hl)
+  unfolding heldIn wordsOf
+  held-is t l ht hl = ap (ltb 0) (L .level t l ht hl)
 
-  pub level-range : (t l : ℕ) → t < 8 → l < 16 → length es ≤ 2000 → (0 < getD levels (t * 16 + l) 0) × (getD levels (t * 16 + l) 0 < 65536)
-  level-range t l ht hl few =
-      let a : getD levels (t * 16 + l) 0 + count (releases t l) es ≡ 4096 + count (acquires t l) es = L .level t l ht hl in
-      (omega (arith, a, count-le (releases t l) es, few), omega (arith, a, count-le (acquires t l) es, few))
+  pub level-low : (t l : ℕ) → t < 8 → l < 16 → length es ≤ 2000 → getD levels (t * 16 + l) 0 < 65536
+  level-low t l ht hl few = omega (arith, L .level t l ht hl, depth-low t l es)
 
   pub some-held : (h : Counts) → h .locks ≤ 8 → (t : ℕ) → t < 8 → some (h .locks) (heldIn levels t) ≡ holdsSome h t es
   unfolding holdsSome
   some-held h hl t ht = some-ext (h .locks) (heldIn levels t) (λ l. held (wordsOf es) t l) (λ l q. held-is t l ht (omega (arith, q, hl)))
 
-  module _ (k u p : ℕ) (e : Event) (r : Reads k u p e) (few : length es ≤ 2000) where
+  module _ (k u p : ℕ) (e : Event) (r : Reads k u p e) where
     pub levels-after : Levels (set levels (u * 16 + p) (levelAfter (getD levels (u * 16 + p) 0) k)) (e ∷ es)
-    unfolding count acquires releases of on
+    unfolding depth acquires releases of on levelAfter
     levels-after = record {
       long = length-set levels (u * 16 + p) _ ∙ L .long;
       level = λ t l ht hl. rw (r .locking, r .unlocking, r .whose, r .places) (go t l ht hl (ℕ-discrete u t) (ℕ-discrete p l));
     }
       where
-        x : ℕ
-        x = getD levels (u * 16 + p) 0
-
         hu : u < 8
         hu = r .thread-low
 
@@ -125,16 +102,12 @@ module _ (levels : List ℕ) (es : List Event) (L : Levels levels es) where
         hp = r .place-low
 
         go : (t l : ℕ) → t < 8 → l < 16 → Dec (u ≡ t) → Dec (p ≡ l)
-            → getD (set levels (u * 16 + p) (levelAfter (getD levels (u * 16 + p) 0) k)) (t * 16 + l) 0 + cond (eqb k N && (eqb u t && eqb p l)) (suc (count (releases t l) es)) (count (releases t l) es)
-            ≡ 4096 + cond (eqb k K && (eqb u t && eqb p l)) (suc (count (acquires t l) es)) (count (acquires t l) es)
+            → getD (set levels (u * 16 + p) (levelAfter (getD levels (u * 16 + p) 0) k)) (t * 16 + l) 0
+            ≡ cond (eqb k K && (eqb u t && eqb p l)) (suc (depth t l es)) (cond (eqb k N && (eqb u t && eqb p l)) (pred (depth t l es)) (depth t l es))
         go t l ht hl (yes a) (yes b) =
             let i : t * 16 + l < length levels = omega (arith, L .long) in
-            rw (a, b, eq-eqb t t refl, eq-eqb l l refl, getD-set-same levels (t * 16 + l) (levelAfter (getD levels (t * 16 + l) 0) k) 0 i, and-one (eqb k N), and-one (eqb k K))
-            (level-one (getD levels (t * 16 + l) 0) k (count (acquires t l) es) (count (releases t l) es) (level-range t l ht hl few .0) (L .level t l ht hl))
-          where
-            and-one : (b : Bool) → (b && true) ≡ b
-            and-one true = refl
-            and-one false = refl
+            rw (a, b, eq-eqb t t refl, eq-eqb l l refl, getD-set-same levels (t * 16 + l) (levelAfter (getD levels (t * 16 + l) 0) k) 0 i, and-true (eqb k K), and-true (eqb k N))
+            (ap (λ (x : ℕ). levelAfter x k) (L .level t l ht hl))
         go t l ht hl (yes a) (no b) =
             rw (ne-eqb p l b, and-false (eqb u t), and-false (eqb k N), and-false (eqb k K), getD-set-other levels (u * 16 + p) (t * 16 + l) (levelAfter (getD levels (u * 16 + p) 0) k) 0 (λ q. b (omega (arith, q, a))))
             (L .level t l ht hl)
@@ -190,11 +163,7 @@ owed-after owed es O k u p e r = record {
     other t v n = ap (λ b. is (P ∷ B ∷ []) e && b) (ap₂ (λ x y. eqb x t && eqb y v) (r .whose) (r .places) ∙ n) ∙ and-false (is (P ∷ B ∷ []) e)
 
     own-hits : hits u p ≡ is (P ∷ B ∷ []) e
-    own-hits = ap (λ b. is (P ∷ B ∷ []) e && b) (ap₂ (λ x y. eqb x u && eqb y p) (r .whose) (r .places) ∙ ap₂ (λ x y. x && y) (eq-eqb u u refl) (eq-eqb p p refl)) ∙ and-one (is (P ∷ B ∷ []) e)
-      where
-        and-one : (b : Bool) → (b && true) ≡ b
-        and-one true = refl
-        and-one false = refl
+    own-hits = ap (λ b. is (P ∷ B ∷ []) e && b) (ap₂ (λ x y. eqb x u && eqb y p) (r .whose) (r .places) ∙ ap₂ (λ x y. x && y) (eq-eqb u u refl) (eq-eqb p p refl)) ∙ and-true (is (P ∷ B ∷ []) e)
 
     same : (b : Bool) (t v : ℕ) → cond b (is (P ∷ []) e) (pending t v es) ≡ found t v b
     same true t v = refl
@@ -238,32 +207,23 @@ keeps h t es fs f b =
     let i = some-at (h .locks) (λ l. held (wordsOf es) t l) b in
     some-has (h .locks) (λ l. held (wordsOf fs) t l) (i .0) (i .1) (f (i .0) (i .2))
 
-count-up : (p : Event → Bool) (e : Event) (es : List Event) → count p es ≤ count p (e ∷ es)
-unfolding count
-count-up p e es = step (p e)
-  where
-    step : (b : Bool) → count p es ≤ cond b (suc (count p es)) (count p es)
-    step true = omega arith
-    step false = omega arith
-
-count-not : (p : Event → Bool) (e : Event) (es : List Event) → p e ≡ false → count p (e ∷ es) ≡ count p es
-unfolding count
-count-not p e es n = rw n
-
-held-less : (m n m′ n′ : ℕ) → m ≤ m′ → n′ ≤ n → ltb 0 (m - n) ≡ true → ltb 0 (m′ - n′) ≡ true
-held-less m n m′ n′ a b p = let q : 0 < m - n = ltb-true 0 (m - n) p in lt-ltb 0 (m′ - n′) (omega (arith, q, a, b))
-
 -- an event that is no N of t leaves it what it holds
 pub keeps-held : (h : Counts) (t : ℕ) (e : Event) (es : List Event) → ((l : ℕ) → releases t l e ≡ false) → holdsSome h t es ≡ true → holdsSome h t (e ∷ es) ≡ true
 unfolding wordsOf depth
-keeps-held h t e es n = keeps h t es (e ∷ es) (λ l. held-less (count (acquires t l) es) (count (releases t l) es) (count (acquires t l) (e ∷ es)) (count (releases t l) (e ∷ es))
-    (count-up (acquires t l) e es) (let q = count-not (releases t l) e es (n l) in omega (arith, q)))
+keeps-held h t e es n = keeps h t es (e ∷ es) (λ l q. rw (n l) (step (acquires t l e) (depth t l es) q))
+  where
+    step : (a : Bool) (d : ℕ) → ltb 0 d ≡ true → ltb 0 (cond a (suc d) d) ≡ true
+    step true d q = lt-ltb 0 (suc d) (omega arith)
+    step false d q = q
 
 -- an event that is no K of t gives it nothing
 pub gains-none : (h : Counts) (t : ℕ) (e : Event) (es : List Event) → ((l : ℕ) → acquires t l e ≡ false) → holdsSome h t (e ∷ es) ≡ true → holdsSome h t es ≡ true
 unfolding wordsOf depth
-gains-none h t e es n = keeps h t (e ∷ es) es (λ l. held-less (count (acquires t l) (e ∷ es)) (count (releases t l) (e ∷ es)) (count (acquires t l) es) (count (releases t l) es)
-    (let q = count-not (acquires t l) e es (n l) in omega (arith, q)) (count-up (releases t l) e es))
+gains-none h t e es n = keeps h t (e ∷ es) es (λ l q. step (releases t l e) (depth t l es) (rw (n l) at q))
+  where
+    step : (b : Bool) (d : ℕ) → ltb 0 (cond b (pred d) d) ≡ true → ltb 0 d ≡ true
+    step true d q = let z : 0 < pred d = ltb-true 0 (pred d) q in lt-ltb 0 d (omega arith)
+    step false d q = q
 
 both-true : (a b : Bool) → (a ≡ true → b ≡ true) → (b ≡ true → a ≡ true) → a ≡ b
 both-true true b f g = sym (f refl)
@@ -340,7 +300,7 @@ some-nothing zero = refl
 some-nothing (suc n) = some-nothing n
 
 nothing-held : (h : Counts) (t : ℕ) → holdsSome h t [] ≡ false
-unfolding holdsSome wordsOf depth count
+unfolding holdsSome wordsOf depth
 nothing-held h t = some-nothing (h .locks)
 
 pub busy-start : (h : Counts) → Busy h (replicate 8 false) []
@@ -349,22 +309,14 @@ busy-start h = record { long = refl; holds = λ t ht. getD-replicate 8 t false f
 module _ (h : Counts) (es : List Event) (k u p : ℕ) (e : Event) (r : Reads k u p e) (any : Bool) where
   own-unlocks : unlocksBy u e ≡ eqb k N
   unfolding unlocksBy of
-  own-unlocks = ap₂ (λ a b. a && b) (r .unlocking) (ap (λ t. eqb t u) (r .whose) ∙ eq-eqb u u refl) ∙ and-one (eqb k N)
-    where
-      and-one : (b : Bool) → (b && true) ≡ b
-      and-one true = refl
-      and-one false = refl
+  own-unlocks = ap₂ (λ a b. a && b) (r .unlocking) (ap (λ t. eqb t u) (r .whose) ∙ eq-eqb u u refl) ∙ and-true (eqb k N)
 
   pub late-after : (late : List Bool) → Late h late es → (eqb k N ≡ true → any ≡ holdsSome h u (e ∷ es)) → Late h (set late u (lateAfter (getD late u false) k any)) (e ∷ es)
   unfolding lateAfter
   late-after late m f = record { long = length-set late u _ ∙ m .long; after = λ t ht. go t ht (ℕ-discrete u t) }
     where
       own : (b : Bool) → eqb k N ≡ b → cond b any (getD late u false) ≡ afterUnlock h u (e ∷ es)
-      own true q = f q ∙ sym (unfold afterUnlock in ap (λ b. holdsSome h u (e ∷ es) && (b || afterUnlock h u es)) (own-unlocks ∙ q) ∙ and-one (holdsSome h u (e ∷ es)))
-        where
-          and-one : (b : Bool) → (b && true) ≡ b
-          and-one true = refl
-          and-one false = refl
+      own true q = f q ∙ sym (unfold afterUnlock in ap (λ b. holdsSome h u (e ∷ es) && (b || afterUnlock h u es)) (own-unlocks ∙ q) ∙ and-true (holdsSome h u (e ∷ es)))
       own false q = m .after u (r .thread-low) ∙ sym (after-same h u e es (own-unlocks ∙ q) (λ l. not-releases u l e (r .unlocking ∙ q)))
 
       go : (t : ℕ) → t < 8 → Dec (u ≡ t) → getD (set late u (cond (eqb k N) any (getD late u false))) t false ≡ afterUnlock h t (e ∷ es)

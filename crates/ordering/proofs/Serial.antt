@@ -1,30 +1,25 @@
--- Demand 3 as one theorem about the bytes of a trace.
+-- Demand 3 of an accepted trace with guards: what is given for it is what `SerialOrder` demands.
 use Prim.Native.Nat.{ℕ, zero, suc, _+_, _-_, _≤_, _<_}
 use native.Mathlib.Omega.{arith}
 use mathlib.Core.Path.{_≡_, refl, sym, ap, _∙_, subst}
 use mathlib.Core.Bool.{Bool, true, false, cond, _&&_}
-use mathlib.Core.List.{List, [], _∷_, _++_, map}
-use mathlib.Core.Option.{Option, none, some}
-use lib.Dec.{T, eqb}
+use mathlib.Core.List.{List, [], _∷_, map, reverse}
 use lib.ListN.{length, length-map, length-reverse, take, drop}
 use lib.Seq.{take-at}
 use borrow.Author.Tests.{eqb-true}
 use Rattle.rules.specs.declared.Event.{Event}
 use Rattle.rules.specs.declared.Counts.{Counts}
-use Rattle.rules.specs.Events.{of, locks, unlocks}
-use Rattle.rules.specs.Limits.{full, firstLine, allowed}
+use Rattle.rules.specs.Events.{of, locks}
+use Rattle.rules.specs.Limits.{Limits, firstLine}
 use Rattle.rules.specs.Words.{locksBy}
-use Rattle.rules.specs.Rules.{accepted}
-use Rattle.rules.proofs.Bounds.{allowed-bounds}
-use Rattle.machine.proofs.Joined.{up-to-full}
+use Rattle.rules.proofs.Bounds.{allowed-within, first-line-high}
+use Rattle.rules.proofs.Laws as Rules
+use Rattle.rules.proofs.Marking.{mark-accepts}
+use Rattle.decimal.specs.Text.{over}
 use Rattle.trace.specs.declared.Guards.{Guards}
-use Rattle.trace.specs.Trace.{traceOf}
-use Rattle.marking.specs.Marking.{markedOf, pastOf, eventsIn}
-use Rattle.marking.proofs.Whole.{events-marked}
-use Rattle.marking.proofs.Rows.{past-few}
 use Rattle.serial.specs.Lists.{All}
 use Rattle.sections.specs.Places.{position, nth, atPosition, eventAt, unlocksBy, passes, lockAt, unlockAt}
-use Rattle.sections.specs.CriticalSections.{Entry, CriticalSection, SerialOrder}
+use Rattle.sections.specs.CriticalSections.{Entry, CriticalSection}
 use Rattle.sections.specs.Denials.{Denial, fit, denied}
 use Rattle.sections.specs.Demand3.{AcceptedTrace, Demand3}
 use Rattle.sections.specs.Refusals.{denial}
@@ -34,12 +29,9 @@ use Rattle.sections.proofs.Valid.{Declared}
 use Rattle.sections.proofs.Demand3.{trace-declared, demand-3}
 use Rattle.sections.proofs.Entries.{entry-back}
 use Rattle.ordering.specs.declared.Ordering.{Ordering}
-use Rattle.ordering.specs.declared.Ordering.the-variants.{Ordered, Unordered, NoGuards, Lent, NoTrace}
-use Rattle.ordering.specs.declared.Outcome.{Outcome}
-use Rattle.ordering.specs.Answer.{lentShort, guardOf, answerOf, ordered, Given}
-use Rattle.ordering.specs.Traces.{orderingOf, entriesOf, OrdersTrace}
-use Rattle.ordering.specs.Serial.{denialIn, countIn, SerialTrace}
-use Rattle.ordering.proofs.Traces.{accepted-allowed}
+use Rattle.ordering.specs.Answer.{guardOf, answerOf, answerFor, entriesFor, ordered, Given}
+use Rattle.ordering.specs.Serial.{SerialOrder}
+use Rattle.ordering.proofs.Answering.{judged}
 
 -- ---- the lines of an entry are event lines, and its thread is declared
 
@@ -62,26 +54,13 @@ found f P (suc n) (x ∷ events) a e =
     let q = r .inside in
     record { event = r .event; passing = r .passing; has = r .has; inside = omega arith }
 
-found-at : (f : Event → Bool) (P : Event → Type 0) (events : List Event) (line : ℕ) → All P events → passes f (eventAt line events) ≡ true
-    → (n : ℕ) × (Found f P n events) × (line ≡ n + firstLine)
-unfolding eventAt position atPosition
-found-at f P events line a e = by (suc line - firstLine) refl e
-  where
-    by : (p : ℕ) → suc line - firstLine ≡ p → passes f (atPosition p events) ≡ true → (n : ℕ) × (Found f P n events) × (line ≡ n + firstLine)
-    by zero q e = absurd (false-true e)
-    by (suc n) q e = (n, found f P n events a e, omega arith)
+both-right : (a b : Bool) → a && b ≡ true → b ≡ true
+both-right true b e = e
+both-right false b e = absurd (false-true e)
 
 all-unit : (events : List Event) → All (λ (e : Event). Unit {0}) events
 all-unit [] = tt
 all-unit (e ∷ events) = (tt, all-unit events)
-
--- a line in which an event stands
-pub line-low : (f : Event → Bool) (events : List Event) (line : ℕ) → passes f (eventAt line events) ≡ true → line < length events + firstLine
-line-low f events line e =
-    let x = found-at f (λ e. Unit {0}) events line (all-unit events) e in
-    let i = x .1 .inside in
-    let q = x .2 in
-    omega arith
 
 -- an entry of a trace: its thread is below 8 and its lines are below 4,096
 pub record Small (s : Entry) : Type 0 where
@@ -89,111 +68,106 @@ pub record Small (s : Entry) : Type 0 where
   pub first : s .first < 4096
   pub last : s .last < 4096
 
-both-right : (a b : Bool) → a && b ≡ true → b ≡ true
-both-right true b e = e
-both-right false b e = absurd (false-true e)
-
-small-entry : (h : Counts) (events : List Event) (s : Entry) → allowed full h ≡ true → All (Declared h) events → length events ≤ 2000 → CriticalSection h events s → Small s
-unfolding lockAt unlockAt
-small-entry h events s a d l c =
-    let x = found-at (locksBy (s .thread)) (Declared h) events (s .first) d (c .opens) in
-    let y = found-at (unlocksBy (s .thread)) (Declared h) events (s .last) d (c .closes) in
-    let b = allowed-bounds h a in
-    let t : x .1 .event .thread ≡ s .thread = eqb-true (x .1 .event .thread) (s .thread) (unfold locksBy of in both-right (locks (x .1 .event)) _ (x .1 .passing)) in
-    let k = x .1 .has .0 in
-    let i = x .1 .inside in
-    let j = y .1 .inside in
-    let p = x .2 in
-    let q = y .2 in
-    record { thread = omega (arith, t, k, b); first = omega arith; last = omega arith }
-
-small-all : (h : Counts) (events : List Event) (ss : List Entry) → allowed full h ≡ true → All (Declared h) events → length events ≤ 2000 → All (CriticalSection h events) ss → All Small ss
-small-all h events [] a d l c = tt
-small-all h events (s ∷ ss) a d l c = (small-entry h events s a d l (c .0), small-all h events ss a d l (c .1))
-
--- entries of a trace are read back from their numbers
+-- such entries are read back from their numbers
 pub codes-back : (ss : List Entry) → All Small ss → map entryIn (map entryCode ss) ≡ ss
 codes-back [] k = refl
 codes-back (s ∷ ss) k = λ i. entry-back s (k .0 .first) (k .0 .last) i ∷ codes-back ss (k .1) i
 
-not-fit : (number line : ℕ) → denied number line ≡ fit → ⊥
-not-fit number line e = subst Denying e tt
-  where
-    Denying : Denial → Type 0
-    Denying fit = ⊥
-    Denying (denied k l) = Unit {0}
+module _ (h : Counts) (events : List Event) where
+  found-at : (f : Event → Bool) (P : Event → Type 0) (line : ℕ) → All P events → passes f (eventAt h line events) ≡ true
+      → (n : ℕ) × (Found f P n events) × (line ≡ n + firstLine h)
+  unfolding eventAt position atPosition
+  found-at f P line a e = by (suc line - firstLine h) refl e
+    where
+      by : (p : ℕ) → suc line - firstLine h ≡ p → passes f (atPosition p events) ≡ true → (n : ℕ) × (Found f P n events) × (line ≡ n + firstLine h)
+      by zero q e = absurd (false-true e)
+      by (suc n) q e = (n, found f P n events a e, omega arith)
+
+  -- a line in which an event stands
+  pub line-low : (f : Event → Bool) (line : ℕ) → passes f (eventAt h line events) ≡ true → line < length events + firstLine h
+  line-low f line e =
+      let x = found-at f (λ e. Unit {0}) line (all-unit events) e in
+      let i = x .1 .inside in
+      let q = x .2 in
+      omega arith
+
+  module _ (t : h .threads ≤ 8) (d : All (Declared h) events) (l : length events ≤ 2000) where
+    small-entry : (s : Entry) → CriticalSection h events s → Small s
+    unfolding lockAt unlockAt
+    small-entry s c =
+        let x = found-at (locksBy (s .thread)) (Declared h) (s .first) d (c .opens) in
+        let w : x .1 .event .thread ≡ s .thread = eqb-true (x .1 .event .thread) (s .thread) (unfold locksBy of in both-right (locks (x .1 .event)) _ (x .1 .passing)) in
+        let k = x .1 .has .0 in
+        let i = line-low (locksBy (s .thread)) (s .first) (c .opens) in
+        let j = line-low (unlocksBy (s .thread)) (s .last) (c .closes) in
+        let m = first-line-high h in
+        record { thread = omega arith; first = omega arith; last = omega arith }
+
+    small-all : (ss : List Entry) → All (CriticalSection h events) ss → All Small ss
+    small-all [] c = tt
+    small-all (s ∷ ss) c = (small-entry s (c .0), small-all ss (c .1))
 
 -- ---- a trace that is accepted
 
-module _ (s : List ℕ) (a : markedOf s ≡ accepted) where
-  abbrev h : Counts
-  h = traceOf s .head
-
+module _ (m : Limits) (h : Counts) (g : Guards) (events : List Event) (a : AcceptedTrace m h events) where
   abbrev guard : ℕ → ℕ
-  guard = guardOf (traceOf s .guards .locks)
+  guard = guardOf (g .locks)
 
-  pub accepted-trace : AcceptedTrace full h (eventsIn s)
-  accepted-trace = record { limits = up-to-full; head = accepted-allowed s a; marked = events-marked s }
+  pub few : length events ≤ 2000
+  few =
+      let n = length-reverse events in
+      let k = a .limits .events in
+      omega (arith, Rules.few m h (reverse events) (a .limits .excess) (mark-accepts m h events (a .marked)))
 
-  pub few : length (eventsIn s) ≤ 2000
-  unfolding eventsIn
-  few = subst (λ (n : ℕ). n ≤ 2000) (sym (length-reverse (pastOf s))) (past-few s)
+  whole : Demand3 h guard events (denial h guard events) (order h events)
+  whole = demand-3 m h guard events a
 
   -- the entries of a fit trace
-  pub small : denial h guard (eventsIn s) ≡ fit → All Small (order h (eventsIn s))
+  pub small : denial h guard events ≡ fit → All Small (order h events)
   small f =
-      small-all h (eventsIn s) (order h (eventsIn s)) (accepted-allowed s a) (trace-declared full h (eventsIn s) accepted-trace) few
-      (demand-3 full h guard (eventsIn s) accepted-trace .listed f .sound)
+      let k = a .limits .threads in
+      small-all h events (omega (arith, allowed-within m h (a .head) .0)) (trace-declared m h events a) few (order h events) (whole .listed f .sound)
 
-  pub fit-codes : denial h guard (eventsIn s) ≡ fit → map entryIn (entriesOf s) ≡ order h (eventsIn s)
-  unfolding entriesOf
-  fit-codes f = codes-back (order h (eventsIn s)) (small f)
+  pub fit-codes : denial h guard events ≡ fit → map entryIn (entriesFor h events) ≡ order h events
+  unfolding entriesFor
+  fit-codes f = codes-back (order h events) (small f)
 
-  -- with guards, and enough lent
-  module _ (g : traceOf s .guards .given ≡ true) (list scratch : List ℕ) (e : lentShort list scratch ≡ false) where
-    pub said : orderingOf s list scratch ≡ answerOf (denial h guard (eventsIn s)) (length (order h (eventsIn s)))
-    unfolding orderingOf
-    said = rw (e, a, g) refl
+  -- where an order is denied, nothing is said of the entries
+  nothing : (number line : ℕ) {ss ss′ : List Entry} → Demand3 h guard events (denied number line) ss → Demand3 h guard events (denied number line) ss′
+  nothing number line d = record {
+    only-when = d .only-when;
+    when = d .when;
+    otherwise = d .otherwise;
+    listed = λ f. absurd (never f);
+    every = λ f. absurd (never f);
+    uses = λ f. absurd (never f);
+    ends = λ f. absurd (never f);
+  }
+    where
+      never : denied number line ≡ fit → ⊥
+      never f = let z : _≡_ {A = ℕ} 0 1 = cc in omega arith
 
-    whole : (d : Denial) → denial h guard (eventsIn s) ≡ d → Demand3 h guard (eventsIn s) d (order h (eventsIn s))
-    whole d q = subst (λ (x : Denial). Demand3 h guard (eventsIn s) x (order h (eventsIn s))) q (demand-3 full h guard (eventsIn s) accepted-trace)
+  -- what is answered to a denial, and the list then
+  serial : (d : Denial) → denial h guard events ≡ d → (list list′ : List ℕ) → list′ ≡ cond (ordered (answerOf d (length (order h events)))) (over (entriesFor h events) list) list
+      → SerialOrder h g events (answerOf d (length (order h events))) list′
+  unfolding answerOf
+  serial fit q list list′ w =
+      subst (λ (ss : List Entry). Demand3 h guard events fit ss) (sym listed) (subst (λ (x : Denial). Demand3 h guard events x (order h events)) q whole)
+    where
+      count : length (entriesFor h events) ≡ length (order h events)
+      count = unfold entriesFor in length-map (order h events) entryCode
 
-    -- where an order is denied, nothing is said of the list
-    nothing : (number line : ℕ) {ss : List Entry} → Demand3 h guard (eventsIn s) (denied number line) (order h (eventsIn s)) → Demand3 h guard (eventsIn s) (denied number line) ss
-    nothing number line d = record {
-      only-when = d .only-when;
-      when = d .when;
-      otherwise = d .otherwise;
-      listed = λ f. absurd (not-fit number line f);
-      every = λ f. absurd (not-fit number line f);
-      uses = λ f. absurd (not-fit number line f);
-      ends = λ f. absurd (not-fit number line f);
-    }
+      listed : map entryIn (take (length (order h events)) list′) ≡ order h events
+      listed =
+          ap (λ (ws : List ℕ). map entryIn (take (length (order h events)) ws)) w
+          ∙ ap (λ (ws : List ℕ). map entryIn ws) (take-at (entriesFor h events) (drop (length (entriesFor h events)) list) (length (order h events)) count)
+          ∙ fit-codes q
+  serial (denied number line) q list list′ w = nothing number line (subst (λ (x : Denial). Demand3 h guard events x (order h events)) q whole)
 
-    serial : (d : Denial) → denial h guard (eventsIn s) ≡ d → (o : Ordering) → o ≡ answerOf d (length (order h (eventsIn s))) → (list′ : List ℕ)
-        → list′ ≡ cond (ordered (answerOf d (length (order h (eventsIn s))))) (entriesOf s ++ drop (length (entriesOf s)) list) list → SerialTrace s o list′
-    unfolding answerOf
-    serial fit q o p list′ w = subst (λ (x : Ordering). SerialTrace s x list′) (sym p) (subst (λ (ss : List Entry). Demand3 h guard (eventsIn s) fit ss) (sym listed) (whole fit q))
-      where
-        count : length (entriesOf s) ≡ length (order h (eventsIn s))
-        count = unfold entriesOf in length-map (order h (eventsIn s)) entryCode
-
-        listed : map entryIn (take (length (order h (eventsIn s))) list′) ≡ order h (eventsIn s)
-        listed =
-            ap (λ (ws : List ℕ). map entryIn (take (length (order h (eventsIn s))) ws)) w
-            ∙ ap (λ (ws : List ℕ). map entryIn ws) (take-at (entriesOf s) (drop (length (entriesOf s)) list) (length (order h (eventsIn s))) count)
-            ∙ fit-codes q
-    serial (denied number line) q o p list′ w = subst (λ (x : Ordering). SerialTrace s x list′) (sym p) (nothing number line (whole (denied number line) q))
-
--- Demand 3, for every byte sequence that marking accepts, with guards: what is said of its order and what then stands in the order
--- list are what `Demand3` demands. The answer o and the list are those that are promised of a whole trace.
-pub demand-3-bytes : (s list scratch : List ℕ) (o : Ordering) (list′ scratch′ : List ℕ) → Given (orderingOf s list scratch) (entriesOf s) list scratch o list′ scratch′
-    → markedOf s ≡ accepted → traceOf s .guards .given ≡ true → lentShort list scratch ≡ false → SerialTrace s o list′
-demand-3-bytes s list scratch o list′ scratch′ c a g e =
-    serial s a g list scratch e (denial (traceOf s .head) (guardOf (traceOf s .guards .locks)) (eventsIn s)) refl o (c .answers ∙ said s a g list scratch e) list′
-    (c .lists ∙ ap (λ (x : Ordering). cond (ordered x) (entriesOf s ++ drop (length (entriesOf s)) list) list) (said s a g list scratch e))
-
--- of `ordering::order_trace`
-pub demand-3-ordered : (s list scratch : List ℕ) (r : Outcome) (list′ scratch′ : List ℕ) → OrdersTrace s list scratch r list′ scratch′
-    → markedOf s ≡ accepted → traceOf s .guards .given ≡ true → lentShort list scratch ≡ false → SerialTrace s (r .ordering) list′
-demand-3-ordered s list scratch r list′ scratch′ c a g e = demand-3-bytes s list scratch (r .ordering) list′ scratch′ (c .gives) a g e
+  -- Demand 3: with guards, what is given for the trace is an order or a denial, as demanded.
+  pub demand-3-given : g .given ≡ true → (list scratch : List ℕ) (o : Ordering) (list′ scratch′ : List ℕ)
+      → Given (answerFor h g events) (entriesFor h events) list scratch o list′ scratch′ → SerialOrder h g events o list′
+  demand-3-given w list scratch o list′ scratch′ c =
+      let said = judged h g events w in
+      subst (λ (x : Ordering). SerialOrder h g events x list′) (sym (c .answers ∙ said))
+      (serial (denial h guard events) refl list list′ (c .lists ∙ ap (λ (x : Ordering). cond (ordered x) (over (entriesFor h events) list) list) said))

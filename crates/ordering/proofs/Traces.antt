@@ -1,195 +1,210 @@
--- A whole trace: the row that marking hands back holds its events, and the answer for the row is the answer for the bytes.
-use Prim.Native.Nat.{ℕ, zero, suc, _+_, _≤_, _<_}
+-- A whole trace: marking hands back its head and the records of its events, and what is given for these is what is given for the bytes.
+use Prim.Native.Nat.{ℕ, _≤_}
 use native.Mathlib.Omega.{arith}
-use native.Mathlib.Nat.{suc-ne-zero}
 use mathlib.Core.Path.{_≡_, refl, sym, ap, _∙_, subst}
-use mathlib.Core.Bool.{Bool, true, false, not, cond, _&&_, _||_}
-use mathlib.Core.List.{List, [], _∷_, map, reverse, reverseAux}
-use lib.Dec.{T, eqb, ltb}
-use lib.ListN.{length, take}
-use lib.Seq.{length-take-le}
-use borrow.Author.Tests.{le-ltb}
+use mathlib.Core.Bool.{Bool, true, false, cond}
+use mathlib.Core.List.{List, map}
+use lib.IntN.{ℤ}
+use lib.ListN.{length, take, drop, length-map, length-append}
+use lib.Seq.{take-at}
 use Rattle.rules.specs.declared.Event.{Event}
 use Rattle.rules.specs.declared.Counts.{Counts}
-use Rattle.rules.specs.Limits.{full, lineAfter, allowed, declared}
-use Rattle.rules.specs.Rules.{verdict, Accepted, Marked, accepted, refused, unless, wordsOf}
-use Rattle.rules.proofs.Laws.{passed, accepted-last, accepted-before}
-use Rattle.events.specs.declared.Reading.{Reading}
-use Rattle.events.specs.declared.Reading.the-variants as reading
-use Rattle.events.specs.Events.{eventOf}
-use Rattle.trace.specs.declared.Verdict.{Verdict as Finding}
-use Rattle.trace.specs.declared.Verdict.the-variants as finding
-use Rattle.trace.specs.declared.Trace.{Trace}
+use Rattle.rules.specs.declared.Verdict.the-variants.{Accepted, Refused}
+use Rattle.rules.specs.Limits.{full, orderShort}
+use Rattle.rules.specs.Rules.{Marked, accepted, refused, told, onMarked}
+use Rattle.decimal.specs.Text.{over}
 use Rattle.trace.specs.declared.Guards.{Guards}
-use Rattle.trace.specs.Trace.{traceOf, refusal, refusedLine}
-use Rattle.records.specs.Records.{rowEvents, rowOf}
-use Rattle.records.proofs.RowLaws.{row-length}
-use Rattle.marking.specs.declared.Verdict.{Verdict as Said}
-use Rattle.marking.specs.declared.Ran.{Ran}
-use Rattle.marking.specs.Marking.{onEvent, markLines, linesIn, behind, markedOf, pastOf, eventsIn, reported, numberIn, countIn, caseOf, markedRan, Marks}
-use Rattle.marking.proofs.Whole.{past-clean, found-allowed}
-use Rattle.marking.proofs.Rows.{past-few, row-is}
-use Rattle.sections.specs.Refusals.{denial}
+use Rattle.trace.specs.Trace.{traceOf}
+use Rattle.records.specs.Records.{packed, valueIn, rowEvents}
+use Rattle.marking.specs.declared.Marking.{Marking}
+use Rattle.marking.specs.Marking.{markedOf, eventsIn, readIn, acceptedOf, refusedWith, markingOf, Marks}
+use Rattle.marking.proofs.Whole.{read-is, head-allowed, events-marked, events-numbered}
+use Rattle.serial.specs.Lists.{All}
+use Rattle.sections.specs.Demand3.{AcceptedTrace}
 use Rattle.sections.specs.Order.{order}
-use Rattle.sections.specs.Entries.{entryCode}
+use Rattle.sections.specs.Entries.{entryCode, entryIn}
+use Rattle.sections.proofs.Demand3.{room}
 use Rattle.ordering.specs.declared.Ordering.{Ordering}
-use Rattle.ordering.specs.declared.Ordering.the-variants.{NoGuards, Lent, NoTrace}
+use Rattle.ordering.specs.declared.Ordering.the-variants.{Ordered, NoOrder}
 use Rattle.ordering.specs.declared.Outcome.{Outcome}
-use Rattle.ordering.specs.Parts.{Fits}
-use Rattle.ordering.specs.Answer.{lentShort, allDeclared, noTrace, guardOf, answerOf, answer, entries, ordered, Given}
-use Rattle.ordering.specs.Traces.{onMarked, orderingOf, entriesOf, OrdersTrace}
+use Rattle.ordering.specs.Answer.{guardOf, answerFor, entriesFor, Given}
+use Rattle.ordering.specs.Traces.{orderingOf, entriesOf, SerialTrace, OrdersTrace}
+use Rattle.ordering.specs.Computed.Parts.{Fits}
+use Rattle.state.proofs.Kept.{up-to-full}
+use Rattle.ordering.proofs.Rows.{packed-fits, packed-events}
+use Rattle.ordering.proofs.Answering.{untouched, Fit, answered-fit}
+use Rattle.ordering.proofs.Serial.{Small, small, fit-codes, demand-3-given}
 
--- ---- a refused trace has a number
+-- ---- a trace that is accepted
 
-abbrev Numbered : Marked → Type 0
-Numbered accepted = Unit {0}
-Numbered (refused number line) = number ≡ 0 → ⊥
+module _ (s : List ℕ) (a : markedOf full s ≡ accepted) where
+  abbrev head : Counts
+  head = traceOf full s .head
 
-numbered-unless : (n line : ℕ) (m : Marked) → Numbered m → Numbered (unless n line m)
-numbered-unless zero line m g = g
-numbered-unless (suc n) line m g = suc-ne-zero n
+  abbrev guards : Guards
+  guards = traceOf full s .guards
 
-numbered-lines : (h : Counts) (es : List Event) (ls : List (List ℕ)) → Numbered (markLines full h es ls)
-unfolding markLines
-numbered-lines h es [] = tt
-numbered-lines h es (l ∷ ls) = by (eventOf (lineAfter (length es)) l) (λ e. numbered-lines h (e ∷ es) ls)
-  where
-    by : (r : Reading) → ((e : Event) → Numbered (markLines full h (e ∷ es) ls)) → Numbered (onEvent r (refused 4 (lineAfter (length es))) (λ e. unless (verdict full h es e) (lineAfter (length es)) (markLines full h (e ∷ es) ls)))
-    by (reading.Of e) g = numbered-unless (verdict full h es e) (lineAfter (length es)) (markLines full h (e ∷ es) ls) (g e)
-    by reading.NoEvent g = suc-ne-zero 3
-    by reading.Undeclared g = suc-ne-zero 3
+  abbrev events : List Event
+  events = eventsIn full s
 
-numbered-behind : (v : Finding) (m : Marked) → Numbered m → Numbered (behind v m)
-numbered-behind finding.Found m g = g
-numbered-behind finding.TooLong m g = suc-ne-zero 0
-numbered-behind finding.WrongTrailer m g = suc-ne-zero 1
-numbered-behind finding.WrongHead m g = suc-ne-zero 2
-numbered-behind finding.WrongGuards m g = suc-ne-zero 5
+  pub accepted-trace : AcceptedTrace full (traceOf full s .head) (eventsIn full s)
+  accepted-trace = record { limits = up-to-full; head = head-allowed s a; marked = events-marked s }
 
-numbered : (s : List ℕ) → Numbered (markedOf s)
-unfolding markedOf
-numbered s = numbered-behind (traceOf s .verdict) (markLines full (traceOf s .head) [] (linesIn s)) (numbered-lines (traceOf s .head) [] (linesIn s))
+  pub ordering-is : orderingOf full s ≡ answerFor (traceOf full s .head) (traceOf full s .guards) (eventsIn full s)
+  unfolding orderingOf
+  ordering-is = ap (λ (k : Marked). onMarked k (answerFor head guards events) NoOrder) a
 
-passes : (m : Marked) → Numbered m → numberIn m ≡ 0 → m ≡ accepted
-passes accepted g e = refl
-passes (refused number line) g e = absurd (g e)
+  -- where it has an order: how many entries, and that each is small and read back from its number
+  pub record Entries (c : ℕ) : Type 0 where
+    pub count : c ≡ length (entriesOf full s)
+    pub few : length (entriesOf full s) ≤ 1000
+    pub small : All Small (order (traceOf full s .head) (eventsIn full s))
+    pub back : map entryIn (entriesOf full s) ≡ order (traceOf full s .head) (eventsIn full s)
 
-stops : (m : Marked) → (numberIn m ≡ 0 → ⊥) → (A : Type 0) (a b : A) → onMarked m a b ≡ b
-stops accepted z A a b = absurd (z refl)
-stops (refused number line) z A a b = refl
-
--- ---- an accepted trace is found
-
-abbrev Refused : Marked → Type 0
-Refused accepted = ⊥
-Refused (refused n l) = Unit {0}
-
-found-behind : (v : Finding) (m : Marked) → behind v m ≡ accepted → v ≡ finding.Found
-found-behind finding.Found m a = refl
-found-behind finding.TooLong m a = absurd (subst Refused a tt)
-found-behind finding.WrongTrailer m a = absurd (subst Refused a tt)
-found-behind finding.WrongHead m a = absurd (subst Refused a tt)
-found-behind finding.WrongGuards m a = absurd (subst Refused a tt)
-
-pub accepted-found : (s : List ℕ) → markedOf s ≡ accepted → traceOf s .verdict ≡ finding.Found
-unfolding markedOf
-accepted-found s a = found-behind (traceOf s .verdict) (markLines full (traceOf s .head) [] (linesIn s)) a
-
-pub accepted-allowed : (s : List ℕ) → markedOf s ≡ accepted → allowed full (traceOf s .head) ≡ true
-accepted-allowed s a = found-allowed s (accepted-found s a)
-
--- ---- its events are declared
-
-all-known : (h : Counts) (es rest : List Event) → T (Accepted full h es) → allDeclared h rest ≡ true → allDeclared h (reverseAux es rest) ≡ true
-all-known h [] rest a k = k
-all-known h (e ∷ es) rest a k =
-    let p = passed full h (wordsOf es) e (omega arith) (unfold verdict in accepted-last full h e es a) .known in
-    all-known h es (e ∷ rest) (accepted-before full h e es a) (unfold allDeclared in rw (p, k) refl)
-
-pub events-known : (s : List ℕ) → allDeclared (traceOf s .head) (eventsIn s) ≡ true
-unfolding eventsIn
-events-known s = all-known (traceOf s .head) (pastOf s) [] (past-clean s) (unfold allDeclared in refl)
+  pub entries-few : (c : ℕ) → orderingOf full s ≡ Ordered c → Entries c
+  unfolding entriesOf
+  entries-few c q = by (answered-fit head guards events c (sym ordering-is ∙ q))
+    where
+      by : Fit head guards events c → Entries c
+      by f =
+          let n : length (entriesFor head events) ≡ length (order head events) = unfold entriesFor in length-map (order head events) entryCode in
+          record {
+            count = f .count ∙ sym n;
+            few = omega (arith, room full head (guardOf (guards .locks)) events accepted-trace (f .undenied), n);
+            small = small full head guards events accepted-trace (f .undenied);
+            back = fit-codes full head guards events accepted-trace (f .undenied);
+          }
 
 -- ---- what marking hands back
 
-module _ (s : List ℕ) (ran : Ran) (m : Marks s ran) where
-  pub is-accepted : numberIn (reported (ran .verdict)) ≡ 0 → markedOf s ≡ accepted
-  is-accepted z = passes (markedOf s) (numbered s) (sym (ap numberIn (m .said)) ∙ z)
+module _ (s whats : List ℕ) (values : List ℤ) (m : Marking) (whats′ : List ℕ) (values′ : List ℤ) (k : Marks s whats values m whats′ values′) where
+  pub is-accepted : m .verdict ≡ Accepted → markedOf full s ≡ accepted
+  is-accepted q = sym (k .says) ∙ ap told q
 
-  pub is-refused : (numberIn (reported (ran .verdict)) ≡ 0 → ⊥) → (A : Type 0) (a b : A) → onMarked (markedOf s) a b ≡ b
-  is-refused z A a b = stops (markedOf s) (λ e. z (ap numberIn (m .said) ∙ e)) A a b
+  module _ (a : markedOf full s ≡ accepted) where
+    marking-is : m ≡ acceptedOf full s
+    unfolding markingOf
+    marking-is = k .gives ∙ ap (λ (x : Marked). onMarked x (acceptedOf full s) (refusedWith x)) a
 
-  module _ (a : markedOf s ≡ accepted) where
-    pub count-is : countIn (ran .verdict) ≡ length (pastOf s)
-    count-is = ap (λ (r : Ran). countIn (r .verdict)) (m .ran) ∙ (unfold markedRan in ap (λ (k : Marked). countIn (caseOf (length (pastOf s)) k)) a)
+    pub head-is : m .head ≡ traceOf full s .head
+    unfolding acceptedOf
+    head-is = ap (λ (x : Marking). x .head) marking-is
 
-    pub row-kept : ran .row ≡ rowOf (pastOf s)
-    row-kept = ap (λ (r : Ran). r .row) (m .ran) ∙ (unfold markedRan in refl)
+    pub guards-are : m .guards ≡ traceOf full s .guards
+    unfolding acceptedOf
+    guards-are = ap (λ (x : Marking). x .guards) marking-is
 
-    pub count-low : countIn (ran .verdict) ≤ 2000
-    count-low = subst (λ (n : ℕ). n ≤ 2000) (sym count-is) (past-few s)
+    pub count-is : m .events ≡ length (eventsIn full s)
+    unfolding acceptedOf
+    count-is = ap (λ (x : Marking). x .events) marking-is
 
-    -- the records that are ordered
-    abbrev front : List ℕ
-    front = take (countIn (ran .verdict)) (ran .row)
+    -- a row with the records of all events at its front
+    module _ {X : Type 0} (f : Event → X) (row row′ : List X) (q : row′ ≡ over (map f (readIn full s)) row) where
+      laid : row′ ≡ over (map f (eventsIn full s)) row
+      laid = q ∙ ap (λ (es : List Event). over (map f es) row) (read-is s a)
 
-    front-is : front ≡ take (length (pastOf s)) (rowOf (pastOf s))
-    front-is = λ i. take (count-is i) (row-kept i)
+      as-many : length (map f (eventsIn full s)) ≡ m .events
+      as-many = length-map (eventsIn full s) f ∙ sym count-is
 
-    front-events : rowEvents front ≡ eventsIn s
-    front-events = ap rowEvents front-is ∙ row-is s (accepted-allowed s a)
+      front : take (m .events) row′ ≡ map f (eventsIn full s)
+      front = ap (take (m .events)) laid ∙ take-at (map f (eventsIn full s)) (drop (length (map f (eventsIn full s))) row) (m .events) as-many
 
-    front-few : length front ≤ 2000
-    front-few = subst (λ (ws : List ℕ). length ws ≤ 2000) (sym front-is)
-        (omega (arith, past-few s, length-take-le (length (pastOf s)) (rowOf (pastOf s)) (omega (arith, past-few s, row-length (pastOf s)))))
+      front-low : m .events ≤ length row′
+      front-low =
+          let n = ap length laid ∙ length-append (map f (eventsIn full s)) (drop (length (map f (eventsIn full s))) row) in
+          omega (arith, n, as-many)
 
-    is-trace : noTrace (traceOf s .head) front ≡ false
-    unfolding noTrace
-    is-trace = rw (accepted-allowed s a, le-ltb 2000 (length front) front-few, front-events, events-known s) refl
+    -- the rows hold so many
+    pub rows-hold : (m .events ≤ length whats′) × (m .events ≤ length values′)
+    rows-hold = (front-low packed whats whats′ (k .keeps), front-low valueIn values values′ (k .beside))
 
-    -- the row is a trace's
-    pub front-fits : (t : Trace) → t ≡ traceOf s → (n : ℕ) → n ≡ countIn (ran .verdict) → Fits (t .head) (take n (ran .row))
-    front-fits t e n q = subst (λ (m : ℕ). Fits (t .head) (take m (ran .row))) (sym q) (subst (λ (x : Trace). Fits (x .head) front) (sym e)
-        (record { head = accepted-allowed s a; few = front-few; known = ap (λ (es : List Event). allDeclared (traceOf s .head) es) front-events ∙ events-known s }))
+    -- the rows that are ordered are its records
+    abbrev At : (Counts → Guards → List ℕ → List ℤ → Type 0) → Type 0
+    At P = P (m .head) (m .guards) (take (m .events) whats′) (take (m .events) values′)
 
-    answer-is : (list scratch : List ℕ) → answer (traceOf s .head) (traceOf s .guards) front list scratch ≡ orderingOf s list scratch
-    unfolding answer orderingOf
-    answer-is list scratch = rw (is-trace, front-events, a) refl
+    abbrev Of : (Counts → Guards → List ℕ → List ℤ → Type 0) → Type 0
+    Of P = P (traceOf full s .head) (traceOf full s .guards) (map packed (eventsIn full s)) (map valueIn (eventsIn full s))
 
-    entries-are : entries (traceOf s .head) front ≡ entriesOf s
-    unfolding entries entriesOf
-    entries-are = ap (λ (es : List Event). map entryCode (order (traceOf s .head) es)) front-events
+    same : (P : Counts → Guards → List ℕ → List ℤ → Type 0) → At P ≡ Of P
+    same P = λ i. P (head-is i) (guards-are i) (front packed whats whats′ (k .keeps) i) (front valueIn values values′ (k .beside) i)
 
-    -- the answer for the row is the answer for the bytes
-    pub gives-trace : (t : Trace) (list scratch list′ scratch′ : List ℕ) (o : Ordering) → t ≡ traceOf s
-        → Given (answer (t .head) (t .guards) front list scratch) (entries (t .head) front) list scratch o list′ scratch′
-        → OrdersTrace s list scratch (record { ran = ran; ordering = o }) list′ scratch′
-    gives-trace t list scratch list′ scratch′ o e g = record {
-      marks = m;
-      gives = subst (λ (x : Ordering). Given x (entriesOf s) list scratch o list′ scratch′) (answer-is list scratch)
-          (subst (λ (xs : List ℕ). Given (answer (traceOf s .head) (traceOf s .guards) front list scratch) xs list scratch o list′ scratch′) entries-are
-          (subst (λ (x : Trace). Given (answer (x .head) (x .guards) front list scratch) (entries (x .head) front) list scratch o list′ scratch′) e g));
+    pub front-fits : Fits (m .head) (take (m .events) whats′) (take (m .events) values′)
+    front-fits =
+        subst (λ (X : Type 0). X) (sym (same (λ h g ws xs. Fits h ws xs)))
+        (packed-fits (traceOf full s .head) (eventsIn full s) (accepted-trace s a) (events-numbered s))
+
+    -- what is given for them is what is given for the bytes
+    pub front-given : (list scratch : List ℕ) (o : Ordering) (list′ scratch′ : List ℕ)
+        → Given (answerFor (m .head) (m .guards) (rowEvents (m .head) (take (m .events) whats′) (take (m .events) values′))) (entriesFor (m .head) (rowEvents (m .head) (take (m .events) whats′) (take (m .events) values′))) list scratch o list′ scratch′
+        → Given (orderingOf full s) (entriesOf full s) list scratch o list′ scratch′
+    unfolding entriesOf
+    front-given list scratch o list′ scratch′ v =
+        subst (λ (x : Ordering). Given x (entriesFor h es) list scratch o list′ scratch′) (sym (ordering-is s a))
+        (subst (λ (l : List Event). Given (answerFor h g l) (entriesFor h l) list scratch o list′ scratch′) (packed-events h es (accepted-trace s a) (events-numbered s))
+        (subst (λ (X : Type 0). X) (same (λ h g ws xs. Given (answerFor h g (rowEvents h ws xs)) (entriesFor h (rowEvents h ws xs)) list scratch o list′ scratch′)) v))
+      where
+        h : Counts
+        h = traceOf full s .head
+
+        g : Guards
+        g = traceOf full s .guards
+
+        es : List Event
+        es = eventsIn full s
+
+-- ---- the three outcomes
+
+module _ (s whats : List ℕ) (values : List ℤ) (list scratch : List ℕ) where
+  abbrev short : Bool
+  short = orderShort full (length list) (length scratch)
+
+  -- 7: nothing is touched
+  pub orders-nothing : (m : Marking) → short ≡ true → m ≡ refusedWith (refused 7 0)
+      → OrdersTrace s whats values list scratch (record { marking = m; ordering = NoOrder }) whats values list scratch
+  orders-nothing m z q = record {
+    says = ap (λ (x : Marking). told (x .verdict)) q ∙ sym (ap (λ b. cond b (refused 7 0) (markedOf full s)) z);
+    marks = q ∙ sym (ap (λ b. cond b (refusedWith (refused 7 0)) (markingOf full s)) z);
+    keeps = sym (ap (λ b. cond b whats (over (map packed (readIn full s)) whats)) z);
+    beside = sym (ap (λ b. cond b values (over (map valueIn (readIn full s)) values)) z);
+    gives = untouched (cond short NoOrder (orderingOf full s)) (entriesOf full s) list scratch NoOrder (ap (λ b. cond b NoOrder (orderingOf full s)) z) refl;
+  }
+
+  module _ (z : short ≡ false) (m : Marking) (whats′ : List ℕ) (values′ : List ℤ) (k : Marks s whats values m whats′ values′) where
+    -- what is given for the bytes
+    marked-given : (o : Ordering) (list′ scratch′ : List ℕ) → Given (orderingOf full s) (entriesOf full s) list scratch o list′ scratch′
+        → OrdersTrace s whats values list scratch (record { marking = m; ordering = o }) whats′ values′ list′ scratch′
+    marked-given o list′ scratch′ v = record {
+      says = k .says ∙ sym (ap (λ b. cond b (refused 7 0) (markedOf full s)) z);
+      marks = k .gives ∙ sym (ap (λ b. cond b (refusedWith (refused 7 0)) (markingOf full s)) z);
+      keeps = k .keeps ∙ sym (ap (λ b. cond b whats (over (map packed (readIn full s)) whats)) z);
+      beside = k .beside ∙ sym (ap (λ b. cond b values (over (map valueIn (readIn full s)) values)) z);
+      gives = subst (λ (x : Ordering). Given x (entriesOf full s) list scratch o list′ scratch′) (sym (ap (λ b. cond b NoOrder (orderingOf full s)) z)) v;
     }
 
-  -- a refused trace leaves the lists as they are
-  pub gives-none : (list scratch : List ℕ) (o : Ordering) → (numberIn (reported (ran .verdict)) ≡ 0 → ⊥)
-      → o ≡ cond (ltb (length list) 1000 || ltb (length scratch) 2000) Lent NoTrace
-      → OrdersTrace s list scratch (record { ran = ran; ordering = o }) list scratch
-  gives-none list scratch o z e = record { marks = m; gives = untouched }
-    where
-      none : orderingOf s list scratch ≡ cond (lentShort list scratch) Lent NoTrace
-      none = unfold orderingOf in ap (λ (x : Ordering). cond (lentShort list scratch) Lent x) (is-refused z Ordering _ NoTrace)
+    -- of the order of a refused trace nothing is said
+    pub orders-refused : (number line : ℕ) → m .verdict ≡ Refused number line
+        → OrdersTrace s whats values list scratch (record { marking = m; ordering = NoOrder }) whats′ values′ list scratch
+    unfolding orderingOf
+    orders-refused number line q =
+        marked-given NoOrder list scratch
+        (untouched (orderingOf full s) (entriesOf full s) list scratch NoOrder
+        (ap (λ (x : Marked). onMarked x (answerFor (traceOf full s .head) (traceOf full s .guards) (eventsIn full s)) NoOrder) (sym (k .says) ∙ ap told q))
+        refl)
 
-      silent : (b : Bool) → ordered (cond b Lent NoTrace) ≡ false
-      silent true = refl
-      silent false = refl
+    pub orders-accepted : m .verdict ≡ Accepted → (o : Ordering) (list′ scratch′ : List ℕ)
+        → Given (answerFor (m .head) (m .guards) (rowEvents (m .head) (take (m .events) whats′) (take (m .events) values′))) (entriesFor (m .head) (rowEvents (m .head) (take (m .events) whats′) (take (m .events) values′))) list scratch o list′ scratch′
+        → OrdersTrace s whats values list scratch (record { marking = m; ordering = o }) whats′ values′ list′ scratch′
+    orders-accepted q o list′ scratch′ v =
+        marked-given o list′ scratch′ (front-given s whats values m whats′ values′ k (is-accepted s whats values m whats′ values′ k q) list scratch o list′ scratch′ v)
 
-      quiet : ordered (orderingOf s list scratch) ≡ false
-      quiet = ap ordered none ∙ silent (lentShort list scratch)
+-- ---- demand 3
 
-      untouched : Given (orderingOf s list scratch) (entriesOf s) list scratch o list scratch
-      untouched = record {
-        answers = e ∙ sym (none ∙ (unfold lentShort in refl));
-        lists = rw quiet refl;
-        zeros = rw quiet refl;
-      }
+-- What is given for an accepted trace with guards, where enough is lent, is what demand 3 asks for.
+pub demand-3-ordered : (s whats : List ℕ) (values : List ℤ) (list scratch : List ℕ) (r : Outcome) (whats′ : List ℕ) (values′ : List ℤ) (list′ scratch′ : List ℕ)
+    → OrdersTrace s whats values list scratch r whats′ values′ list′ scratch′ → markedOf full s ≡ accepted → traceOf full s .guards .given ≡ true
+    → orderShort full (length list) (length scratch) ≡ false → SerialTrace full s (r .ordering) list′
+demand-3-ordered s whats values list scratch r whats′ values′ list′ scratch′ o a w z =
+    demand-3-given full (traceOf full s .head) (traceOf full s .guards) (eventsIn full s) (accepted-trace s a) w list scratch (r .ordering) list′ scratch′
+    (subst (λ (x : Ordering). Given x (entriesFor (traceOf full s .head) (eventsIn full s)) list scratch (r .ordering) list′ scratch′)
+    (ap (λ b. cond b NoOrder (orderingOf full s)) z ∙ ordering-is s a)
+    (unfold entriesOf in o .gives))

@@ -3,38 +3,36 @@ use Prim.Native.Nat.{ℕ}
 use mathlib.Core.Path.{_≡_}
 use mathlib.Core.Bool.{cond}
 use mathlib.Core.List.{List, map}
+use lib.IntN.{ℤ}
 use lib.ListN.{length}
-use Rattle.rules.specs.Rules.{Marked, accepted, refused}
+use Rattle.rules.specs.Limits.{Limits, full, orderShort}
+use Rattle.rules.specs.Rules.{refused, told, onMarked}
+use Rattle.decimal.specs.Text.{over}
+use Rattle.records.specs.Records.{packed, valueIn}
 use Rattle.trace.specs.Trace.{traceOf}
-use Rattle.marking.specs.declared.Ran.{Ran}
-use Rattle.marking.specs.Marking.{markedOf, eventsIn, Marks}
-use Rattle.sections.specs.Refusals.{denial}
-use Rattle.sections.specs.Order.{order}
-use Rattle.sections.specs.Entries.{entryCode}
+use Rattle.marking.specs.Marking.{markedOf, eventsIn, refusedWith, markingOf, readIn}
 use Rattle.ordering.specs.declared.Ordering.{Ordering}
-use Rattle.ordering.specs.declared.Ordering.the-variants.{NoGuards, Lent, NoTrace}
+use Rattle.ordering.specs.declared.Ordering.the-variants.{NoOrder}
 use Rattle.ordering.specs.declared.Outcome.{Outcome}
-use Rattle.ordering.specs.Answer.{lentShort, guardOf, answerOf, Given}
+use Rattle.ordering.specs.Answer.{answerFor, entriesFor, Given}
+use Rattle.ordering.specs.Serial.{SerialOrder}
 
--- a where a trace is accepted, b where it is refused
-abbrev pub onMarked : {A : Type 0} → Marked → A → A → A
-onMarked accepted a b = a
-onMarked (refused number line) a b = b
-
--- Then, with guards, 20 and 21 event by event, 22 last. A refused trace has no order.
-unfoldable pub orderingOf : List ℕ → List ℕ → List ℕ → Ordering
-orderingOf s list scratch =
-    cond (lentShort list scratch) Lent
-    (onMarked (markedOf s)
-    (cond (traceOf s .guards .given)
-    (answerOf (denial (traceOf s .head) (guardOf (traceOf s .guards .locks)) (eventsIn s)) (length (order (traceOf s .head) (eventsIn s)))) NoGuards)
-    NoTrace)
+-- Then, with guards, 20 and 21 event by event, 22 last. Of the order of a refused trace nothing is said.
+unfoldable pub orderingOf : Limits → List ℕ → Ordering
+orderingOf m s = onMarked (markedOf m s) (answerFor (traceOf m s .head) (traceOf m s .guards) (eventsIn m s)) NoOrder
 
 -- the entries of the order
-unfoldable pub entriesOf : List ℕ → List ℕ
-entriesOf s = map entryCode (order (traceOf s .head) (eventsIn s))
+unfoldable pub entriesOf : Limits → List ℕ → List ℕ
+entriesOf m s = entriesFor (traceOf m s .head) (eventsIn m s)
 
--- a whole trace, marked and ordered
-pub record OrdersTrace (s list scratch : List ℕ) (r : Outcome) (list′ scratch′ : List ℕ) : Type 0 where
-  pub marks : Marks s (r .ran)
-  pub gives : Given (orderingOf s list scratch) (entriesOf s) list scratch (r .ordering) list′ scratch′
+-- Demand 3, of the answer o and the numbers in the order list after it: the sequential memory is fed these numbers and the trace's events
+abbrev pub SerialTrace : Limits → List ℕ → Ordering → List ℕ → Type 0
+SerialTrace m s o list′ = SerialOrder (traceOf m s .head) (traceOf m s .guards) (eventsIn m s) o list′
+
+-- a whole trace, marked and ordered; 7 before all, and nothing is touched after it
+pub record OrdersTrace (s whats : List ℕ) (values : List ℤ) (list scratch : List ℕ) (r : Outcome) (whats′ : List ℕ) (values′ : List ℤ) (list′ scratch′ : List ℕ) : Type 0 where
+  pub says : told (r .marking .verdict) ≡ cond (orderShort full (length list) (length scratch)) (refused 7 0) (markedOf full s)
+  pub marks : r .marking ≡ cond (orderShort full (length list) (length scratch)) (refusedWith (refused 7 0)) (markingOf full s)
+  pub keeps : whats′ ≡ cond (orderShort full (length list) (length scratch)) whats (over (map packed (readIn full s)) whats)
+  pub beside : values′ ≡ cond (orderShort full (length list) (length scratch)) values (over (map valueIn (readIn full s)) values)
+  pub gives : Given (cond (orderShort full (length list) (length scratch)) NoOrder (orderingOf full s)) (entriesOf full s) list scratch (r .ordering) list′ scratch′

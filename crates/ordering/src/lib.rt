@@ -1,46 +1,33 @@
-// The serial order of a trace's critical sections, or what denies it one. The events are a row of records. The first pass asks
-// 20 to 22 and writes nothing lent; the second lists the sections.
+// The serial order of a trace's critical sections, or what denies it one. The events are two rows of records, of a trace that is accepted. The
+// first pass asks 20 to 22 and writes nothing lent; the second lists the sections.
 ghost use mathlib.Core.Path.{_≡_};
-ghost use mathlib.Core.Bool.{Bool, true, false, cond, not, _||_};
-ghost use lib.Dec.{ltb};
-ghost use Prim.Native.Nat.{ℕ, _≤_, _<_, _+_, _*_};
-ghost use lib.ListN.{length, replicate};
-ghost use Rattle.rules.specs.Limits.{lineAfter};
+ghost use mathlib.Core.Bool.{false, cond};
+ghost use Prim.Native.Nat.{_≤_, _<_, _+_};
+ghost use lib.ListN.{length, replicate, take};
+ghost use Rattle.rules.specs.Limits.{full, orderShort};
 ghost use Rattle.rules.specs.Rules.{some};
 ghost use Rattle.records.specs.Records.{rowEvents};
 ghost use Rattle.sections.specs.Refusals.{denial};
+ghost use Rattle.ordering.specs.Answer.{guardOf, answerFor, entriesFor, Given};
+ghost use Rattle.ordering.specs.Computed.Parts.{Fits, guardCell, brokenBy, levelAfter, pendingAfter, lateAfter, busyAfter, heldIn, pendingIn, unfinishedIn, toldAs, codeOf, firstAfter, atTop, atEvent, topAfter, Filled, unlessZero, nonzero, Put, Orders, Written};
 ghost use Rattle.ordering.specs.Traces.{OrdersTrace};
-ghost use Rattle.ordering.specs.declared.Ordering.the-variants.{Lent, NoTrace};
-ghost use Rattle.ordering.specs.Answer.{allDeclared, guardOf, answer, entries, Given};
-ghost use Rattle.ordering.specs.Parts.{Fits, guardCell, brokenBy, levelAfter, pendingAfter, lateAfter, busyAfter, heldIn, pendingIn, unfinishedIn, toldAs, codeOf, firstAfter, atTop, atEvent, topAfter, Filled, unlessZero, nonzero, Put, Orders, Written};
-use marking::Ran;
+use marking::Marking;
 use rules::Counts;
+use rules::Value;
+use rules::Verdict;
 use trace::Guards;
 
-// What is said of the order of a row's events. The number and the line of each case are in specs/Answer.antt.
+// What is said of the order of a trace. `answerOf` in specs/Answer.antt has the values of each case.
 pub enum Ordering {
-    // The order is given, and has so many sections.
+    // An order, with so many sections.
     Ordered(usize),
     // Denied: 20 to 22, and the line.
     Unordered(u8, usize),
-    NoGuards,
-    Lent,
-    NoTrace,
+    // Nothing is said of an order: there are no guards, or the trace is refused.
+    NoOrder,
 }
 
-// A trace marked, and what is said of its order.
-pub struct Outcome {
-    pub ran: Ran,
-    pub ordering: Ordering,
-}
-
-// 20 to 22: nothing, or the number and the line.
-pub enum Denied {
-    Fit,
-    By(u8, usize),
-}
-
-// ---- what one event does, k its letter
+// ---- What one event does, k its letter.
 
 fn guard_cell(t: usize, g: usize) -> usize
     requires { ⌜ t < 8 ⌝ }
@@ -49,45 +36,54 @@ fn guard_cell(t: usize, g: usize) -> usize
     if g < 16 { t * 16 + g } else { 0 }
 }
 
-fn broken(k: u64, under: bool, late: bool) -> u8
+fn broken(k: u8, under: bool, late: bool) -> u8
     ensures { λ r. ⌜ r ≡ brokenBy k under late ⌝ }
 {
-    if ((k == 85) | ((k == 65) | (k == 66))) & !under {
+    if ((k == b'U') | ((k == b'A') | (k == b'B'))) & !under {
         return 20;
     }
-    if (k == 75) & late {
+    if (k == b'K') & late {
         return 21;
     }
     0
 }
 
-fn level_after(x: u32, k: u64) -> u32
-    requires { ⌜ 0 < x ⌝ }
+fn level_after(x: u32, k: u8) -> u32
     requires { ⌜ x < 65536 ⌝ }
     ensures { λ r. ⌜ r ≡ levelAfter x k ⌝ }
 {
-    if k == 75 {
+    if k == b'K' {
         return x + 1;
     }
-    if k == 78 { x - 1 } else { x }
+    if k != b'N' {
+        return x;
+    }
+    if 0 < x { x - 1 } else { 0 }
 }
 
-fn pending_after(b: bool, k: u64) -> bool
+fn pending_after(b: bool, k: u8) -> bool
     ensures { λ r. ⌜ r ≡ pendingAfter b k ⌝ }
 {
-    (k == 80) | (b & !(k == 66))
+    (k == b'P') | (b & !(k == b'B'))
 }
 
-fn late_after(b: bool, k: u64, any: bool) -> bool
+fn late_after(b: bool, k: u8, any: bool) -> bool
     ensures { λ r. ⌜ r ≡ lateAfter b k any ⌝ }
 {
-    if k == 78 { any } else { b }
+    if k == b'N' { any } else { b }
 }
 
-fn busy_after(b: bool, k: u64, any: bool) -> bool
+fn busy_after(b: bool, k: u8, any: bool) -> bool
     ensures { λ r. ⌜ r ≡ busyAfter b k any ⌝ }
 {
-    if (k == 75) | (k == 78) { any } else { b }
+    if (k == b'K') | (k == b'N') { any } else { b }
+}
+
+// n, where it is asked for.
+fn span(asked: bool, n: usize) -> usize
+    ensures { λ r. ⌜ r ≡ cond asked n 0 ⌝ }
+{
+    if asked { n } else { 0 }
 }
 
 // Whether thread t holds one of the first n locks.
@@ -99,7 +95,7 @@ fn holds_some(levels: &[u32; 128], t: usize, n: usize) -> bool
     let mut any = false;
     let mut l: usize = 0;
     while l < n {
-        any = (4096 < levels[t * 16 + l]) | any;
+        any = (0 < levels[t * 16 + l]) | any;
         l += 1;
     }
     any
@@ -138,127 +134,105 @@ fn unfinished(h: Counts, levels: &[u32; 128], pending: &[bool; 128]) -> bool
     any
 }
 
-// Whether each event of the row is declared.
-fn all_declared(h: Counts, row: &[u64]) -> bool
-    requires { ⌜ length (now row) ≤ 2000 ⌝ }
-    ensures { λ r. ⌜ r ≡ allDeclared h (rowEvents (now (row .entry))) ⌝ }
+// The first pass: 20 and 21 event by event, 22 last. Accepted where nothing denies an order.
+fn deny(h: Counts, locks: [usize; 16], what: &[u32], value: &[Value]) -> Verdict
+    requires { ⌜ Fits h (now what) (now value) ⌝ }
+    ensures { λ r. ⌜ r ≡ toldAs (denial h (guardOf locks) (rowEvents h (now (what .entry)) (now (value .entry)))) ⌝ }
 {
-    let mut i: usize = 0;
-    while i < row.len() {
-        let e = records::unpack(row[i], i + 3);
-        if !rules::is_declared(h, e) {
-            return false;
-        }
-        i += 1;
-    }
-    true
-}
-
-// The first pass: 20 and 21 event by event, 22 last.
-fn deny(h: Counts, locks: [usize; 16], row: &[u64]) -> Denied
-    requires { ⌜ Fits h (now row) ⌝ }
-    ensures { λ r. ⌜ r ≡ toldAs (denial h (guardOf locks) (rowEvents (now (row .entry)))) ⌝ }
-{
-    let mut levels: [u32; 128] = [4096; 128];
+    let mut levels: [u32; 128] = [0; 128];
     let mut pending: [bool; 128] = [false; 128];
     let mut late: [bool; 8] = [false; 8];
     let mut i: usize = 0;
-    while i < row.len() {
-        let w = row[i];
+    while i < what.len() {
+        let w = what[i];
         let k = records::letter_in(w);
         let t = records::thread_in(w);
         let p = records::place_in(w);
         let g = locks[p];
         let guard = guard_cell(t, g);
-        let under = (g < 16) & (4096 < levels[guard]);
+        let under = (g < 16) & (0 < levels[guard]);
         let was = late[t];
         let rule = broken(k, under, was);
         if rule != 0 {
-            return Denied::By(rule, i + 3);
+            let line = rules::line_after(h, i as u32);
+            return Verdict::Refused(rule, line);
         }
         let c = t * 16 + p;
         let level = levels[c];
         let owed = pending[c];
         levels[c] = level_after(level, k);
         pending[c] = pending_after(owed, k);
-        let end = machine::span(k == 78, h.locks);
+        let end = span(k == b'N', h.locks);
         let any = holds_some(&levels, t, end);
         late[t] = late_after(was, k, any);
         i += 1;
     }
     if unfinished(h, &levels, &pending) {
-        return Denied::By(22, i + 3);
+        let line = rules::line_after(h, i as u32);
+        return Verdict::Refused(22, line);
     }
-    Denied::Fit
+    Verdict::Accepted
 }
 
-// ---- the sections
-
-// The line of the event after i events.
-fn line_after(i: usize) -> u64
-    requires { ⌜ i ≤ 2000 ⌝ }
-    ensures { λ r. ⌜ r ≡ lineAfter i ⌝ }
-{
-    i as u64 + 3
-}
+// ---- The sections.
 
 // A section as one number.
-fn encode(t: usize, a: u64, b: u64) -> u64
+fn encode(t: usize, a: usize, b: usize) -> u64
     requires { ⌜ t < 8 ⌝ }
     requires { ⌜ a < 4096 ⌝ }
     requires { ⌜ b < 4096 ⌝ }
     ensures { λ r. ⌜ r ≡ codeOf t a b ⌝ }
 {
-    t as u64 * 16777216 + b * 4096 + a
+    t as u64 * 16777216 + b as u64 * 4096 + a as u64
 }
 
-fn first_after(k: u64, busy: bool, a: u64, b: u64) -> u64
+fn first_after(k: u8, busy: bool, a: usize, b: usize) -> usize
     ensures { λ r. ⌜ r ≡ firstAfter k busy a b ⌝ }
 {
-    if (k == 75) & !busy { b } else { a }
+    if (k == b'K') & !busy { b } else { a }
 }
 
-fn at_top(k: u64, busy: bool, x: u64, code: u64) -> u64
+fn at_top(k: u8, busy: bool, x: u64, code: u64) -> u64
     ensures { λ r. ⌜ r ≡ atTop k busy x code ⌝ }
 {
     if !busy {
         return x;
     }
-    if k == 75 { 0 } else { code }
+    if k == b'K' { 0 } else { code }
 }
 
-fn at_event(k: u64, code: u64) -> u64
+fn at_event(k: u8, code: u64) -> u64
     ensures { λ r. ⌜ r ≡ atEvent k code ⌝ }
 {
-    if k == 75 { code } else { 0 }
+    if k == b'K' { code } else { 0 }
 }
 
-fn top_after(k: u64, i: usize, j: usize) -> usize
+fn top_after(k: u8, i: usize, j: usize) -> usize
     ensures { λ r. ⌜ r ≡ topAfter k i j ⌝ }
 {
-    if k == 75 { i } else { j }
+    if k == b'K' { i } else { j }
 }
 
 // The second pass: each section at the index of its last K, 0 elsewhere.
-fn fill(h: Counts, row: &[u64], scratch: &mut [u64])
-    requires { ⌜ Fits h (now row) ⌝ }
-    requires { ⌜ 2000 ≤ length (now scratch) ⌝ }
-    ensures { λ _. ⌜ Filled h (now (row .entry)) (now (scratch .exit)) ⌝ }
+fn fill(h: Counts, what: &[u32], value: &[Value], scratch: &mut [u64])
+    requires { ⌜ Fits h (now what) (now value) ⌝ }
+    requires { ⌜ full .scratch ≤ length (now scratch) ⌝ }
+    ensures { λ _. ⌜ Filled h (now (what .entry)) (now (value .entry)) (now (scratch .exit)) ⌝ }
 {
-    let mut levels: [u32; 128] = [4096; 128];
+    let mut levels: [u32; 128] = [0; 128];
     let mut busy: [bool; 8] = [false; 8];
-    let mut first: [u64; 8] = [0; 8];
+    let mut first: [usize; 8] = [0; 8];
     let mut top: [usize; 8] = [0; 8];
     let mut i: usize = 0;
-    while i < row.len() {
-        let w = row[i];
+    while i < what.len() {
+        let w = what[i];
         let k = records::letter_in(w);
         let t = records::thread_in(w);
         let p = records::place_in(w);
         let b = busy[t];
         let j = top[t];
         let x = scratch[j];
-        let line = line_after(i);
+        let line = rules::line_after(h, i as u32);
         let a = first_after(k, b, first[t], line);
         let code = encode(t, a, line);
         scratch[j] = at_top(k, b, x, code);
@@ -268,7 +242,7 @@ fn fill(h: Counts, row: &[u64], scratch: &mut [u64])
         let c = t * 16 + p;
         let level = levels[c];
         levels[c] = level_after(level, k);
-        let end = machine::span((k == 75) | (k == 78), h.locks);
+        let end = span((k == b'K') | (k == b'N'), h.locks);
         let any = holds_some(&levels, t, end);
         busy[t] = busy_after(b, k, any);
         i += 1;
@@ -311,92 +285,97 @@ fn clear(s: &mut [u64])
     }
 }
 
-// The order of a row that nothing denies one.
-fn give(h: Counts, row: &[u64], list: &mut [u64], scratch: &mut [u64]) -> usize
-    requires { ⌜ Orders h (now row) (now list) (now scratch) ⌝ }
-    ensures { λ r. ⌜ Written (entries h (now (row .entry))) (now (list .entry)) (now (scratch .entry)) r (now (list .exit)) (now (scratch .exit)) ⌝ }
+// The order of rows that nothing denies one.
+fn give(h: Counts, what: &[u32], value: &[Value], list: &mut [u64], scratch: &mut [u64]) -> usize
+    requires { ⌜ Orders h (now what) (now value) (now list) (now scratch) ⌝ }
+    ensures { λ r. ⌜ Written (entriesFor h (rowEvents h (now (what .entry)) (now (value .entry)))) (now (list .entry)) (now (scratch .entry)) r (now (list .exit)) (now (scratch .exit)) ⌝ }
 {
-    fill(h, row, scratch);
-    let n = row.len();
+    fill(h, what, value, scratch);
+    let n = what.len();
     let c = gather(list, &scratch[..n]);
     clear(scratch);
     c
 }
 
-// The order of the events of a row that is a trace's.
-fn order_known(h: Counts, g: Guards, row: &[u64], list: &mut [u64], scratch: &mut [u64]) -> Ordering
-    requires { ⌜ Fits h (now row) ⌝ }
-    ensures { λ r. ⌜ Given (answer h g (now (row .entry)) (now (list .entry)) (now (scratch .entry))) (entries h (now (row .entry))) (now (list .entry)) (now (scratch .entry)) r (now (list .exit)) (now (scratch .exit)) ⌝ }
-{
-    if (list.len() < 1000) | (scratch.len() < 2000) {
-        return Ordering::Lent;
-    }
-    let locks = g.locks;
-    if !g.given {
-        return Ordering::NoGuards;
-    }
-    let d = deny(h, locks, row);
-    if let Denied::By(rule, line) = d {
-        return Ordering::Unordered(rule, line);
-    }
-    let c = give(h, row, list, scratch);
-    Ordering::Ordered(c)
-}
-
-// The order of a row's events, to the front of the list. Nothing lent is written unless the answer is `Ordered`.
-pub fn order_row(
+// What is said of the order of an accepted trace, and the order to the front of the list. The values are there for the contract alone.
+fn order_rows(
     h: Counts,
     g: Guards,
-    row: &[u64],
+    what: &[u32],
+    value: &[Value],
     list: &mut [u64],
     scratch: &mut [u64],
 ) -> Ordering
-    ensures { λ r. ⌜ Given (answer h g (now (row .entry)) (now (list .entry)) (now (scratch .entry))) (entries h (now (row .entry))) (now (list .entry)) (now (scratch .entry)) r (now (list .exit)) (now (scratch .exit)) ⌝ }
+    requires { ⌜ Fits h (now what) (now value) ⌝ }
+    requires { ⌜ orderShort full (length (now list)) (length (now scratch)) ≡ false ⌝ }
+    ensures { λ r. ⌜ Given (answerFor h g (rowEvents h (now (what .entry)) (now (value .entry)))) (entriesFor h (rowEvents h (now (what .entry)) (now (value .entry)))) (now (list .entry)) (now (scratch .entry)) r (now (list .exit)) (now (scratch .exit)) ⌝ }
 {
-    if (list.len() < 1000) | (scratch.len() < 2000) {
-        return Ordering::Lent;
+    if !g.given {
+        return Ordering::NoOrder;
     }
-    if !rules::is_allowed(h) {
-        return Ordering::NoTrace;
+    let locks = g.locks;
+    let d = deny(h, locks, what, value);
+    if let Verdict::Refused(rule, line) = d {
+        return Ordering::Unordered(rule, line);
     }
-    if 2000 < row.len() {
-        return Ordering::NoTrace;
-    }
-    if !all_declared(h, row) {
-        return Ordering::NoTrace;
-    }
-    order_known(h, g, row, list, scratch)
+    let c = give(h, what, value, list, scratch);
+    Ordering::Ordered(c)
 }
 
-// What is said of the order of a trace that is refused.
-fn refuse(list: usize, scratch: usize) -> Ordering
-    ensures { λ r. ⌜ r ≡ cond (ltb list 1000 || ltb scratch 2000) Lent NoTrace ⌝ }
+// The same of the first n records of two rows.
+fn order_front(
+    h: Counts,
+    g: Guards,
+    n: usize,
+    what: &[u32],
+    value: &[Value],
+    list: &mut [u64],
+    scratch: &mut [u64],
+) -> Ordering
+    requires { ⌜ (n ≤ length (now what)) × (n ≤ length (now value)) ⌝ }
+    requires { ⌜ Fits h (take n (now what)) (take n (now value)) ⌝ }
+    requires { ⌜ orderShort full (length (now list)) (length (now scratch)) ≡ false ⌝ }
+    ensures { λ r. ⌜ Given (answerFor h g (rowEvents h (take n (now (what .entry))) (take n (now (value .entry))))) (entriesFor h (rowEvents h (take n (now (what .entry))) (take n (now (value .entry))))) (now (list .entry)) (now (scratch .entry)) r (now (list .exit)) (now (scratch .exit)) ⌝ }
 {
-    if (list < 1000) | (scratch < 2000) {
-        return Ordering::Lent;
-    }
-    Ordering::NoTrace
+    order_rows(h, g, &what[..n], &value[..n], list, scratch)
 }
 
-// Marks a whole trace and orders its sections.
-pub fn order_trace(bytes: &[u8], list: &mut [u64], scratch: &mut [u64]) -> Outcome
-    ensures { λ r. ⌜ OrdersTrace (now (bytes .entry)) (now (list .entry)) (now (scratch .entry)) r (now (list .exit)) (now (scratch .exit)) ⌝ }
+// A trace marked, and what is said of its order.
+pub struct Outcome {
+    pub marking: Marking,
+    pub ordering: Ordering,
+}
+
+// Marks a whole trace and orders its sections. 7 before all. The rows are room for the records of its events.
+pub fn order_trace(
+    bytes: &[u8],
+    what: &mut [u32; 2000],
+    value: &mut [Value; 2000],
+    list: &mut [u64],
+    scratch: &mut [u64],
+) -> Outcome
+    ensures { λ r. ⌜ OrdersTrace (now (bytes .entry)) (now (what .entry)) (now (value .entry)) (now (list .entry)) (now (scratch .entry)) r (now (what .exit)) (now (value .exit)) (now (list .exit)) (now (scratch .exit)) ⌝ }
 {
-    let t = trace::find(bytes);
-    let ran = marking::mark(bytes);
-    let said = ran.verdict;
-    if marking::number_of(said) != 0 {
-        let none = refuse(list.len(), scratch.len());
+    if rules::is_order_short(list.len(), scratch.len()) {
+        let seven = marking::refuse(7, 0);
+        let nothing = Ordering::NoOrder;
         return Outcome {
-            ran: ran,
-            ordering: none,
+            marking: seven,
+            ordering: nothing,
         };
     }
-    let n = marking::count_of(said);
-    let row = ran.row;
-    let given = order_known(t.head, t.guards, &row[..n], list, scratch);
+    let m = marking::mark(bytes, what, value);
+    let said = m.verdict;
+    if let Verdict::Refused(_, _) = said {
+        let nothing = Ordering::NoOrder;
+        return Outcome {
+            marking: m,
+            ordering: nothing,
+        };
+    }
+    let given = order_front(m.head, m.guards, m.events, what, value, list, scratch);
     Outcome {
-        ran: ran,
+        marking: m,
         ordering: given,
     }
 }

@@ -1,18 +1,29 @@
 // Writes the listing of a trace to standard output.
 ghost use mathlib.Core.Path.{_≡_};
 ghost use lib.ListN.{length};
+ghost use Rattle.rules.specs.Limits.{full};
 ghost use Rattle.report.specs.Report.{listingOf};
 use libc::STDOUT_FILENO;
+use rules::Value;
 
 // The listing of a trace; its length.
 pub fn print_listing(s: &[u8]) -> usize
-    ensures { λ r. ⌜ r ≡ length (listingOf (now (s .entry))) ⌝ }
+    ensures { λ r. ⌜ r ≡ length (listingOf full (now (s .entry))) ⌝ }
 {
+    let mut what: [u32; 2000] = [0; 2000];
+    let mut values: [Value; 2000] = [0; 2000];
     let mut out = [0u8; 32768];
     let mut list = [0u64; 1000];
     let mut scratch = [0u64; 2000];
-    let whole = report::mark_lent(s, 2000, &mut out, &mut list, &mut scratch);
-    let r = whole.report;
+    let r = report::mark_lent(
+        s,
+        2000,
+        &mut what,
+        &mut values,
+        &mut out,
+        &mut list,
+        &mut scratch,
+    );
     let n = r.written;
     io::write_all(STDOUT_FILENO, &out[..n]);
     n

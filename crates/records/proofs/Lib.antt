@@ -1,3 +1,4 @@
 pub mod RecordLaws
-pub mod LetterLaws
 pub mod RowLaws
+pub mod HeldMarks
+pub mod MarkedRows

@@ -1,106 +1,208 @@
--- Records read back: the parts of a record, and the event that it stands for.
-use Prim.Native.Nat.{ℕ, zero, suc, _+_, _*_, _-_, _/_, _%_, _≤_, _<_, _^_}
+-- The parts of a record are read back, and what they say of its event.
+use Prim.Native.Nat.{ℕ, _+_, _*_, _/_, _%_, _≤_, _<_}
+use native.Mathlib.Decide.{ℕ-discrete, decLt}
 use native.Mathlib.Omega.{arith}
 use mathlib.Core.Path.{_≡_, refl, sym, ap, _∙_, subst}
-use mathlib.Core.Bool.{Bool, true, false, cond}
-use lib.Dec.{T}
-use lib.IntN.{ℤ, pos, negsuc, natAbs}
-use borrow.Author.Tests.{le-ltb}
-use Rattle.decimal.specs.Text.{isNegative}
-use mir.Syntax.{w32}
-use mir.Val.{SFits, ofZ, toZ, sel}
-use mir.ValLaws.{toZ-ofZ, toZ-fits}
+use mathlib.Core.Bool.{Bool, true, false, cond, _||_, or-assoc, or-false}
+use mathlib.Core.Option.{none, some}
+use lib.Dec.{eqb}
+use lib.IntN.{ℤ, pos}
+use borrow.Author.Tests.{eq-eqb, ne-eqb, lt-ltb, le-ltb}
 use Rattle.rules.specs.declared.Event.{Event}
 use Rattle.rules.specs.declared.Kind.{Kind}
 use Rattle.rules.specs.declared.Kind.the-variants.{Use, Assign, Load, Store, Read, Write, Lock, Unlock, PrescientStore, PrescientAssign}
-use Rattle.rules.specs.Events.{letter, place, value}
-use Rattle.rules.specs.Limits.{valueWidth}
-use Rattle.records.specs.Records.{packed, letterIn, threadIn, placeIn, valueIn, kindWith, unpacked}
+use Rattle.rules.specs.declared.Named.{Named}
+use Rattle.rules.specs.declared.Named.the-variants as named
+use Rattle.rules.specs.Events.{A, B, K, L, N, P, R, S, U, W, letter, place, value, isLetter, isLockLetter, kindOf, eventWith}
+use Rattle.records.specs.Records.{held, whatOf, packed, valueIn, letterIn, threadIn, placeIn, eventIn, orRead, unpacked}
 
--- the bits of a value are 32
-pub bits-small : (x : ℤ) → SFits valueWidth x → ofZ valueWidth x < 4294967296
-bits-small (pos n) f = omega (arith, f .sfits)
-bits-small (negsuc n) f = omega arith
+-- ---- numbers held at 255
 
--- the bits of -1 - m
-pub turned : (x : ℤ) (m : ℕ) → x ≡ negsuc m → 4294967295 - m ≡ ofZ valueWidth x
-turned x m e = (omega arith) ∙ sym (ap (λ (z : ℤ). ofZ valueWidth z) e)
+pub held-same : (n : ℕ) → n < 255 → held n ≡ n
+unfolding held
+held-same n h = rw (lt-ltb n 255 h)
 
--- the bits of a value that is not negative
-pub plain : (x : ℤ) → SFits valueWidth x → isNegative x ≡ false → (natAbs x ≡ ofZ valueWidth x) × (natAbs x < 4294967296)
-plain (pos n) f e = (refl, omega (arith, f .sfits))
-plain (negsuc n) f e = absurd (subst T e tt)
+pub held-over : (n : ℕ) → 255 ≤ n → held n ≡ 255
+unfolding held
+held-over n h = rw (le-ltb n 255 h)
 
--- the value with bits of the upper half
-pub high : (n : ℕ) → n < 4294967296 → 2147483648 ≤ n → negsuc (4294967295 - n) ≡ toZ valueWidth n
-high n a b = ap negsuc (omega arith) ∙ sym (ap (λ (q : Bool). sel q (pos n) (negsuc (4294967296 - suc n))) (le-ltb n 2147483648 b))
+pub held-low : (n : ℕ) → held n < 256
+held-low n = go (decLt n 255)
+  where
+    go : Dec (n < 255) → held n < 256
+    go (yes q) = omega (arith, held-same n q)
+    go (no q) = let z : 255 ≤ n = omega (arith, q) in omega (arith, held-over n z)
 
-pub value-fits : (w : ℕ) → SFits valueWidth (valueIn w)
-unfolding valueIn
-value-fits w = toZ-fits valueWidth (w % 4294967296) (record { fits = omega arith })
+-- ---- the parts read back
 
--- the parts of a word that is put together
-pub word-letter : (k t p b : ℕ) → t < 8 → p < 16 → b < 4294967296 → letterIn (k * 549755813888 + t * 68719476736 + p * 4294967296 + b) ≡ k
-unfolding letterIn
-word-letter k t p b ht hp hb = omega arith
+pub letter-back : (k t p : ℕ) → k < 256 → letterIn (whatOf k t p) ≡ k
+unfolding letterIn whatOf
+letter-back k t p h =
+    let a = held-low t in
+    let b = held-low p in
+    let q : (k * 65536 + held t * 256 + held p) / 65536 ≡ k = omega arith in
+    rw (q, lt-ltb k 256 h)
 
-pub word-thread : (k t p b : ℕ) → t < 8 → p < 16 → b < 4294967296 → threadIn (k * 549755813888 + t * 68719476736 + p * 4294967296 + b) ≡ t
-unfolding threadIn
-word-thread k t p b ht hp hb =
-    let q : (k * 549755813888 + t * 68719476736 + p * 4294967296 + b) / 68719476736 ≡ k * 8 + t = omega arith in
-    ap (λ (n : ℕ). n % 8) q ∙ omega arith
+pub thread-back : (k t p : ℕ) → threadIn (whatOf k t p) ≡ held t
+unfolding threadIn whatOf
+thread-back k t p =
+    let a = held-low t in
+    let b = held-low p in
+    let q : (k * 65536 + held t * 256 + held p) / 256 ≡ k * 256 + held t = omega arith in
+    ap (λ (n : ℕ). n % 256) q ∙ omega arith
 
-pub word-place : (k t p b : ℕ) → t < 8 → p < 16 → b < 4294967296 → placeIn (k * 549755813888 + t * 68719476736 + p * 4294967296 + b) ≡ p
-unfolding placeIn
-word-place k t p b ht hp hb =
-    let q : (k * 549755813888 + t * 68719476736 + p * 4294967296 + b) / 4294967296 ≡ (k * 8 + t) * 16 + p = omega arith in
-    ap (λ (n : ℕ). n % 16) q ∙ omega arith
+pub place-back : (k t p : ℕ) → placeIn (whatOf k t p) ≡ held p
+unfolding placeIn whatOf
+place-back k t p =
+    let b = held-low p in
+    omega arith
 
-pub word-value : (k t p b : ℕ) → t < 8 → p < 16 → b < 4294967296 → valueIn (k * 549755813888 + t * 68719476736 + p * 4294967296 + b) ≡ toZ valueWidth b
-unfolding valueIn
-word-value k t p b ht hp hb =
-    let q : (k * 549755813888 + t * 68719476736 + p * 4294967296 + b) % 4294967296 ≡ b = omega arith in
-    ap (λ (n : ℕ). toZ valueWidth n) q
+-- ---- the kind with a letter
 
--- each kind is the one with its letter
-kind-back : (k : Kind) → kindWith (letter k) (place k) (value k) ≡ k
-unfolding kindWith
-kind-back (Use v x) = refl
-kind-back (Assign v x) = refl
-kind-back (Load v x) = refl
-kind-back (Store v x) = refl
-kind-back (Read v x) = refl
-kind-back (Write v x) = refl
-kind-back (Lock l) = refl
-kind-back (Unlock l) = refl
-kind-back (PrescientStore v x) = refl
-kind-back (PrescientAssign v x) = refl
+-- the kind that a letter names: it has this letter, place and value
+pub record Kinded (k p : ℕ) (x : ℤ) (n : Named) : Type 0 where
+  pub named : n ≡ named.Of (orRead n p x)
+  pub letters : letter (orRead n p x) ≡ k
+  pub places : place (orRead n p x) ≡ p
+  pub values : value (orRead n p x) ≡ cond (isLockLetter k) (pos 0) x
 
--- an event of a thread and a variable or lock that a record has room for is read back
-pub packed-back : (e : Event) → e .thread < 8 → place (e .kind) < 16 → SFits valueWidth (value (e .kind)) → unpacked (e .line) (packed e) ≡ e
-unfolding unpacked packed
-packed-back e ht hp f =
-    let t : e .thread % 8 ≡ e .thread = omega arith in
-    let p : place (e .kind) % 16 ≡ place (e .kind) = omega arith in
-    let a : e .thread % 8 < 8 = omega arith in
-    let b : place (e .kind) % 16 < 16 = omega arith in
-    let c = bits-small (value (e .kind)) f in
-    let el = word-letter (letter (e .kind)) (e .thread % 8) (place (e .kind) % 16) (ofZ valueWidth (value (e .kind))) a b c in
-    let et = word-thread (letter (e .kind)) (e .thread % 8) (place (e .kind) % 16) (ofZ valueWidth (value (e .kind))) a b c ∙ t in
-    let ep = word-place (letter (e .kind)) (e .thread % 8) (place (e .kind) % 16) (ofZ valueWidth (value (e .kind))) a b c ∙ p in
-    let ev = word-value (letter (e .kind)) (e .thread % 8) (place (e .kind) % 16) (ofZ valueWidth (value (e .kind))) a b c ∙ toZ-ofZ valueWidth (value (e .kind)) f in
-    (λ i. record { thread = et i; line = e .line; kind = kindWith (el i) (ep i) (ev i) })
-    ∙ ap (λ (k : Kind). record { thread = e .thread; line = e .line; kind = k }) (kind-back (e .kind))
+-- a letter's kind, or none where it is no letter
+abbrev Right : ℕ → ℕ → ℤ → Named → Bool → Type 0
+Right k p x n true = Kinded k p x n
+Right k p x n false = n ≡ named.Nothing
 
--- a letter is a byte
-pub letter-small : (k : Kind) (n : ℕ) → n ≡ letter k → n < 128
-letter-small (Use v x) n e = omega (arith, e)
-letter-small (Assign v x) n e = omega (arith, e)
-letter-small (Load v x) n e = omega (arith, e)
-letter-small (Store v x) n e = omega (arith, e)
-letter-small (Read v x) n e = omega (arith, e)
-letter-small (Write v x) n e = omega (arith, e)
-letter-small (Lock l) n e = omega (arith, e)
-letter-small (Unlock l) n e = omega (arith, e)
-letter-small (PrescientStore v x) n e = omega (arith, e)
-letter-small (PrescientAssign v x) n e = omega (arith, e)
+pick : (k c p : ℕ) (x : ℤ) (n rest : Named) (b : Bool) → Kinded c p x n → Right k p x rest b → Right k p x (cond (eqb k c) n rest) (eqb k c || b)
+pick k c p x n rest b y z = go (ℕ-discrete k c)
+  where
+    go : Dec (k ≡ c) → Right k p x (cond (eqb k c) n rest) (eqb k c || b)
+    go (yes q) = rw (eq-eqb k c q) (subst (λ (j : ℕ). Kinded j p x n) (sym q) y)
+    go (no q) = rw (ne-eqb k c q) z
+
+right : (k p : ℕ) (x : ℤ) → Right k p x (kindOf k p x) (isLetter k)
+unfolding kindOf isLetter isLockLetter
+right k p x =
+    simp or-assoc
+    (pick k U p x (named.Of (Use p x)) _ _ (record { named = refl; letters = refl; places = refl; values = refl })
+    (pick k A p x (named.Of (Assign p x)) _ _ (record { named = refl; letters = refl; places = refl; values = refl })
+    (pick k L p x (named.Of (Load p x)) _ _ (record { named = refl; letters = refl; places = refl; values = refl })
+    (pick k S p x (named.Of (Store p x)) _ _ (record { named = refl; letters = refl; places = refl; values = refl })
+    (pick k R p x (named.Of (Read p x)) _ _ (record { named = refl; letters = refl; places = refl; values = refl })
+    (pick k W p x (named.Of (Write p x)) _ _ (record { named = refl; letters = refl; places = refl; values = refl })
+    (pick k K p x (named.Of (Lock p)) _ _ (record { named = refl; letters = refl; places = refl; values = refl })
+    (pick k N p x (named.Of (Unlock p)) _ _ (record { named = refl; letters = refl; places = refl; values = refl })
+    (pick k P p x (named.Of (PrescientStore p x)) _ _ (record { named = refl; letters = refl; places = refl; values = refl })
+    (subst (Right k p x (cond (eqb k B) (named.Of (PrescientAssign p x)) named.Nothing)) (or-false (eqb k B)) (pick k B p x (named.Of (PrescientAssign p x)) named.Nothing false (record { named = refl; letters = refl; places = refl; values = refl }) refl)))))))))))
+
+pub kinded : (k p : ℕ) (x : ℤ) → isLetter k ≡ true → Kinded k p x (kindOf k p x)
+kinded k p x e = subst (Right k p x (kindOf k p x)) e (right k p x)
+
+pub no-kind : (k p : ℕ) (x : ℤ) → isLetter k ≡ false → kindOf k p x ≡ named.Nothing
+no-kind k p x e = subst (Right k p x (kindOf k p x)) e (right k p x)
+
+-- ---- the event of a record
+
+pub event-some : (line w : ℕ) (x : ℤ) → isLetter (letterIn w) ≡ true → eventIn line w x ≡ some (unpacked line w x)
+unfolding eventIn unpacked
+event-some line w x e = ap (λ (n : Named). eventWith line (threadIn w) n) (kinded (letterIn w) (placeIn w) x e .named)
+
+pub event-none : (line w : ℕ) (x : ℤ) → isLetter (letterIn w) ≡ false → eventIn line w x ≡ none
+unfolding eventIn
+event-none line w x e = ap (λ (n : Named). eventWith line (threadIn w) n) (no-kind (letterIn w) (placeIn w) x e)
+
+pub thread-is : (line w : ℕ) (x : ℤ) → unpacked line w x .thread ≡ threadIn w
+unfolding unpacked
+thread-is line w x = refl
+
+pub line-is : (line w : ℕ) (x : ℤ) → unpacked line w x .line ≡ line
+unfolding unpacked
+line-is line w x = refl
+
+module _ (line w : ℕ) (x : ℤ) (e : isLetter (letterIn w) ≡ true) where
+  pub letter-is : letter (unpacked line w x .kind) ≡ letterIn w
+  unfolding unpacked
+  letter-is = kinded (letterIn w) (placeIn w) x e .letters
+
+  pub place-is : place (unpacked line w x .kind) ≡ placeIn w
+  unfolding unpacked
+  place-is = kinded (letterIn w) (placeIn w) x e .places
+
+  -- a lock event has no value
+  pub value-is : value (unpacked line w x .kind) ≡ cond (isLockLetter (letterIn w)) (pos 0) x
+  unfolding unpacked
+  value-is = kinded (letterIn w) (placeIn w) x e .values
+
+-- ---- the record of an event
+
+-- the event with its thread, and its variable or lock, held at 255
+unfoldable pub heldKind : Kind → Kind
+heldKind (Use v x) = Use (held v) x
+heldKind (Assign v x) = Assign (held v) x
+heldKind (Load v x) = Load (held v) x
+heldKind (Store v x) = Store (held v) x
+heldKind (Read v x) = Read (held v) x
+heldKind (Write v x) = Write (held v) x
+heldKind (Lock l) = Lock (held l)
+heldKind (Unlock l) = Unlock (held l)
+heldKind (PrescientStore v x) = PrescientStore (held v) x
+heldKind (PrescientAssign v x) = PrescientAssign (held v) x
+
+unfoldable pub heldEvent : Event → Event
+heldEvent e = record { thread = held (e .thread); line = e .line; kind = heldKind (e .kind) }
+
+-- what holding keeps of a kind
+pub record Holds (k : Kind) : Type 0 where
+  pub kind : kindOf (letter k) (held (place k)) (value k) ≡ named.Of (heldKind k)
+  pub letters : letter (heldKind k) ≡ letter k
+  pub places : place (heldKind k) ≡ held (place k)
+  pub low : letter k < 256
+  pub small : place k < 255 → heldKind k ≡ k
+
+pub holds : (k : Kind) → Holds k
+unfolding heldKind kindOf
+holds (Use v x) = record { kind = refl; letters = refl; places = refl; low = omega arith; small = λ h. ap (λ (p : ℕ). Use p x) (held-same v h) }
+holds (Assign v x) = record { kind = refl; letters = refl; places = refl; low = omega arith; small = λ h. ap (λ (p : ℕ). Assign p x) (held-same v h) }
+holds (Load v x) = record { kind = refl; letters = refl; places = refl; low = omega arith; small = λ h. ap (λ (p : ℕ). Load p x) (held-same v h) }
+holds (Store v x) = record { kind = refl; letters = refl; places = refl; low = omega arith; small = λ h. ap (λ (p : ℕ). Store p x) (held-same v h) }
+holds (Read v x) = record { kind = refl; letters = refl; places = refl; low = omega arith; small = λ h. ap (λ (p : ℕ). Read p x) (held-same v h) }
+holds (Write v x) = record { kind = refl; letters = refl; places = refl; low = omega arith; small = λ h. ap (λ (p : ℕ). Write p x) (held-same v h) }
+holds (Lock l) = record { kind = refl; letters = refl; places = refl; low = omega arith; small = λ h. ap (λ (p : ℕ). Lock p) (held-same l h) }
+holds (Unlock l) = record { kind = refl; letters = refl; places = refl; low = omega arith; small = λ h. ap (λ (p : ℕ). Unlock p) (held-same l h) }
+holds (PrescientStore v x) = record { kind = refl; letters = refl; places = refl; low = omega arith; small = λ h. ap (λ (p : ℕ). PrescientStore p x) (held-same v h) }
+holds (PrescientAssign v x) = record { kind = refl; letters = refl; places = refl; low = omega arith; small = λ h. ap (λ (p : ℕ). PrescientAssign p x) (held-same v h) }
+
+module _ (e : Event) where
+  abbrev k : Kind
+  k = e .kind
+
+  pub packed-letter : letterIn (packed e) ≡ letter k
+  unfolding packed
+  packed-letter = letter-back (letter k) (e .thread) (place k) (holds k .low)
+
+  pub packed-thread : threadIn (packed e) ≡ held (e .thread)
+  unfolding packed
+  packed-thread = thread-back (letter k) (e .thread) (place k)
+
+  pub packed-place : placeIn (packed e) ≡ held (place k)
+  unfolding packed
+  packed-place = place-back (letter k) (e .thread) (place k)
+
+  packed-kind : kindOf (letterIn (packed e)) (placeIn (packed e)) (value k) ≡ named.Of (heldKind k)
+  packed-kind = (λ i. kindOf (packed-letter i) (packed-place i) (value k)) ∙ holds k .kind
+
+  -- an event's record gives the event back, with thread and place held
+  pub held-some : eventIn (e .line) (packed e) (valueIn e) ≡ some (heldEvent e)
+  unfolding eventIn heldEvent
+  held-some = λ i. eventWith (e .line) (packed-thread i) (packed-kind i)
+
+  pub held-unpacked : unpacked (e .line) (packed e) (valueIn e) ≡ heldEvent e
+  unfolding unpacked heldEvent
+  held-unpacked = λ i. record { thread = packed-thread i; line = e .line; kind = orRead (packed-kind i) (placeIn (packed e)) (value k) }
+
+  -- with a thread and a place below 255, as it was
+  module _ (ht : e .thread < 255) (hp : place k < 255) where
+    pub held-event : heldEvent e ≡ e
+    unfolding heldEvent
+    held-event = λ i. record { thread = held-same (e .thread) ht i; line = e .line; kind = holds k .small hp i }
+
+    pub held-back : unpacked (e .line) (packed e) (valueIn e) ≡ e
+    held-back = held-unpacked ∙ held-event

@@ -1,63 +1,71 @@
--- An event as one number, its record: the letter of its kind, three bits for the thread, four for the variable or lock, 32 for the
--- value. A record is kept at its event's place in a row, and the place gives the line.
-use Prim.Native.Nat.{ℕ, zero, suc, _+_, _*_, _/_, _%_}
+-- A record as two plain numbers: what the event is (letter, thread, variable or lock), and its value. A record is kept at its event's place in
+-- two rows, and the place gives the line.
+use Prim.Native.Nat.{ℕ, _+_, _*_, _/_, _%_}
 use mathlib.Core.Bool.{cond}
-use mathlib.Core.List.{List, [], _∷_, reverse}
-use lib.Dec.{eqb}
-use lib.IntN.{ℤ}
-use lib.ListN.{length, replicate, set}
-use mir.Val.{ofZ, toZ}
+use mathlib.Core.List.{List}
+use mathlib.Core.Option.{Option}
+use lib.Dec.{ltb}
+use lib.IntN.{ℤ, pos}
+use lib.ListN.{length, getD}
+use Rattle.rules.specs.declared.Counts.{Counts}
 use Rattle.rules.specs.declared.Event.{Event}
 use Rattle.rules.specs.declared.Kind.{Kind}
-use Rattle.rules.specs.declared.Kind.the-variants.{Use, Assign, Load, Store, Read, Write, Lock, Unlock, PrescientStore, PrescientAssign}
-use Rattle.rules.specs.Events.{U, A, L, S, W, K, N, P, B, letter, place, value}
-use Rattle.rules.specs.Limits.{valueWidth, firstLine}
+use Rattle.rules.specs.declared.Kind.the-variants.{Read}
+use Rattle.rules.specs.declared.Named.{Named}
+use Rattle.rules.specs.declared.Named.the-variants as named
+use Rattle.rules.specs.Events.{letter, place, value, kindOf, eventWith}
+use Rattle.rules.specs.Limits.{lineAfter}
+use Rattle.rules.specs.Memories.{from}
 
--- the record of an event
+-- a number held at 255, which no head declares
+unfoldable pub held : ℕ → ℕ
+held n = cond (ltb n 255) n 255
+
+-- what an event is, from its letter, thread, and variable or lock
+unfoldable pub whatOf : ℕ → ℕ → ℕ → ℕ
+whatOf k t p = k * 65536 + held t * 256 + held p
+
+-- the record of an event: what it is, and its value
 unfoldable pub packed : Event → ℕ
-packed e = letter (e .kind) * 549755813888 + (e .thread % 8) * 68719476736 + (place (e .kind) % 16) * 4294967296 + ofZ valueWidth (value (e .kind))
+packed e = whatOf (letter (e .kind)) (e .thread) (place (e .kind))
 
--- the parts of a record
+abbrev pub valueIn : Event → ℤ
+valueIn e = value (e .kind)
+
+-- the parts of a record; a number above a byte is no letter
 unfoldable pub letterIn : ℕ → ℕ
-letterIn w = w / 549755813888
+letterIn w = cond (ltb (w / 65536) 256) (w / 65536) 0
 
 unfoldable pub threadIn : ℕ → ℕ
-threadIn w = w / 68719476736 % 8
+threadIn w = w / 256 % 256
 
 unfoldable pub placeIn : ℕ → ℕ
-placeIn w = w / 4294967296 % 16
+placeIn w = w % 256
 
-unfoldable pub valueIn : ℕ → ℤ
-valueIn w = toZ valueWidth (w % 4294967296)
+-- the line of a record as an event, or none
+unfoldable pub eventIn : ℕ → ℕ → ℤ → Option Event
+eventIn line w x = eventWith line (threadIn w) (kindOf (letterIn w) (placeIn w) x)
 
--- the kind with this letter; a number that is no letter stands for a read
-unfoldable pub kindWith : ℕ → ℕ → ℤ → Kind
-kindWith k p x =
-    cond (eqb k U) (Use p x)
-    (cond (eqb k A) (Assign p x)
-    (cond (eqb k L) (Load p x)
-    (cond (eqb k S) (Store p x)
-    (cond (eqb k W) (Write p x)
-    (cond (eqb k K) (Lock p)
-    (cond (eqb k N) (Unlock p)
-    (cond (eqb k P) (PrescientStore p x)
-    (cond (eqb k B) (PrescientAssign p x)
-    (Read p x)))))))))
+-- the line of the record at place i of two rows
+unfoldable pub lineIn : Counts → List ℕ → List ℤ → ℕ → Option Event
+lineIn h ws xs i = eventIn (lineAfter h i) (getD ws i 0) (getD xs i (pos 0))
 
--- the event of a record that stands for this line
-unfoldable pub unpacked : ℕ → ℕ → Event
-unpacked line w = record { thread = threadIn w; line = line; kind = kindWith (letterIn w) (placeIn w) (valueIn w) }
+-- the lines of two rows
+unfoldable pub rowLines : Counts → List ℕ → List ℤ → List (Option Event)
+rowLines h ws xs = from (lineIn h ws xs) 0 (length ws)
 
--- the events of a row's records, the first of them in this line
-unfoldable pub unpackedFrom : ℕ → List ℕ → List Event
-unpackedFrom line [] = []
-unpackedFrom line (w ∷ ws) = unpacked line w ∷ unpackedFrom (suc line) ws
+-- the same as events, where each number names a kind; another stands for a read
+abbrev pub orRead : Named → ℕ → ℤ → Kind
+orRead named.Nothing p x = Read p x
+orRead (named.Of k) p x = k
 
--- the events of a row
-unfoldable pub rowEvents : List ℕ → List Event
-rowEvents ws = unpackedFrom firstLine ws
+unfoldable pub unpacked : ℕ → ℕ → ℤ → Event
+unpacked line w x = record { thread = threadIn w; line = line; kind = orRead (kindOf (letterIn w) (placeIn w) x) (placeIn w) x }
 
--- a row of 2,000 places with the records of these events, the latest first; the others are 0
-unfoldable pub rowOf : List Event → List ℕ
-rowOf [] = replicate 2000 0
-rowOf (e ∷ es) = set (rowOf es) (length es) (packed e)
+-- the event of the record at place i of two rows
+unfoldable pub eventAt : Counts → List ℕ → List ℤ → ℕ → Event
+eventAt h ws xs i = unpacked (lineAfter h i) (getD ws i 0) (getD xs i (pos 0))
+
+-- the events of two rows
+unfoldable pub rowEvents : Counts → List ℕ → List ℤ → List Event
+rowEvents h ws xs = from (eventAt h ws xs) 0 (length ws)

@@ -1,99 +1,92 @@
 -- What is reported of a trace where no order is wanted.
-use Prim.Native.Nat.{ℕ, _≤_}
+use Prim.Native.Nat.{ℕ, _≤_, min}
 use native.Mathlib.Omega.{arith}
-use mathlib.Core.Path.{_≡_, refl, sym, ap, _∙_, subst}
-use mathlib.Core.Bool.{Bool, true, false, cond, _||_}
-use mathlib.Core.List.{List, [], _∷_, _++_, map, append-nil}
-use lib.Dec.{ltb}
+use mathlib.Core.Path.{_≡_, refl, sym, ap, _∙_}
+use mathlib.Core.Bool.{Bool, true, false}
+use mathlib.Core.List.{List, [], append-nil}
+use lib.IntN.{ℤ}
 use lib.ListN.{length, take}
-use borrow.Author.Tests.{ltb-false}
-use Rattle.rules.specs.Rules.{Marked, accepted, refused}
-use Rattle.decimal.specs.Text.{over, room, Wrote}
-use Rattle.decimal.proofs.TextLaws.{room-yes}
-use Rattle.records.specs.Records.{packed, rowOf}
-use Rattle.records.proofs.RowLaws.{row-length, row-front}
-use Rattle.marking.specs.declared.Ran.{Ran}
-use Rattle.marking.specs.Marking.{markedOf, pastOf, eventsIn, reported, numberIn, lineIn, countIn, Marks}
-use Rattle.marking.proofs.Rows.{past-few}
-use Rattle.listing.specs.Listing.{refusedLine, ended, textOf, lineRoom, writeAll, linesIn}
-use Rattle.listing.proofs.LineLaws.{wrote-as}
-use Rattle.listing.proofs.RoomEnough.{none-text, wrote-whole}
-use Rattle.ordering.specs.Traces.{onMarked}
-use Rattle.ordering.proofs.Traces.{count-is}
-use Rattle.report.specs.declared.Verdict.the-variants.{Accepted, Refused}
-use Rattle.report.specs.declared.Brief.{Brief}
-use Rattle.report.specs.Report.{memoryLines, refusalLines, briefLines, briefOf, recordsAfter, verdictFor, briefShort, briefWith, Briefs}
-use Rattle.report.proofs.Reported.{refused-is, row-is, state-lines, lines-enough, count-events}
+use Rattle.rules.specs.declared.Verdict.{Verdict}
+use Rattle.rules.specs.declared.Verdict.the-variants as verdict
+use Rattle.rules.specs.Limits.{full, lentShort}
+use Rattle.rules.specs.Rules.{accepted, refused, told}
+use Rattle.decimal.specs.Text.{ended, over, room, Wrote}
+use Rattle.records.specs.Records.{packed, valueIn}
+use Rattle.marking.specs.declared.Marking.{Marking}
+use Rattle.marking.specs.Marking.{markedOf, Marks}
+use Rattle.listing.specs.Listing.{refusedLine, lineRoom, writeAll, linesFor}
+use Rattle.listing.proofs.LineLaws.{wrote-one}
+use Rattle.listing.proofs.RoomEnough.{nothing}
+use Rattle.ordering.specs.declared.Ordering.the-variants.{NoOrder}
+use Rattle.report.specs.declared.Report.{Report}
+use Rattle.report.specs.Report.{memoryLines, briefOf, countOf, shortReport, Briefs}
+use Rattle.report.proofs.Printed.{refused-lines, accepted-lines, linesWith, memory-lines, printed}
+use Rattle.report.proofs.Reported.{lent-long, reported, marking-count, none-counted, count-few, Front, front, row-long, whats-after, values-after}
 
--- 7
-pub short-brief : (s records out : List ℕ) → briefShort (length records) (length out) ≡ true → Briefs s records out (briefWith (Refused 7 0) 0) records out
-short-brief s records out e = record { says = sym (rw e refl); fills = sym (rw e refl); prints = sym (rw e refl) }
+-- the tests of the code, together
+pub brief-short : (whats : List ℕ) (values : List ℤ) (out : List ℕ) (n : ℕ) (p b : Bool) → n ≡ min (length whats) (length values) → p ≡ lentShort full n (length out) → p ≡ b
+    → lentShort full (min (length whats) (length values)) (length out) ≡ b
+brief-short whats values out n p b en ep t = ap (λ (k : ℕ). lentShort full k (length out)) (sym en) ∙ sym ep ∙ t
 
-module _ (s records out : List ℕ) (e : briefShort (length records) (length out) ≡ false) (ran : Ran) (m : Marks s ran) where
-  -- what is lent is enough
-  record Lends : Type 0 where
-    records-long : 2000 ≤ length records
-    out-long : 32768 ≤ length out
-
-  lends : Lends
-  lends = by (ltb (length records) 2000) (ltb (length out) 32768) refl refl e
-    where
-      by : (p q : Bool) → ltb (length records) 2000 ≡ p → ltb (length out) 32768 ≡ q → p || q ≡ false → Lends
-      by false false i j z = record { records-long = ltb-false (length records) 2000 i; out-long = ltb-false (length out) 32768 j }
-      by true q i j z = absurd (let y : _≡_ {A = ℕ} 0 1 = cc in omega arith)
-      by false true i j z = absurd (let y : _≡_ {A = ℕ} 0 1 = cc in omega arith)
-
-  pub refused-brief : (number line w : ℕ) (out′ : List ℕ) → number ≡ numberIn (reported (ran .verdict)) → (number ≡ 0 → ⊥) → line ≡ lineIn (reported (ran .verdict))
-      → Wrote (room lineRoom (ended (refusedLine line number))) out w out′ → Briefs s records out (briefWith (Refused number line) w) records out′
-  refused-brief number line w out′ en z el v = record {
-    says = (λ i. briefWith (said i) (length-is i)) ∙ sym (rw e refl);
-    fills = sym (rw e (unfold recordsAfter in rw marked refl));
-    prints = v .bytes ∙ ap (λ (t : List ℕ). over t out) text ∙ sym (rw e refl);
+module _ (s whats : List ℕ) (values : List ℤ) (out : List ℕ) where
+  -- 7
+  pub short-brief : (r : Report) → lentShort full (min (length whats) (length values)) (length out) ≡ true → r ≡ shortReport → Briefs s whats values out r whats values out
+  short-brief r e q = record {
+    told-is = ap (λ (x : Report). told (x .verdict)) q ∙ sym (rw e refl);
+    says = q ∙ sym (rw e refl);
+    prints = sym (rw e refl);
+    fills = sym (rw e refl);
+    beside = sym (rw e refl);
   }
-    where
-      marked : markedOf s ≡ refused number line
-      marked = sym (m .said) ∙ refused-is (reported (ran .verdict)) (λ q. z (en ∙ q)) ∙ (λ i. refused (sym en i) (sym el i))
 
-      said : Refused number line ≡ verdictFor (length (eventsIn s)) (markedOf s)
-      said = ap (λ (k : Marked). verdictFor (length (eventsIn s)) k) (sym marked)
+  module _ (e : lentShort full (min (length whats) (length values)) (length out) ≡ false) (what : List ℕ) (value : List ℤ) (m : Marking) (what′ : List ℕ) (value′ : List ℤ) (c : Marks s what value m what′ value′) where
+    -- what is lent is enough
+    places-long : full .records ≤ min (length whats) (length values)
+    places-long = lent-long (min (length whats) (length values)) (length out) e .0
 
-      text : room lineRoom (ended (refusedLine line number)) out ≡ briefOf s
-      text = sym (room-yes lineRoom (ended (refusedLine line number)) out (omega (arith, lends .out-long)))
-          ∙ sym (append-nil (ended (refusedLine line number)))
-          ∙ (unfold briefOf briefLines refusalLines textOf in rw marked refl)
+    out-long : full .output ≤ length out
+    out-long = lent-long (min (length whats) (length values)) (length out) e .1
 
-      length-is : w ≡ length (briefOf s)
-      length-is = v .count ∙ ap length text
-
-  module _ (a : markedOf s ≡ accepted) where
-    pub count-in : countIn (ran .verdict) ≤ length (ran .row)
-    count-in = omega (arith, count-is s ran m a, past-few s, ap length (row-is s ran m), row-length (pastOf s))
-
-    pub count-lent : countIn (ran .verdict) ≤ length records
-    count-lent = omega (arith, count-is s ran m a, past-few s, lends .records-long)
-
-    pub accepted-brief : (n w : ℕ) (records′ out′ : List ℕ) → n ≡ countIn (ran .verdict) → records′ ≡ over (take n (ran .row)) records
-        → Wrote (writeAll (linesIn (ran .state))) out w out′ → Briefs s records out (briefWith (Accepted n) w) records′ out′
-    accepted-brief n w records′ out′ en er v = record {
-      says = (λ i. briefWith (said i) (length-is i)) ∙ sym (rw e refl);
-      fills = er ∙ ap (λ (ws : List ℕ). over ws records) row ∙ sym (rw e (unfold recordsAfter in rw a refl));
-      prints = whole .1 ∙ ap (λ (t : List ℕ). over t out) text ∙ sym (rw e refl);
+    -- the whole, from what is counted, printed and copied
+    briefs : (v : Verdict) (n w : ℕ) (whats′ : List ℕ) (values′ : List ℤ) (out′ : List ℕ) → told v ≡ markedOf full s → n ≡ countOf full s → (w ≡ length (briefOf full s)) × (out′ ≡ over (briefOf full s) out)
+        → whats′ ≡ over (take n what′) whats → values′ ≡ over (take n value′) values
+        → Briefs s whats values out (record { verdict = v; events = n; ordering = NoOrder; written = w }) whats′ values′ out′
+    briefs v n w whats′ values′ out′ ev en p q u = record {
+      told-is = ev ∙ sym (rw e refl);
+      says = reported s NoOrder (briefOf full s) v n NoOrder w ev en refl (p .0) ∙ sym (rw e refl);
+      prints = p .1 ∙ sym (rw e refl);
+      fills = q ∙ (λ i. over (take (en i) (c .keeps i)) whats) ∙ whats-after s what whats ∙ sym (rw e refl);
+      beside = u ∙ (λ i. over (take (en i) (c .beside i)) values) ∙ values-after s value values ∙ sym (rw e refl);
     }
+
+    pub refused-brief : (number line w : ℕ) (out′ : List ℕ) → m .verdict ≡ verdict.Refused number line → Wrote (room lineRoom (ended (refusedLine line number))) out w out′
+        → Briefs s whats values out (record { verdict = verdict.Refused number line; events = 0; ordering = NoOrder; written = w }) whats values out′
+    refused-brief number line w out′ ev v =
+        briefs (verdict.Refused number line) 0 w whats values out′ (sym k) (none-counted s number line k)
+        (unfold briefOf in printed s [] _ w out out′ (λ a. nothing) (refused-lines s [] number line k) out-long (wrote-one (refusedLine line number) out out′ w v))
+        refl refl
       where
-        said : Accepted n ≡ verdictFor (length (eventsIn s)) (markedOf s)
-        said = ap (λ (k : ℕ). Accepted k) (en ∙ count-events s ran m a) ∙ ap (λ (k : Marked). verdictFor (length (eventsIn s)) k) (sym a)
+        k : markedOf full s ≡ refused number line
+        k = sym (c .says) ∙ ap told ev
 
-        row : take n (ran .row) ≡ map packed (eventsIn s)
-        row = (λ i. take ((en ∙ count-is s ran m a) i) (row-is s ran m i)) ∙ (unfold eventsIn in row-front (pastOf s) (past-few s))
+    module _ (ev : m .verdict ≡ verdict.Accepted) where
+      marked : markedOf full s ≡ accepted
+      marked = sym (c .says) ∙ ap told ev
 
-        lines : linesIn (ran .state) ≡ memoryLines s ++ []
-        lines = state-lines s ran m a ∙ sym (append-nil (memoryLines s))
+      counted : m .events ≡ countOf full s
+      counted = marking-count s m marked (c .gives)
 
-        whole : (w ≡ length (textOf (memoryLines s ++ []))) × (out′ ≡ over (textOf (memoryLines s ++ [])) out)
-        whole = wrote-whole _ out out′ w (lines-enough s ran m a [] none-text) (lends .out-long) (wrote-as _ _ out out′ w lines v)
+      pub front-whats : Front (m .events) what′ whats
+      front-whats = front (m .events) what′ whats (row-long s packed what whats false (m .events) what′ counted (c .keeps)) (omega (arith, counted, count-few s, places-long))
 
-        text : textOf (memoryLines s ++ []) ≡ briefOf s
-        text = ap textOf (append-nil (memoryLines s)) ∙ (unfold briefOf briefLines in rw a refl)
+      pub front-values : Front (m .events) value′ values
+      front-values = front (m .events) value′ values (row-long s valueIn value values false (m .events) value′ counted (c .beside)) (omega (arith, counted, count-few s, places-long))
 
-        length-is : w ≡ length (briefOf s)
-        length-is = whole .0 ∙ ap length text
+      pub accepted-brief : (w : ℕ) (whats′ : List ℕ) (values′ : List ℤ) (out′ : List ℕ) → whats′ ≡ over (take (m .events) what′) whats → values′ ≡ over (take (m .events) value′) values
+          → Wrote (writeAll (linesFor (m .events) (m .head) (m .memories))) out w out′
+          → Briefs s whats values out (record { verdict = m .verdict; events = m .events; ordering = NoOrder; written = w }) whats′ values′ out′
+      accepted-brief w whats′ values′ out′ q u v =
+          briefs (m .verdict) (m .events) w whats′ values′ out′ (c .says) counted (unfold briefOf in printed s [] _ w out out′ (λ a. nothing) lines out-long v) q u
+        where
+          lines : linesFor (m .events) (m .head) (m .memories) ≡ linesWith s []
+          lines = memory-lines s m marked (c .gives) ∙ sym (append-nil (memoryLines full s)) ∙ accepted-lines s [] marked

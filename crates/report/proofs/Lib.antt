@@ -1,4 +1,5 @@
 pub mod Lines
+pub mod Printed
 pub mod Reported
 pub mod Briefed
-pub mod Serial
+pub mod Theorems

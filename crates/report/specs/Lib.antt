@@ -1,1 +1,3 @@
 pub mod Report
+-- what is only computed
+pub mod Computed

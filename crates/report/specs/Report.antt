@@ -1,36 +1,26 @@
 -- A whole trace: what is said of it, its records, its order and its listing, each over its bytes.
-use Prim.Native.Nat.{ℕ}
+use Prim.Native.Nat.{ℕ, min}
 use mathlib.Core.Path.{_≡_}
-use mathlib.Core.Bool.{Bool, true, false, cond, _||_}
+use mathlib.Core.Bool.{Bool, cond, _||_}
 use mathlib.Core.List.{List, [], _∷_, _++_, map}
-use lib.Dec.{ltb, leb}
-use lib.ListN.{length, take}
-use Rattle.rules.specs.declared.Event.{Event}
-use Rattle.rules.specs.declared.Counts.{Counts}
+use lib.IntN.{ℤ}
+use lib.ListN.{length}
+use Rattle.rules.specs.Limits.{Limits, full, lentShort, orderShort}
 use Rattle.rules.specs.Memories.{memory, copies}
-use Rattle.rules.specs.Rules.{Marked, accepted, refused, wordsOf}
+use Rattle.rules.specs.Rules.{wordsOf, refused, told, said, numberIn, lineIn, onMarked}
 use Rattle.decimal.specs.Text.{over}
-use Rattle.records.specs.Records.{packed, rowOf}
+use Rattle.records.specs.Records.{packed, valueIn}
 use Rattle.trace.specs.Trace.{traceOf}
-use Rattle.marking.specs.Marking.{markedOf, pastOf, eventsIn, numberIn, lineIn}
+use Rattle.marking.specs.Marking.{markedOf, pastOf, eventsIn}
 use Rattle.sections.specs.Denials.{Denial, fit, denied}
 use Rattle.sections.specs.Refusals.{denial}
 use Rattle.sections.specs.Order.{order}
-use Rattle.listing.specs.Listing.{refusedLine, unorderedLine, textOf, stateLines, sectionLines, entryLines}
+use Rattle.listing.specs.Listing.{refusedLine, unorderedLine, textOf, stateLines, sectionLines}
 use Rattle.ordering.specs.declared.Ordering.{Ordering}
-use Rattle.ordering.specs.declared.Ordering.the-variants.{Ordered, Unordered, NoGuards, Lent, NoTrace}
+use Rattle.ordering.specs.declared.Ordering.the-variants.{NoOrder}
 use Rattle.ordering.specs.Answer.{guardOf, Given}
-use Rattle.ordering.specs.Traces.{onMarked, orderingOf, entriesOf}
-use Rattle.report.specs.declared.Verdict.{Verdict}
-use Rattle.report.specs.declared.Verdict.the-variants.{Accepted, Refused}
+use Rattle.ordering.specs.Traces.{orderingOf, entriesOf}
 use Rattle.report.specs.declared.Report.{Report}
-use Rattle.report.specs.declared.Whole.{Whole}
-use Rattle.report.specs.declared.Brief.{Brief}
-
--- 7. Lent too little (line 0): records under 2,000 places, output under 32,768 bytes; where an order is wanted, order list under 1,000
--- places or scratch under 2,000.
-unfoldable pub lentShort : ℕ → ℕ → ℕ → ℕ → Bool
-lentShort records out list scratch = ltb records 2000 || (ltb out 32768 || (ltb list 1000 || ltb scratch 2000))
 
 -- ---- the listing
 
@@ -40,91 +30,79 @@ denialLines fit sections = sections
 denialLines (denied number line) sections = unorderedLine line number ∷ []
 
 -- With `G -` there are neither.
-unfoldable pub orderLines : List ℕ → List (List ℕ)
-orderLines s =
-    cond (traceOf s .guards .given)
-    (denialLines (denial (traceOf s .head) (guardOf (traceOf s .guards .locks)) (eventsIn s)) (sectionLines (order (traceOf s .head) (eventsIn s)))) []
+unfoldable pub orderLines : Limits → List ℕ → List (List ℕ)
+orderLines m s =
+    cond (traceOf m s .guards .given)
+    (denialLines (denial (traceOf m s .head) (guardOf (traceOf m s .guards .locks)) (eventsIn m s)) (sectionLines (order (traceOf m s .head) (eventsIn m s)))) []
 
 -- Events; each declared variable and its value in main memory; each usable copy.
-unfoldable pub memoryLines : List ℕ → List (List ℕ)
-memoryLines s = stateLines (length (eventsIn s)) (memory (traceOf s .head) (wordsOf (pastOf s))) (copies (traceOf s .head) (wordsOf (pastOf s)))
+unfoldable pub memoryLines : Limits → List ℕ → List (List ℕ)
+memoryLines m s = stateLines (length (eventsIn m s)) (memory (traceOf m s .head) (wordsOf (pastOf m s))) (copies (traceOf m s .head) (wordsOf (pastOf m s)))
 
 -- Otherwise only `refused line number`.
-unfoldable pub refusalLines : List ℕ → List (List ℕ)
-refusalLines s = refusedLine (lineIn (markedOf s)) (numberIn (markedOf s)) ∷ []
+unfoldable pub refusalLines : Limits → List ℕ → List (List ℕ)
+refusalLines m s = refusedLine (lineIn (markedOf m s)) (numberIn (markedOf m s)) ∷ []
 
--- where an order is wanted, each section too
-unfoldable pub listingLines : List ℕ → List (List ℕ)
-listingLines s = onMarked (markedOf s) (memoryLines s ++ orderLines s) (refusalLines s)
+-- with these lines about the order of an accepted trace
+unfoldable pub listingWith : Limits → List ℕ → List (List ℕ) → List ℕ
+listingWith m s ends = textOf (onMarked (markedOf m s) (memoryLines m s ++ ends) (refusalLines m s))
+
+-- where an order is wanted
+unfoldable pub listingOf : Limits → List ℕ → List ℕ
+listingOf m s = listingWith m s (orderLines m s)
 
 -- where no order is wanted
-unfoldable pub briefLines : List ℕ → List (List ℕ)
-briefLines s = onMarked (markedOf s) (memoryLines s) (refusalLines s)
-
-unfoldable pub listingOf : List ℕ → List ℕ
-listingOf s = textOf (listingLines s)
-
-unfoldable pub briefOf : List ℕ → List ℕ
-briefOf s = textOf (briefLines s)
-
--- the lines about an order that is given in this list
-unfoldable pub orderingLines : Ordering → List ℕ → List (List ℕ)
-orderingLines (Ordered c) list = cond (leb c (length list)) (entryLines (take c list)) []
-orderingLines (Unordered number line) list = unorderedLine line number ∷ []
-orderingLines NoGuards list = []
-orderingLines Lent list = []
-orderingLines NoTrace list = []
+unfoldable pub briefOf : Limits → List ℕ → List ℕ
+briefOf m s = listingWith m s []
 
 -- ---- records
 
 -- One record for each event line; places past the events stay untouched, and all of them after a refusal.
-unfoldable pub recordsAfter : List ℕ → List ℕ → List ℕ
-recordsAfter s records = onMarked (markedOf s) (over (map packed (eventsIn s)) records) records
+unfoldable pub recordsAfter : {X : Type 0} → Limits → List ℕ → List X → List X → List X
+recordsAfter m s records lent = onMarked (markedOf m s) (over records lent) lent
 
--- ---- the whole
+unfoldable pub whatsAfter : Limits → List ℕ → List ℕ → List ℕ
+whatsAfter m s lent = recordsAfter m s (map packed (eventsIn m s)) lent
 
--- number and line of each case
-abbrev pub told : Verdict → Marked
-told (Accepted n) = accepted
-told (Refused number line) = refused number line
+unfoldable pub valuesAfter : Limits → List ℕ → List ℤ → List ℤ
+valuesAfter m s lent = recordsAfter m s (map valueIn (eventsIn m s)) lent
 
-abbrev pub verdictFor : ℕ → Marked → Verdict
-verdictFor n accepted = Accepted n
-verdictFor n (refused number line) = Refused number line
+-- ---- what is said
 
-abbrev pub wholeWith : Verdict → Ordering → ℕ → List ℕ → ℕ → Whole
-wholeWith v o written row count = record { report = record { verdict = v; ordering = o; written = written }; row = row; count = count }
+-- how many events an accepted trace has; 0 of a refused one
+unfoldable pub countOf : Limits → List ℕ → ℕ
+countOf m s = onMarked (markedOf m s) (length (eventsIn m s)) 0
 
--- after 7
-abbrev pub shortWhole : Whole
-shortWhole = wholeWith (Refused 7 0) Lent 0 (rowOf []) 0
+-- where enough is lent: the verdict, the events, what is said of the order, and the length of the listing
+unfoldable pub reportOf : Limits → List ℕ → Ordering → List ℕ → Report
+reportOf m s o text = record { verdict = said (markedOf m s); events = countOf m s; ordering = o; written = length text }
 
--- where enough is lent, and o is said of the order
-unfoldable pub wholeOf : List ℕ → Ordering → Whole
-wholeOf s o = wholeWith (verdictFor (length (eventsIn s)) (markedOf s)) o (length (listingOf s)) (rowOf (pastOf s)) (onMarked (markedOf s) (length (eventsIn s)) 0)
+-- 7, line 0: nothing else is said
+abbrev pub shortReport : Report
+shortReport = record { verdict = said (refused 7 0); events = 0; ordering = NoOrder; written = 0 }
 
--- 7 before all: after it nothing lent is touched. So many places are lent for the records.
-pub record Reports (s : List ℕ) (places : ℕ) (out list scratch : List ℕ) (r : Whole) (out′ list′ scratch′ : List ℕ) : Type 0 where
-  pub says : r ≡ cond (lentShort places (length out) (length list) (length scratch)) shortWhole (wholeOf s (orderingOf s list scratch))
-  pub prints : out′ ≡ cond (lentShort places (length out) (length list) (length scratch)) out (over (listingOf s) out)
-  pub orders : Given (cond (lentShort places (length out) (length list) (length scratch)) Lent (orderingOf s list scratch)) (entriesOf s) list scratch (r .report .ordering) list′ scratch′
+-- ---- where an order is wanted: so many places are lent for records, and these lists for output, order list and scratch
 
--- The same with the records.
-pub record Fills (s records out list scratch : List ℕ) (r : Report) (records′ out′ list′ scratch′ : List ℕ) : Type 0 where
-  pub whole : Whole
-  pub reports : Reports s (length records) out list scratch whole out′ list′ scratch′
-  pub says : r ≡ whole .report
-  pub fills : records′ ≡ cond (lentShort (length records) (length out) (length list) (length scratch)) records (recordsAfter s records)
+abbrev pub short : Limits → ℕ → List ℕ → List ℕ → List ℕ → Bool
+short m places out list scratch = lentShort m places (length out) || orderShort m (length list) (length scratch)
 
--- ---- where no order is wanted
+-- 7 before all: after it nothing lent is touched.
+pub record Reports (s : List ℕ) (places : ℕ) (out list scratch : List ℕ) (r : Report) (out′ list′ scratch′ : List ℕ) : Type 0 where
+  pub told-is : told (r .verdict) ≡ cond (short full places out list scratch) (refused 7 0) (markedOf full s)
+  pub says : r ≡ cond (short full places out list scratch) shortReport (reportOf full s (orderingOf full s) (listingOf full s))
+  pub prints : out′ ≡ cond (short full places out list scratch) out (over (listingOf full s) out)
+  pub orders : Given (cond (short full places out list scratch) NoOrder (orderingOf full s)) (entriesOf full s) list scratch (r .ordering) list′ scratch′
 
-abbrev pub briefShort : ℕ → ℕ → Bool
-briefShort records out = ltb records 2000 || ltb out 32768
+-- The same with the records, in two rows.
+pub record Fills (s whats : List ℕ) (values : List ℤ) (out list scratch : List ℕ) (r : Report) (whats′ : List ℕ) (values′ : List ℤ) (out′ list′ scratch′ : List ℕ) : Type 0 where
+  pub reports : Reports s (min (length whats) (length values)) out list scratch r out′ list′ scratch′
+  pub fills : whats′ ≡ cond (short full (min (length whats) (length values)) out list scratch) whats (whatsAfter full s whats)
+  pub beside : values′ ≡ cond (short full (min (length whats) (length values)) out list scratch) values (valuesAfter full s values)
 
-abbrev pub briefWith : Verdict → ℕ → Brief
-briefWith v written = record { verdict = v; written = written }
-
-pub record Briefs (s records out : List ℕ) (r : Brief) (records′ out′ : List ℕ) : Type 0 where
-  pub says : r ≡ cond (briefShort (length records) (length out)) (briefWith (Refused 7 0) 0) (briefWith (verdictFor (length (eventsIn s)) (markedOf s)) (length (briefOf s)))
-  pub fills : records′ ≡ cond (briefShort (length records) (length out)) records (recordsAfter s records)
-  pub prints : out′ ≡ cond (briefShort (length records) (length out)) out (over (briefOf s) out)
+-- ---- where no order is wanted: 7 asks records and output alone
+pub record Briefs (s whats : List ℕ) (values : List ℤ) (out : List ℕ) (r : Report) (whats′ : List ℕ) (values′ : List ℤ) (out′ : List ℕ) : Type 0 where
+  pub told-is : told (r .verdict) ≡ cond (lentShort full (min (length whats) (length values)) (length out)) (refused 7 0) (markedOf full s)
+  pub says : r ≡ cond (lentShort full (min (length whats) (length values)) (length out)) shortReport (reportOf full s NoOrder (briefOf full s))
+  pub prints : out′ ≡ cond (lentShort full (min (length whats) (length values)) (length out)) out (over (briefOf full s) out)
+  pub fills : whats′ ≡ cond (lentShort full (min (length whats) (length values)) (length out)) whats (whatsAfter full s whats)
+  pub beside : values′ ≡ cond (lentShort full (min (length whats) (length values)) (length out)) values (valuesAfter full s values)

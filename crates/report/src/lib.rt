@@ -2,113 +2,72 @@
 // is to be written.
 ghost use mathlib.Core.Path.{_≡_};
 ghost use mathlib.Core.List.{_++_};
-ghost use Prim.Native.Nat.{_≤_};
-ghost use lib.ListN.{length, take};
+ghost use Prim.Native.Nat.{_≤_, min};
+ghost use lib.ListN.{length};
 ghost use Rattle.decimal.specs.Text.{over, Wrote};
-ghost use Rattle.listing.specs.Listing.{linesIn, writeAll};
-ghost use Rattle.report.specs.declared.Verdict.the-variants.{Accepted, Refused};
-ghost use Rattle.report.specs.Report.{lentShort, orderingLines, shortWhole, wholeWith, Reports, Fills, Briefs};
-use machine::State;
+ghost use Rattle.listing.specs.Listing.{linesFor, writeAll};
+ghost use Rattle.report.specs.Report.{shortReport, Fills, Briefs};
+ghost use Rattle.report.specs.Computed.Parts.{orderingLines, Lends};
 use ordering::Ordering;
+use rules::Counts;
+use rules::Memories;
+use rules::Value;
+use rules::Verdict;
 
-// Accepted, with the number of events; or refused: the number and the line.
-pub enum Verdict {
-    Accepted(usize),
-    Refused(u8, usize),
-}
-
-// What is said of a trace and of its order, and the length of the listing.
+// What is said of a trace: the verdict, the number of events of an accepted one, what is said of its order, and the length of the listing.
 pub struct Report {
     pub verdict: Verdict,
+    pub events: usize,
     pub ordering: Ordering,
     pub written: usize,
 }
 
-// A report, and the records that go with it: the first `count` of the row, none after a refusal.
-pub struct Whole {
-    pub report: Report,
-    pub row: [u64; 2000],
-    pub count: usize,
-}
-
-// What is said of a trace where no order is wanted, and the length of the listing.
-pub struct Brief {
-    pub verdict: Verdict,
-    pub written: usize,
-}
-
-// 7. Lent too little: records, output, order list or scratch.
-fn is_short(records: usize, out: usize, list: usize, scratch: usize) -> bool
-    ensures { λ r. ⌜ r ≡ lentShort records out list scratch ⌝ }
+// The lesser of two counts.
+pub fn lesser(a: usize, b: usize) -> usize
+    ensures { λ r. ⌜ r ≡ min a b ⌝ }
 {
-    (records < 2000) | ((out < 32768) | ((list < 1000) | (scratch < 2000)))
+    if a <= b { a } else { b }
 }
 
-// What is said where too little is lent.
-fn short() -> Whole
-    ensures { λ r. ⌜ r ≡ shortWhole ⌝ }
+// 7, line 0.
+fn short() -> Report
+    ensures { λ r. ⌜ r ≡ shortReport ⌝ }
 {
     let seven = Verdict::Refused(7, 0);
-    let lent = Ordering::Lent;
-    let report = Report {
+    let nothing = Ordering::NoOrder;
+    Report {
         verdict: seven,
-        ordering: lent,
+        events: 0,
+        ordering: nothing,
         written: 0,
-    };
-    Whole {
-        report: report,
-        row: [0; 2000],
-        count: 0,
     }
 }
 
-// What is said of a trace that is refused.
-fn refuse(number: u8, line: usize, o: Ordering, written: usize, row: [u64; 2000]) -> Whole
-    ensures { λ r. ⌜ r ≡ wholeWith (Refused number line) o written row 0 ⌝ }
-{
-    let refused = Verdict::Refused(number, line);
-    let report = Report {
-        verdict: refused,
-        ordering: o,
-        written: written,
-    };
-    Whole {
-        report: report,
-        row: row,
-        count: 0,
-    }
-}
-
-// What is said of a trace that is accepted.
-fn accept(n: usize, o: Ordering, written: usize, row: [u64; 2000]) -> Whole
-    ensures { λ r. ⌜ r ≡ wholeWith (Accepted n) o written row n ⌝ }
-{
-    let accepted = Verdict::Accepted(n);
-    let report = Report {
-        verdict: accepted,
-        ordering: o,
-        written: written,
-    };
-    Whole {
-        report: report,
-        row: row,
-        count: n,
-    }
-}
-
-// The records of a row, at the front of the lent ones.
-fn copy(records: &mut [u64], row: &[u64])
-    requires { ⌜ length (now row) ≤ length (now records) ⌝ }
-    ensures { λ _. ⌜ now (records .exit) ≡ over (now (row .entry)) (now (records .entry)) ⌝ }
+// What the events are, at the front of the lent row.
+fn copy_whats(lent: &mut [u32], row: &[u32])
+    requires { ⌜ length (now row) ≤ length (now lent) ⌝ }
+    ensures { λ _. ⌜ now (lent .exit) ≡ over (now (row .entry)) (now (lent .entry)) ⌝ }
 {
     let mut i: usize = 0;
     while i < row.len() {
-        records[i] = row[i];
+        lent[i] = row[i];
         i += 1;
     }
 }
 
-// The lines about the order: the sections, or what denies it; none where no order is wanted.
+// Their values.
+fn copy_values(lent: &mut [Value], row: &[Value])
+    requires { ⌜ length (now row) ≤ length (now lent) ⌝ }
+    ensures { λ _. ⌜ now (lent .exit) ≡ over (now (row .entry)) (now (lent .entry)) ⌝ }
+{
+    let mut i: usize = 0;
+    while i < row.len() {
+        lent[i] = row[i];
+        i += 1;
+    }
+}
+
+// The lines about the order: the sections, or what denies it; none where nothing is said of it.
 fn write_order(out: &mut [u8], o: Ordering, list: &[u64]) -> usize
     ensures { λ r. ⌜ Wrote (writeAll (orderingLines o (now (list .entry)))) (now (out .entry)) r (now (out .exit)) ⌝ }
 {
@@ -120,97 +79,119 @@ fn write_order(out: &mut [u8], o: Ordering, list: &[u64]) -> usize
             listing::write_sections(out, &list[..c])
         }
         Ordering::Unordered(rule, line) => listing::write_unordered(out, line, rule as usize),
-        Ordering::NoGuards => 0,
-        Ordering::Lent => 0,
-        Ordering::NoTrace => 0,
+        Ordering::NoOrder => 0,
     }
 }
 
 // The listing of an accepted trace.
-fn write_listing(out: &mut [u8], s: State, o: Ordering, list: &[u64]) -> usize
-    ensures { λ r. ⌜ Wrote (writeAll (linesIn s ++ orderingLines o (now (list .entry)))) (now (out .entry)) r (now (out .exit)) ⌝ }
+fn write_listing(
+    out: &mut [u8],
+    n: usize,
+    h: Counts,
+    m: Memories,
+    o: Ordering,
+    list: &[u64],
+) -> usize
+    ensures { λ r. ⌜ Wrote (writeAll (linesFor n h m ++ orderingLines o (now (list .entry)))) (now (out .entry)) r (now (out .exit)) ⌝ }
 {
-    let a = listing::write_state(out, s);
+    let a = listing::write_memories(out, n, h, m);
     let b = write_order(&mut out[a..], o, list);
     a + b
 }
 
-// Marks a whole trace, with its order and its listing, where so many places are lent for its records. 7 before all.
+// Marks a whole trace, with its order and its listing, where so many places are lent for its records. 7 before all. The rows are room for the records.
 pub fn mark_lent(
     bytes: &[u8],
     places: usize,
-    out: &mut [u8],
-    list: &mut [u64],
-    scratch: &mut [u64],
-) -> Whole
-    ensures { λ r. ⌜ Reports (now (bytes .entry)) places (now (out .entry)) (now (list .entry)) (now (scratch .entry)) r (now (out .exit)) (now (list .exit)) (now (scratch .exit)) ⌝ }
-{
-    if is_short(places, out.len(), list.len(), scratch.len()) {
-        return short();
-    }
-    let outcome = ordering::order_trace(bytes, list, scratch);
-    let ran = outcome.ran;
-    let given = outcome.ordering;
-    let said = ran.verdict;
-    let row = ran.row;
-    let number = marking::number_of(said);
-    if number != 0 {
-        let line = marking::line_of(said);
-        let length = listing::write_refused(out, line, number as usize);
-        return refuse(number, line, given, length, row);
-    }
-    let n = marking::count_of(said);
-    let written = write_listing(out, ran.state, given, list);
-    accept(n, given, written, row)
-}
-
-// Marks a whole trace, with its records, its order and its listing.
-pub fn mark_trace(
-    bytes: &[u8],
-    records: &mut [u64],
+    what: &mut [u32; 2000],
+    value: &mut [Value; 2000],
     out: &mut [u8],
     list: &mut [u64],
     scratch: &mut [u64],
 ) -> Report
-    ensures { λ r. ⌜ Fills (now (bytes .entry)) (now (records .entry)) (now (out .entry)) (now (list .entry)) (now (scratch .entry)) r (now (records .exit)) (now (out .exit)) (now (list .exit)) (now (scratch .exit)) ⌝ }
+    ensures { λ r. ⌜ Lends (now (bytes .entry)) places (now (what .entry)) (now (value .entry)) (now (out .entry)) (now (list .entry)) (now (scratch .entry)) r (now (what .exit)) (now (value .exit)) (now (out .exit)) (now (list .exit)) (now (scratch .exit)) ⌝ }
 {
-    let whole = mark_lent(bytes, records.len(), out, list, scratch);
-    let row = whole.row;
-    let n = whole.count;
-    copy(records, &row[..n]);
-    whole.report
+    if rules::is_short(places, out.len()) | rules::is_order_short(list.len(), scratch.len()) {
+        return short();
+    }
+    let outcome = ordering::order_trace(bytes, what, value, list, scratch);
+    let m = outcome.marking;
+    let o = outcome.ordering;
+    let said = m.verdict;
+    if let Verdict::Refused(number, line) = said {
+        let written = listing::write_refused(out, line, number as usize);
+        return Report {
+            verdict: said,
+            events: 0,
+            ordering: o,
+            written: written,
+        };
+    }
+    let n = m.events;
+    let written = write_listing(out, n, m.head, m.memories, o, list);
+    Report {
+        verdict: said,
+        events: n,
+        ordering: o,
+        written: written,
+    }
+}
+
+// Marks a whole trace, with its records in two rows, its order and its listing.
+pub fn mark_trace(
+    bytes: &[u8],
+    whats: &mut [u32],
+    values: &mut [Value],
+    out: &mut [u8],
+    list: &mut [u64],
+    scratch: &mut [u64],
+) -> Report
+    ensures { λ r. ⌜ Fills (now (bytes .entry)) (now (whats .entry)) (now (values .entry)) (now (out .entry)) (now (list .entry)) (now (scratch .entry)) r (now (whats .exit)) (now (values .exit)) (now (out .exit)) (now (list .exit)) (now (scratch .exit)) ⌝ }
+{
+    let mut what: [u32; 2000] = [0; 2000];
+    let mut value: [Value; 2000] = [0; 2000];
+    let places = lesser(whats.len(), values.len());
+    let r = mark_lent(bytes, places, &mut what, &mut value, out, list, scratch);
+    let n = r.events;
+    copy_whats(whats, &what[..n]);
+    copy_values(values, &value[..n]);
+    r
 }
 
 // Marks a whole trace, with its records and its listing, where no order is wanted.
-pub fn mark_unordered(bytes: &[u8], records: &mut [u64], out: &mut [u8]) -> Brief
-    ensures { λ r. ⌜ Briefs (now (bytes .entry)) (now (records .entry)) (now (out .entry)) r (now (records .exit)) (now (out .exit)) ⌝ }
+pub fn mark_unordered(
+    bytes: &[u8],
+    whats: &mut [u32],
+    values: &mut [Value],
+    out: &mut [u8],
+) -> Report
+    ensures { λ r. ⌜ Briefs (now (bytes .entry)) (now (whats .entry)) (now (values .entry)) (now (out .entry)) r (now (whats .exit)) (now (values .exit)) (now (out .exit)) ⌝ }
 {
-    if (records.len() < 2000) | (out.len() < 32768) {
-        let seven = Verdict::Refused(7, 0);
-        return Brief {
-            verdict: seven,
-            written: 0,
+    if rules::is_short(lesser(whats.len(), values.len()), out.len()) {
+        return short();
+    }
+    let mut what: [u32; 2000] = [0; 2000];
+    let mut value: [Value; 2000] = [0; 2000];
+    let m = marking::mark(bytes, &mut what, &mut value);
+    let nothing = Ordering::NoOrder;
+    let said = m.verdict;
+    if let Verdict::Refused(number, line) = said {
+        let written = listing::write_refused(out, line, number as usize);
+        return Report {
+            verdict: said,
+            events: 0,
+            ordering: nothing,
+            written: written,
         };
     }
-    let ran = marking::mark(bytes);
-    let said = ran.verdict;
-    let number = marking::number_of(said);
-    if number != 0 {
-        let line = marking::line_of(said);
-        let length = listing::write_refused(out, line, number as usize);
-        let refused = Verdict::Refused(number, line);
-        return Brief {
-            verdict: refused,
-            written: length,
-        };
-    }
-    let n = marking::count_of(said);
-    let row = ran.row;
-    copy(records, &row[..n]);
-    let written = listing::write_state(out, ran.state);
-    let accepted = Verdict::Accepted(n);
-    Brief {
-        verdict: accepted,
+    let n = m.events;
+    copy_whats(whats, &what[..n]);
+    copy_values(values, &value[..n]);
+    let written = listing::write_memories(out, n, m.head, m.memories);
+    Report {
+        verdict: said,
+        events: n,
+        ordering: nothing,
         written: written,
     }
 }

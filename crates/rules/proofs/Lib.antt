@@ -1,4 +1,5 @@
 pub mod Laws
+pub mod Letters
 pub mod Held
 pub mod Marking
 pub mod Next
@@ -7,3 +8,6 @@ pub mod ShortTraces
 pub mod Signed
 pub mod Simulation
 pub mod Bounds
+pub mod Readings
+pub mod From
+pub mod Bare

@@ -1,11 +1,15 @@
 -- The events as the rules read them: a letter, a place (variable or lock) and a value.
 use Prim.Native.Nat.{ℕ}
 use mathlib.Core.Bool.{Bool, true, false, _&&_, _||_}
+use mathlib.Core.Bool.{cond}
 use mathlib.Core.List.{List, [], _∷_}
+use mathlib.Core.Option.{Option, none, some}
 use lib.Dec.{eqb}
 use lib.IntN.{ℤ, pos, negsuc}
 use Rattle.rules.specs.declared.Kind.{Kind}
 use Rattle.rules.specs.declared.Kind.the-variants.{Use, Assign, Load, Store, Read, Write, Lock, Unlock, PrescientStore, PrescientAssign}
+use Rattle.rules.specs.declared.Named.{Named}
+use Rattle.rules.specs.declared.Named.the-variants as named
 use Rattle.rules.specs.declared.Event.{Event}
 
 -- the letter bytes of the ten kinds
@@ -81,6 +85,34 @@ value (PrescientAssign v x) = x
 abbrev pub among : List ℕ → ℕ → Bool
 among [] n = false
 among (k ∷ ks) n = eqb k n || among ks n
+
+-- An event is one of ten kinds.
+unfoldable pub isLetter : ℕ → Bool
+isLetter k = eqb k U || eqb k A || eqb k L || eqb k S || eqb k R || eqb k W || eqb k K || eqb k N || eqb k P || eqb k B
+
+-- `K t l` lock and `N t l` unlock.
+unfoldable pub isLockLetter : ℕ → Bool
+isLockLetter k = eqb k K || eqb k N
+
+-- the kind with this letter, variable or lock, and value; every other byte names none
+unfoldable pub kindOf : ℕ → ℕ → ℤ → Named
+kindOf k p x =
+    cond (eqb k U) (named.Of (Use p x))
+    (cond (eqb k A) (named.Of (Assign p x))
+    (cond (eqb k L) (named.Of (Load p x))
+    (cond (eqb k S) (named.Of (Store p x))
+    (cond (eqb k R) (named.Of (Read p x))
+    (cond (eqb k W) (named.Of (Write p x))
+    (cond (eqb k K) (named.Of (Lock p))
+    (cond (eqb k N) (named.Of (Unlock p))
+    (cond (eqb k P) (named.Of (PrescientStore p x))
+    (cond (eqb k B) (named.Of (PrescientAssign p x))
+    named.Nothing)))))))))
+
+-- the event of a line: its number, thread and kind; none where there is no kind
+abbrev pub eventWith : ℕ → ℕ → Named → Option Event
+eventWith line t named.Nothing = none
+eventWith line t (named.Of k) = some (record { thread = t; line = line; kind = k })
 
 -- e is an event with one of these letters
 unfoldable pub is : List ℕ → Event → Bool

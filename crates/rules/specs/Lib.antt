@@ -5,3 +5,5 @@ pub mod Rules
 pub mod Memories
 pub mod Projections
 pub mod Traces
+-- what is only computed
+pub mod Computed

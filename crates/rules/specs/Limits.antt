@@ -1,23 +1,41 @@
 -- The limits of document 01, each named once.
 use Prim.Native.Nat.{ℕ, _+_, _≤_, _<_}
-use mathlib.Core.Bool.{Bool, true, false, cond, _&&_}
+use mathlib.Core.Bool.{Bool, true, false, cond, _&&_, _||_}
 use lib.Dec.{ltb, leb}
 use mir.Syntax.{Width, w32}
 use Rattle.rules.specs.declared.Event.{Event}
 use Rattle.rules.specs.declared.Counts.{Counts}
 use Rattle.rules.specs.Events.{place, onLock}
 
--- the most threads, variables, locks and events of a course, and the number of the refusal of one event more
+-- the most threads, variables, locks and events of a course, and the number of the refusal of one event more; the most bytes of a paper; the
+-- least that is lent for records, output, order list and scratch
 pub record Limits : Type 0 where
   pub threads : ℕ
   pub variables : ℕ
   pub locks : ℕ
   pub events : ℕ
   pub excess : ℕ
+  pub bytes : ℕ
+  pub records : ℕ
+  pub output : ℕ
+  pub entries : ℕ
+  pub scratch : ℕ
 
--- 9. 2,000 events are already in.
+-- `H t v l`: threads 1 to 8, variables 1 to 16, locks 0 to 8. 9. 2,000 events are already in. 1. Paper over 65,536 bytes. 7. Records under
+-- 2,000 places, output under 32,768 bytes; where an order is wanted, order list under 1,000 places or scratch under 2,000.
 abbrev pub full : Limits
-full = record { threads = 8; variables = 16; locks = 8; events = 2000; excess = 9 }
+full = record {
+  threads = 8;
+  variables = 16;
+  locks = 8;
+  events = 2000;
+  excess = 9;
+  bytes = 65536;
+  records = 2000;
+  output = 32768;
+  entries = 1000;
+  scratch = 2000;
+}
 
 -- limits that are nowhere above the full ones
 pub record UpToFull (m : Limits) : Type 0 where
@@ -50,3 +68,11 @@ allowed m h = leb 1 (h .threads) && leb (h .threads) (m .threads) && leb 1 (h .v
 -- 5. Thread, variable or lock not declared.
 unfoldable pub declared : Counts → Event → Bool
 declared h e = ltb (e .thread) (h .threads) && ltb (place (e .kind)) (cond (onLock e) (h .locks) (h .variables))
+
+-- 7. Lent too little (line 0): records under 2,000 places, output under 32,768 bytes;
+unfoldable pub lentShort : Limits → ℕ → ℕ → Bool
+lentShort m records out = ltb records (m .records) || ltb out (m .output)
+
+-- where an order is wanted, order list under 1,000 places or scratch under 2,000.
+unfoldable pub orderShort : Limits → ℕ → ℕ → Bool
+orderShort m list scratch = ltb list (m .entries) || ltb scratch (m .scratch)

@@ -1,9 +1,13 @@
 -- The memories after the last event, from the words.
-use Prim.Native.Nat.{ℕ, zero, suc}
-use mathlib.Core.Bool.{cond}
+use Prim.Native.Nat.{ℕ, zero, suc, _/_, _%_}
+use mathlib.Core.Bool.{false, cond}
 use mathlib.Core.List.{List, [], _∷_, _++_}
-use lib.IntN.{ℤ}
+use lib.IntN.{ℤ, pos}
+use lib.ListN.{replicate}
+use Rattle.rules.specs.declared.Cached.{Cached}
 use Rattle.rules.specs.declared.Counts.{Counts}
+use Rattle.rules.specs.declared.Main.{Main}
+use Rattle.rules.specs.declared.Memories.{Memories}
 use Rattle.rules.specs.Rules.{Words}
 
 -- the numbers below n, rising
@@ -28,3 +32,24 @@ pub record Copy : Type 0 where
 -- thread, variable and value of each usable copy, by thread then variable
 unfoldable pub copies : Counts → Words → List Copy
 copies h w = each (λ t. each (λ v. cond (w .usable t v) (record { thread = t; variable = v; value = w .copy t v } ∷ []) []) (below (h .variables))) (below (h .threads))
+
+-- ---- the same as the code hands them on
+
+-- what f gives for n numbers from i on
+unfoldable pub from : {X : Type 0} → (ℕ → X) → ℕ → ℕ → List X
+from f i zero = []
+from f i (suc n) = f i ∷ from f (suc i) n
+
+abbrev pub mainIn : Words → ℕ → Main
+mainIn w v = record { value = w .main v }
+
+-- the copy of thread i / 16 and variable i % 16
+abbrev pub cachedIn : Words → ℕ → Cached
+cachedIn w i = record { value = w .copy (i / 16) (i % 16); usable = w .usable (i / 16) (i % 16) }
+
+unfoldable pub memoriesOf : Words → Memories
+memoriesOf w = record { main = from (mainIn w) 0 16; copies = from (cachedIn w) 0 128 }
+
+-- after a refusal
+abbrev pub noMemories : Memories
+noMemories = record { main = replicate 16 (record { value = pos 0 }); copies = replicate 128 (record { value = pos 0; usable = false }) }

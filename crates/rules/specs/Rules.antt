@@ -5,12 +5,15 @@ use Prim.Native.Nat.{ℕ, zero, suc, _<_}
 use mathlib.Core.Path.{_≡_}
 use mathlib.Core.Bool.{Bool, true, false, not, cond, _&&_, _||_}
 use mathlib.Core.List.{List, [], _∷_, _++_, reverse}
+use mathlib.Core.Option.{Option, none, some as some′}
 use lib.Dec.{T, eqb, ltb, leb}
 use lib.IntN.{ℤ, pos}
 use lib.ListN.{length}
 use Rattle.rules.specs.declared.Event.{Event}
 use Rattle.rules.specs.declared.Slot.{Slot}
 use Rattle.rules.specs.declared.Counts.{Counts}
+use Rattle.rules.specs.declared.Verdict.{Verdict}
+use Rattle.rules.specs.declared.Verdict.the-variants.{Accepted as Accepted′, Refused}
 use Rattle.rules.specs.Events.{A, B, K, L, N, P, R, S, U, W, letter, place, value, is, eqZ}
 use Rattle.rules.specs.Limits.{Limits, most, lineAfter, declared}
 use Rattle.rules.specs.Words.{first}
@@ -210,6 +213,35 @@ pub data Marked : Type 0 where
   accepted : Marked
   refused : ℕ → ℕ → Marked
 
+-- the number and the line of each case of a verdict
+abbrev pub told : Verdict → Marked
+told Accepted′ = accepted
+told (Refused number line) = refused number line
+
+-- the verdict that says this
+abbrev pub said : Marked → Verdict
+said accepted = Accepted′
+said (refused number line) = Refused number line
+
+-- 0 stands for no refusal
+abbrev pub numberIn : Marked → ℕ
+numberIn accepted = 0
+numberIn (refused number line) = number
+
+abbrev pub lineIn : Marked → ℕ
+lineIn accepted = 0
+lineIn (refused number line) = line
+
+-- a where a trace is accepted, b where it is refused
+abbrev pub onMarked : {X : Type 0} → Marked → X → X → X
+onMarked accepted a b = a
+onMarked (refused number line) a b = b
+
+-- the first of two refusals: what is said later counts where nothing is refused before
+abbrev pub refusedOr : Marked → Marked → Marked
+refusedOr accepted later = later
+refusedOr (refused number line) later = refused number line
+
 -- refused with this number, unless it is 0
 abbrev pub unless : ℕ → ℕ → Marked → Marked
 unless zero line m = m
@@ -222,6 +254,23 @@ markFrom m h es (e ∷ rest) = let later = markFrom m h (e ∷ es) rest in unles
 
 unfoldable pub mark : Limits → Counts → List Event → Marked
 mark m h events = markFrom m h [] events
+
+-- Line by line 4, 9, 5 and the row. Each line is an event or none, and the events es are earlier, the latest first.
+unfoldable pub markRead : Limits → Counts → List Event → List (Option Event) → Marked
+markRead m h es [] = accepted
+markRead m h es (none ∷ rest) = refused 4 (lineAfter h (length es))
+markRead m h es (some′ e ∷ rest) = unless (verdict m h es e) (lineAfter h (length es)) (markRead m h (e ∷ es) rest)
+
+-- on where the number is 0
+abbrev pub passing : {X : Type 0} → ℕ → X → X → X
+passing zero stop on = on
+passing (suc n) stop on = stop
+
+-- the events before the first refusal, the latest first
+unfoldable pub pastRead : Limits → Counts → List Event → List (Option Event) → List Event
+pastRead m h es [] = es
+pastRead m h es (none ∷ rest) = es
+pastRead m h es (some′ e ∷ rest) = passing (verdict m h es e) es (pastRead m h (e ∷ es) rest)
 
 -- the first bad event of a trace: it comes behind accepted events and is refused with this number and line
 pub record FirstBad (m : Limits) (c : Counts) (events : List Event) (number line : ℕ) : Type 0 where

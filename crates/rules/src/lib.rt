@@ -1,7 +1,9 @@
-// The events of a trace, and what a trace declares. What the rules say of them stands in specs/.
+// The events of a trace, what a trace declares, and what is said of it. What the rules say of events stands in specs/.
 ghost use mathlib.Core.Path.{_≡_};
-ghost use Rattle.rules.specs.Events.{letter};
-ghost use Rattle.rules.specs.Limits.{full, allowed, declared};
+ghost use mathlib.Core.Bool.{_||_};
+ghost use Rattle.rules.specs.Events.{letter, place, value, isLetter, isLockLetter, kindOf};
+ghost use Rattle.rules.specs.Limits.{full, lineAfter, allowed, declared, lentShort, orderShort};
+ghost use Rattle.rules.specs.Rules.{told, numberIn, lineIn};
 
 // The value of a variable. Its width is `valueWidth` in specs/Limits.antt.
 pub type Value = i32;
@@ -20,6 +22,12 @@ pub enum Kind {
     PrescientStore(usize, Value),
     // B, the assign that an early store announced
     PrescientAssign(usize, Value),
+}
+
+// A kind, or none.
+pub enum Named {
+    Nothing,
+    Of(Kind),
 }
 
 // An event: its thread, the number of its line in the trace, and its kind.
@@ -44,6 +52,77 @@ pub struct Counts {
     pub locks: usize,
 }
 
+// The value of a variable in main memory.
+#[repr(C)]
+pub struct Main {
+    pub value: Value,
+}
+
+// A thread's copy of a variable: its value, and whether it is usable.
+pub struct Cached {
+    pub value: Value,
+    pub usable: bool,
+}
+
+// The memories after the last event: each variable in main memory, and the copy of thread t and variable v at 16 * t + v.
+pub struct Memories {
+    pub main: [Main; 16],
+    pub copies: [Cached; 128],
+}
+
+// Accepted, or refused with this number and line.
+pub enum Verdict {
+    Accepted,
+    Refused(u8, usize),
+}
+
+// ---- Kinds and letters.
+
+// The kind with this letter: the ten letters; every other byte names none.
+pub fn kind_of(letter: u8, place: usize, value: Value) -> Named
+    ensures { λ r. ⌜ r ≡ kindOf letter place value ⌝ }
+{
+    match letter {
+        b'U' => Named::Of(Kind::Use(place, value)),
+        b'A' => Named::Of(Kind::Assign(place, value)),
+        b'L' => Named::Of(Kind::Load(place, value)),
+        b'S' => Named::Of(Kind::Store(place, value)),
+        b'R' => Named::Of(Kind::Read(place, value)),
+        b'W' => Named::Of(Kind::Write(place, value)),
+        b'K' => Named::Of(Kind::Lock(place)),
+        b'N' => Named::Of(Kind::Unlock(place)),
+        b'P' => Named::Of(Kind::PrescientStore(place, value)),
+        b'B' => Named::Of(Kind::PrescientAssign(place, value)),
+        _ => Named::Nothing,
+    }
+}
+
+// Whether a byte is one of the ten letters.
+pub fn is_letter(k: u8) -> bool
+    ensures { λ r. ⌜ r ≡ isLetter k ⌝ }
+{
+    match k {
+        b'U' => true,
+        b'A' => true,
+        b'L' => true,
+        b'S' => true,
+        b'R' => true,
+        b'W' => true,
+        b'K' => true,
+        b'N' => true,
+        b'P' => true,
+        b'B' => true,
+        _ => false,
+    }
+}
+
+// Whether a letter is that of a lock event.
+pub fn is_lock_letter(k: u8) -> bool
+    ensures { λ r. ⌜ r ≡ isLockLetter k ⌝ }
+{
+    (k == b'K') | (k == b'N')
+}
+
 // The letter byte of a kind.
 pub fn letter_of(k: Kind) -> u8
     ensures { λ r. ⌜ r ≡ letter k ⌝ }
@@ -62,6 +141,44 @@ pub fn letter_of(k: Kind) -> u8
     }
 }
 
+// The variable or lock of a kind.
+pub fn place_of(k: Kind) -> usize
+    ensures { λ r. ⌜ r ≡ place k ⌝ }
+{
+    match k {
+        Kind::Use(v, _) => v,
+        Kind::Assign(v, _) => v,
+        Kind::Load(v, _) => v,
+        Kind::Store(v, _) => v,
+        Kind::Read(v, _) => v,
+        Kind::Write(v, _) => v,
+        Kind::Lock(l) => l,
+        Kind::Unlock(l) => l,
+        Kind::PrescientStore(v, _) => v,
+        Kind::PrescientAssign(v, _) => v,
+    }
+}
+
+// The value of a kind; 0 of a lock event.
+pub fn value_of(k: Kind) -> Value
+    ensures { λ r. ⌜ r ≡ value k ⌝ }
+{
+    match k {
+        Kind::Use(_, x) => x,
+        Kind::Assign(_, x) => x,
+        Kind::Load(_, x) => x,
+        Kind::Store(_, x) => x,
+        Kind::Read(_, x) => x,
+        Kind::Write(_, x) => x,
+        Kind::Lock(_) => 0,
+        Kind::Unlock(_) => 0,
+        Kind::PrescientStore(_, x) => x,
+        Kind::PrescientAssign(_, x) => x,
+    }
+}
+
+// ---- Limits.
+
 // Whether a trace may declare these counts.
 pub fn is_allowed(h: Counts) -> bool
     ensures { λ r. ⌜ r ≡ allowed full h ⌝ }
@@ -73,18 +190,54 @@ pub fn is_allowed(h: Counts) -> bool
 pub fn is_declared(h: Counts, e: Event) -> bool
     ensures { λ r. ⌜ r ≡ declared h e ⌝ }
 {
-    let ok = e.thread < h.threads;
-    let k = e.kind;
-    match k {
-        Kind::Use(v, _) => ok & (v < h.variables),
-        Kind::Assign(v, _) => ok & (v < h.variables),
-        Kind::Load(v, _) => ok & (v < h.variables),
-        Kind::Store(v, _) => ok & (v < h.variables),
-        Kind::Read(v, _) => ok & (v < h.variables),
-        Kind::Write(v, _) => ok & (v < h.variables),
-        Kind::Lock(l) => ok & (l < h.locks),
-        Kind::Unlock(l) => ok & (l < h.locks),
-        Kind::PrescientStore(v, _) => ok & (v < h.variables),
-        Kind::PrescientAssign(v, _) => ok & (v < h.variables),
+    let kind = e.kind;
+    let place = place_of(kind);
+    let k = letter_of(kind);
+    if is_lock_letter(k) {
+        return (e.thread < h.threads) & (place < h.locks);
+    }
+    (e.thread < h.threads) & (place < h.variables)
+}
+
+// The line of the event after n events.
+pub fn line_after(h: Counts, n: u32) -> usize
+    ensures { λ r. ⌜ r ≡ lineAfter h n ⌝ }
+{
+    n as usize + 3
+}
+
+// 7, where no order is wanted: places lent for records, bytes lent for output.
+pub fn is_short(records: usize, out: usize) -> bool
+    ensures { λ r. ⌜ r ≡ lentShort full records out ⌝ }
+{
+    (records < 2000) | (out < 32768)
+}
+
+// 7, where an order is wanted, also these: places lent for the order list and the scratch.
+pub fn is_order_short(list: usize, scratch: usize) -> bool
+    ensures { λ r. ⌜ r ≡ orderShort full list scratch ⌝ }
+{
+    (list < 1000) | (scratch < 2000)
+}
+
+// ---- Verdicts.
+
+// The number of a verdict; 0 where it is accepted.
+pub fn number_of(v: Verdict) -> u8
+    ensures { λ r. ⌜ r ≡ numberIn (told v) ⌝ }
+{
+    match v {
+        Verdict::Accepted => 0,
+        Verdict::Refused(number, _) => number,
+    }
+}
+
+// The line of a verdict; 0 where it is accepted.
+pub fn line_of(v: Verdict) -> usize
+    ensures { λ r. ⌜ r ≡ lineIn (told v) ⌝ }
+{
+    match v {
+        Verdict::Accepted => 0,
+        Verdict::Refused(_, line) => line,
     }
 }

@@ -1,31 +1,30 @@
--- Laws of the head, the guards and the trailer.
--- Assumes nothing.
+-- Laws of the head, the guards and the trailer; and what a trace that is found has.
 use mathlib.Core.Path.{_≡_, refl, sym, ap, _∙_}
-use mathlib.Core.Bool.{Bool, true, false, _&&_, cond}
+use mathlib.Core.Bool.{Bool, true, false, cond}
 use mathlib.Core.List.{List, [], _∷_}
-use Prim.Native.Nat.{ℕ, zero, suc, _≤_, _<_, _+_, _-_}
+use Prim.Native.Nat.{ℕ, suc, _≤_, _<_, _+_, _-_}
 use native.Mathlib.Omega.{arith}
 use native.Mathlib.Numerals.{add-one}
-use borrow.Author.Tests.{lt-ltb, le-ltb, leb-true, ltb-true}
-use lib.Dec.{eqb, ltb, leb}
+use borrow.Author.Tests.{lt-ltb, le-ltb, ltb-true}
+use lib.Dec.{eqb, ltb}
 use lib.ListN.{length, getD, take, drop, set, length-take, length-drop, drop-of-length-le}
 use lib.Seq.{drop-cons, length-take-le, take-take, take-add, drop-at}
 use Rattle.rules.specs.declared.Counts.{Counts}
-use Rattle.rules.specs.Limits.{full, allowed}
+use Rattle.rules.specs.declared.Verdict.{Verdict}
+use Rattle.rules.specs.Limits.{Limits, allowed}
+use Rattle.rules.specs.Rules.{Marked, accepted, refused, said}
 use Rattle.lines.specs.Lines.{before, upTo, splitOn, letter}
 use Rattle.lines.proofs.FieldLaws.{up-le, ended-drop}
 use Rattle.decimal.specs.declared.Natural.{Natural}
 use Rattle.decimal.specs.declared.Natural.the-variants as natural
 use Rattle.decimal.specs.Decimal.{naturalOf}
-use Rattle.trace.specs.declared.Verdict.{Verdict}
-use Rattle.trace.specs.declared.Verdict.the-variants as verdict
 use Rattle.trace.specs.declared.Trailer.{Trailer}
 use Rattle.trace.specs.declared.Trailer.the-variants as trailer
 use Rattle.trace.specs.declared.Headed.{Headed}
-use Rattle.trace.specs.declared.Headed.the-variants as headed
 use Rattle.trace.specs.declared.GuardLine.{GuardLine}
+use Rattle.trace.specs.declared.Guards.{Guards}
 use Rattle.trace.specs.declared.Trace.{Trace}
-use Rattle.trace.specs.Trace.{most, checkAt, lastLine, trailerNumber, trailerOf, checkCounts, checkHead, headOf, badLine, lockLine, lockOf, withLock, locksFrom, guardsOf, refused, withGuards, secondOf, behindHead, firstOf, behindTrailer, traceOf, eventsOf}
+use Rattle.trace.specs.Trace.{tooLong, wrongHead, wrongGuards, checkAt, lastLine, trailerNumber, trailerOf, noHead, checkHead, headOf, badLine, lockLine, lockOf, locksFrom, guardsOf, unfound, withGuards, secondOf, behindHead, firstOf, behindTrailer, traceOf, found, eventsOf}
 
 pub trailer-none : (s : List ℕ) → length s ≡ 0 → trailer.Wrong ≡ trailerOf s
 unfolding trailerOf
@@ -51,36 +50,35 @@ module _ (i : ℕ) (g : List ℕ) (l : ℕ) (fs : List (List ℕ)) where
   unfolding locksFrom
   locks-end h = rw (drop-of-length-le fs {i = i + 1} h)
 
--- a right head has at most 16 variables
-counts-variables : (c h : Counts) → checkCounts c ≡ headed.Of h → h .variables ≤ 16
-unfolding allowed
-counts-variables c h e = by (leb 1 (c .threads)) (leb (c .threads) 8) (leb 1 (c .variables)) (leb (c .variables) 16) refl (leb (c .locks) 8) e
-  where
-    by : (p q r s : Bool) → leb (c .variables) 16 ≡ s → (t : Bool)
-        → cond (p && q && r && s && t) (headed.Of c) headed.Wrong ≡ headed.Of h → h .variables ≤ 16
-    by true true true true k true e = let d : c ≡ h = cc in omega (arith, leb-true (c .variables) 16 k, ap (λ (z : Counts). z .variables) d)
-    by true true true true k false e = absurd (let z : _≡_ {A = ℕ} 0 1 = cc in omega arith)
-    by true true true false k t e = absurd (let z : _≡_ {A = ℕ} 0 1 = cc in omega arith)
-    by true true false s k t e = absurd (let z : _≡_ {A = ℕ} 0 1 = cc in omega arith)
-    by true false r s k t e = absurd (let z : _≡_ {A = ℕ} 0 1 = cc in omega arith)
-    by false q r s k t e = absurd (let z : _≡_ {A = ℕ} 0 1 = cc in omega arith)
+-- ---- a right head declares allowed counts
 
-checked-variables : (t v l : Natural) (h : Counts) → checkHead t v l ≡ headed.Of h → h .variables ≤ 16
-checked-variables natural.Bad v l h e = absurd (let z : _≡_ {A = ℕ} 0 1 = cc in omega arith)
-checked-variables (natural.Of t) natural.Bad l h e = absurd (let z : _≡_ {A = ℕ} 0 1 = cc in omega arith)
-checked-variables (natural.Of t) (natural.Of v) natural.Bad h e = absurd (let z : _≡_ {A = ℕ} 0 1 = cc in omega arith)
-checked-variables (natural.Of t) (natural.Of v) (natural.Of l) h e = counts-variables (record { threads = t; variables = v; locks = l }) h e
+module _ (m : Limits) where
+  abbrev Fit : Headed → Type 0
+  Fit r = r .ok ≡ true → allowed m (r .head) ≡ true
 
-pub head-variables : (fs : List (List ℕ)) (h : Counts) → headOf fs ≡ headed.Of h → h .variables ≤ 16
-unfolding headOf
-head-variables fs h e =
-    by (eqb (length fs) 4) (eqb (letter (getD fs 0 [])) 72) (checkHead (naturalOf (getD fs 1 [])) (naturalOf (getD fs 2 [])) (naturalOf (getD fs 3 []))) e
-    (checked-variables (naturalOf (getD fs 1 [])) (naturalOf (getD fs 2 [])) (naturalOf (getD fs 3 [])) h)
-  where
-    by : (p q : Bool) (r : Headed) → cond p (cond q r headed.Wrong) headed.Wrong ≡ headed.Of h → (r ≡ headed.Of h → h .variables ≤ 16) → h .variables ≤ 16
-    by true true r e k = k e
-    by true false r e k = absurd (let z : _≡_ {A = ℕ} 0 1 = cc in omega arith)
-    by false q r e k = absurd (let z : _≡_ {A = ℕ} 0 1 = cc in omega arith)
+  fit-none : Fit noHead
+  fit-none e = absurd (let z : _≡_ {A = ℕ} 0 1 = cc in omega arith)
+
+  fit-counts : (c : Counts) (b : Bool) → allowed m c ≡ b → Fit (cond b (record { ok = true; head = c }) noHead)
+  fit-counts c true e = λ q. e
+  fit-counts c false e = fit-none
+
+  fit-check : (t v l : Natural) → Fit (checkHead m t v l)
+  fit-check natural.Bad v l = fit-none
+  fit-check (natural.Of t) natural.Bad l = fit-none
+  fit-check (natural.Of t) (natural.Of v) natural.Bad = fit-none
+  fit-check (natural.Of t) (natural.Of v) (natural.Of l) = fit-counts (record { threads = t; variables = v; locks = l }) _ refl
+
+  pub head-allowed : (fs : List (List ℕ)) → headOf m fs .ok ≡ true → allowed m (headOf m fs .head) ≡ true
+  unfolding headOf
+  head-allowed fs = by (eqb (length fs) 4) (eqb (letter (getD fs 0 [])) 72) (checkHead m (naturalOf (getD fs 1 [])) (naturalOf (getD fs 2 [])) (naturalOf (getD fs 3 []))) (fit-check (naturalOf (getD fs 1 [])) (naturalOf (getD fs 2 [])) (naturalOf (getD fs 3 [])))
+    where
+      by : (p q : Bool) (r : Headed) → Fit r → Fit (cond p (cond q r noHead) noHead)
+      by true true r f = f
+      by true false r f = fit-none
+      by false q r f = fit-none
+
+-- ---- the trailer
 
 -- the trailer stands where the last line starts
 check-place : (at e : ℕ) (n : Natural) → checkAt at n ≡ trailer.At e → e ≡ at
@@ -106,8 +104,9 @@ trailer-at s e h =
 pub trailer-le : (s : List ℕ) (e : ℕ) → trailerOf s ≡ trailer.At e → e ≤ length s
 trailer-le s e h = omega (arith, trailer-at s e h, last-le s)
 
--- the cases of finding
-pub second-none : (s : List ℕ) (at e b : ℕ) (h : Counts) → b ≡ before 10 s → length s ≤ b → refused verdict.WrongGuards ≡ secondOf s at e h
+-- ---- the cases of finding
+
+pub second-none : (s : List ℕ) (at e b : ℕ) (h : Counts) → b ≡ before 10 s → length s ≤ b → unfound wrongGuards ≡ secondOf s at e h
 unfolding secondOf
 second-none s at e b h k l = let m : length s ≤ before 10 s = omega (arith, k, l) in rw (le-ltb _ _ m)
 
@@ -116,21 +115,84 @@ pub second-some : (s : List ℕ) (at e b : ℕ) (h : Counts) → b ≡ before 10
 unfolding secondOf
 second-some s at e b h k l = let m : before 10 s < length s = omega (arith, k, l) in rw (k, lt-ltb _ _ m)
 
-pub first-none : (s : List ℕ) (e a : ℕ) → a ≡ before 10 s → length s ≤ a → refused verdict.WrongHead ≡ firstOf s e
+pub first-none : (m : Limits) (s : List ℕ) (e a : ℕ) → a ≡ before 10 s → length s ≤ a → unfound wrongHead ≡ firstOf m s e
 unfolding firstOf
-first-none s e a k l = let m : length s ≤ before 10 s = omega (arith, k, l) in rw (le-ltb _ _ m)
+first-none m s e a k l = let q : length s ≤ before 10 s = omega (arith, k, l) in rw (le-ltb _ _ q)
 
-pub first-some : (s : List ℕ) (e a : ℕ) → a ≡ before 10 s → a < length s → behindHead s a e (headOf (splitOn 32 (take a s))) ≡ firstOf s e
+pub first-some : (m : Limits) (s : List ℕ) (e a : ℕ) → a ≡ before 10 s → a < length s → behindHead s a e (headOf m (splitOn 32 (take a s))) ≡ firstOf m s e
 unfolding firstOf
-first-some s e a k l = let m : before 10 s < length s = omega (arith, k, l) in rw (k, lt-ltb _ _ m)
+first-some m s e a k l = let q : before 10 s < length s = omega (arith, k, l) in rw (k, lt-ltb _ _ q)
 
-pub trace-long : (s : List ℕ) → most < length s → refused verdict.TooLong ≡ traceOf s
+pub trace-long : (m : Limits) (s : List ℕ) → m .bytes < length s → unfound tooLong ≡ traceOf m s
 unfolding traceOf
-trace-long s h = rw (lt-ltb _ _ h)
+trace-long m s h = rw (lt-ltb _ _ h)
 
-pub trace-short : (s : List ℕ) → length s ≤ most → behindTrailer s (trailerOf s) ≡ traceOf s
+pub trace-short : (m : Limits) (s : List ℕ) → length s ≤ m .bytes → behindTrailer m s (trailerOf s) ≡ traceOf m s
 unfolding traceOf
-trace-short s h = rw (le-ltb _ _ h)
+trace-short m s h = rw (le-ltb _ _ h)
+
+-- ---- what finding gives: a refusal and nothing else; or an allowed head, guards, and a part that ends where the trailer starts
+
+module _ (m : Limits) (s : List ℕ) where
+  pub data Finding : Trace → Type 0 where
+    denied : (n line : ℕ) → Finding (unfound (said (refused n line)))
+    given : (h : Counts) (g : Guards) (a e : ℕ) → allowed m h ≡ true → a ≤ e → trailerOf s ≡ trailer.At e
+        → Finding (record { verdict = said accepted; head = h; guards = g; from = a; to = e })
+
+  module _ (e : ℕ) (k : trailerOf s ≡ trailer.At e) where
+    finding-second : (u : List ℕ) (at : ℕ) (h : Counts) → allowed m h ≡ true → at + length u ≡ e → Finding (secondOf u at e h)
+    unfolding secondOf
+    finding-second u at h f l = by (ltb (before 10 u) (length u)) refl (guardsOf (h .variables) (h .locks) (splitOn 32 (take (before 10 u) u)))
+      where
+        on : (a : ℕ) (g : GuardLine) (o : Bool) → a ≤ e
+            → Finding (cond o (record { verdict = said accepted; head = h; guards = record { given = g .given; locks = g .locks }; from = a; to = e }) (unfound wrongGuards))
+        on a g true q = given h (record { given = g .given; locks = g .locks }) a e f q k
+        on a g false q = denied 6 2
+
+        by : (q : Bool) → ltb (before 10 u) (length u) ≡ q → (g : GuardLine) → Finding (cond q (withGuards (at + before 10 u + 1) e h g) (unfound wrongGuards))
+        by false r g = denied 6 2
+        by true r g = on (at + before 10 u + 1) g (g .ok) (omega (arith, l, ltb-true (before 10 u) (length u) r))
+
+    finding-first : (u : List ℕ) → length u ≡ e → Finding (firstOf m u e)
+    unfolding firstOf
+    finding-first u l = by (ltb (before 10 u) (length u)) refl (headOf m (splitOn 32 (take (before 10 u) u))) (head-allowed m (splitOn 32 (take (before 10 u) u)))
+      where
+        on : (r : Headed) (o : Bool) → r .ok ≡ o → (r .ok ≡ true → allowed m (r .head) ≡ true) → before 10 u < length u
+            → Finding (cond o (secondOf (drop (before 10 u + 1) u) (before 10 u + 1) e (r .head)) (unfound wrongHead))
+        on r true q f i = finding-second (drop (before 10 u + 1) u) (before 10 u + 1) (r .head) (f q) (omega (arith, l, length-drop (before 10 u + 1) u))
+        on r false q f i = denied 3 1
+
+        by : (q : Bool) → ltb (before 10 u) (length u) ≡ q → (r : Headed) → (r .ok ≡ true → allowed m (r .head) ≡ true)
+            → Finding (cond q (behindHead u (before 10 u) e r) (unfound wrongHead))
+        by false z r f = denied 3 1
+        by true z r f = on r (r .ok) refl f (ltb-true (before 10 u) (length u) z)
+
+  pub finding : Finding (traceOf m s)
+  unfolding traceOf
+  finding = by (ltb (m .bytes) (length s)) (trailerOf s) refl
+    where
+      by : (q : Bool) (t : Trailer) → trailerOf s ≡ t → Finding (cond q (unfound tooLong) (behindTrailer m s t))
+      by true t r = denied 1 0
+      by false trailer.Wrong r = denied 2 0
+      by false (trailer.At e) r = finding-first e r (take e s) (length-take-le e s (trailer-le s e r))
+
+-- a trace that is found has an allowed head
+pub found-allowed : (m : Limits) (s : List ℕ) → found (traceOf m s) ≡ accepted → allowed m (traceOf m s .head) ≡ true
+found-allowed m s = by (finding m s)
+  where
+    by : {t : Trace} → Finding m s t → found t ≡ accepted → allowed m (t .head) ≡ true
+    by (denied n line) q = absurd (let z : _≡_ {A = ℕ} 0 1 = cc in omega arith)
+    by (given h g a e f l k) q = f
+
+-- of a trace that is refused nothing is kept
+pub not-found : (m : Limits) (s : List ℕ) (n line : ℕ) → found (traceOf m s) ≡ refused n line → traceOf m s ≡ unfound (said (refused n line))
+not-found m s n line = by (finding m s)
+  where
+    by : {t : Trace} → Finding m s t → found t ≡ refused n line → t ≡ unfound (said (refused n line))
+    by (denied k l) q = ap (λ (v : Marked). unfound (said v)) q
+    by (given h g a e f l k) q = absurd (let z : _≡_ {A = ℕ} 0 1 = cc in omega arith)
+
+-- ---- the part that holds the events
 
 -- what stands up to the last b ends in b
 up-take : (b : ℕ) (u : List ℕ) → upTo b (take (upTo b u) u) ≡ upTo b u
@@ -144,41 +206,6 @@ up-take b (x ∷ xs) = by (eqb (upTo b xs) 0) (eqb x b) refl refl (up-take b xs)
     by true false e f r = refl
     by false w e f r = rw (r, e)
 
--- The part that holds the events lies in the bytes w, and what stands up to its end is whole lines; it is empty after a refusal.
-pub record Lies (t : Trace) (w : List ℕ) : Type 0 where
-  pub start : t .from ≤ t .to
-  pub end : t .to ≤ length w
-  pub ended : upTo 10 (take (t .to) w) ≡ t .to
-
-refused-lies : (v : Verdict) (w : List ℕ) → Lies (refused v) w
-unfolding upTo
-refused-lies v w = record { start = omega arith; end = omega arith; ended = refl }
-
-module _ (e : ℕ) (w : List ℕ) (l : e ≤ length w) (whole : upTo 10 (take e w) ≡ e) where
-  lies-second : (s : List ℕ) (at : ℕ) (h : Counts) → at + length s ≡ e → Lies (secondOf s at e h) w
-  unfolding secondOf
-  lies-second s at h k = by (ltb (before 10 s) (length s)) refl (guardsOf (h .variables) (h .locks) (splitOn 32 (take (before 10 s) s)))
-    where
-      on : (a : ℕ) (g : GuardLine) (o : Bool) → a ≤ e
-          → Lies (cond o (record { verdict = verdict.Found; head = h; guards = record { given = g .given; locks = g .locks }; from = a; to = e }) (refused verdict.WrongGuards)) w
-      on a g true m = record { start = m; end = l; ended = whole }
-      on a g false m = refused-lies verdict.WrongGuards w
-
-      by : (q : Bool) → ltb (before 10 s) (length s) ≡ q → (g : GuardLine)
-          → Lies (cond q (withGuards (at + before 10 s + 1) e h g) (refused verdict.WrongGuards)) w
-      by false r g = refused-lies verdict.WrongGuards w
-      by true r g = on (at + before 10 s + 1) g (g .ok) (omega (arith, k, ltb-true (before 10 s) (length s) r))
-
-  lies-first : (s : List ℕ) → length s ≡ e → Lies (firstOf s e) w
-  unfolding firstOf
-  lies-first s k = by (ltb (before 10 s) (length s)) refl (headOf (splitOn 32 (take (before 10 s) s)))
-    where
-      by : (q : Bool) → ltb (before 10 s) (length s) ≡ q → (h : Headed) → Lies (cond q (behindHead s (before 10 s) e h) (refused verdict.WrongHead)) w
-      by false r h = refused-lies verdict.WrongHead w
-      by true r headed.Wrong = refused-lies verdict.WrongHead w
-      by true r (headed.Of h) =
-          lies-second (drop (before 10 s + 1) s) (before 10 s + 1) h (omega (arith, k, ltb-true (before 10 s) (length s) r, length-drop (before 10 s + 1) s))
-
 last-ended : (s : List ℕ) → upTo 10 (take (lastLine s) s) ≡ lastLine s
 unfolding lastLine
 last-ended s =
@@ -186,17 +213,20 @@ last-ended s =
     let e : take (lastLine s) u ≡ take (lastLine s) s = take-take (lastLine s) (length s - 1) s (last-le s) in
     ap (upTo 10) (sym e) ∙ up-take 10 u
 
-pub lies : (s : List ℕ) → Lies (traceOf s) s
-unfolding traceOf
-lies s = by (ltb most (length s)) (trailerOf s) refl
+-- The part that holds the events lies in the bytes w, and what stands up to its end is whole lines; it is empty after a refusal.
+pub record Lies (t : Trace) (w : List ℕ) : Type 0 where
+  pub start : t .from ≤ t .to
+  pub end : t .to ≤ length w
+  pub ended : upTo 10 (take (t .to) w) ≡ t .to
+
+pub lies : (m : Limits) (s : List ℕ) → Lies (traceOf m s) s
+lies m s = by (finding m s)
   where
-    by : (q : Bool) (t : Trailer) → trailerOf s ≡ t → Lies (cond q (refused verdict.TooLong) (behindTrailer s t)) s
-    by true t r = refused-lies verdict.TooLong s
-    by false trailer.Wrong r = refused-lies verdict.WrongTrailer s
-    by false (trailer.At e) r =
-        let a = trailer-at s e r in
-        let whole : upTo 10 (take e s) ≡ e = ap (λ (i : ℕ). upTo 10 (take i s)) a ∙ last-ended s ∙ sym a in
-        lies-first e s (trailer-le s e r) whole (take e s) (length-take-le e s (trailer-le s e r))
+    by : {t : Trace} → Finding m s t → Lies t s
+    by (denied n line) = record { start = omega arith; end = omega arith; ended = unfold upTo in refl }
+    by (given h g a e f l k) =
+        let p = trailer-at s e k in
+        record { start = l; end = trailer-le s e k; ended = ap (λ (i : ℕ). upTo 10 (take i s)) p ∙ last-ended s ∙ sym p }
 
 -- the part between two places
 pub part-drop : (a e : ℕ) (s : List ℕ) → a ≤ e → e ≤ length s → take (e - a) (drop a s) ≡ drop a (take e s)
@@ -206,11 +236,16 @@ part-drop a e s h k =
     ∙ drop-at (take a s) (take (e - a) (drop a s)) a (length-take-le a s (omega arith)))
 
 -- The events are whole lines: the part is empty or ends in byte 10.
-pub events-ended : (s : List ℕ) → upTo 10 (eventsOf s (traceOf s)) ≡ length (eventsOf s (traceOf s))
+pub events-ended : (m : Limits) (s : List ℕ) → upTo 10 (eventsOf s (traceOf m s)) ≡ length (eventsOf s (traceOf m s))
 unfolding eventsOf
-events-ended s =
-    let t = traceOf s in
-    let w = lies s in
+events-ended m s =
+    let t = traceOf m s in
+    let w = lies m s in
     let p = part-drop (t .from) (t .to) s (w .start) (w .end) in
     let n : upTo 10 (take (t .to) s) ≡ length (take (t .to) s) = w .ended ∙ sym (length-take-le (t .to) s (w .end)) in
     rw (p) (ended-drop 10 (t .from) (take (t .to) s) n)
+
+-- there is no part where nothing is found
+pub events-none : (s : List ℕ) (v : Verdict) → eventsOf s (unfound v) ≡ []
+unfolding eventsOf
+events-none s v = refl

@@ -2,27 +2,42 @@
 use Prim.Native.Nat.{ℕ, _+_, _-_}
 use mathlib.Core.List.{List, [], _∷_}
 use mathlib.Core.Bool.{Bool, true, false, cond}
-use lib.Dec.{eqb, ltb, leb}
+use lib.Dec.{eqb, ltb}
 use lib.ListN.{length, getD, take, drop, set, replicate}
 use Rattle.rules.specs.declared.Counts.{Counts}
-use Rattle.rules.specs.Limits.{full, allowed}
+use Rattle.rules.specs.declared.Verdict.{Verdict}
+use Rattle.rules.specs.Limits.{Limits, full, allowed}
+use Rattle.rules.specs.Rules.{Marked, accepted, refused, told, said}
 use Rattle.lines.specs.Lines.{before, upTo, splitOn, letter}
 use Rattle.decimal.specs.declared.Natural.{Natural}
 use Rattle.decimal.specs.declared.Natural.the-variants as natural
 use Rattle.decimal.specs.Decimal.{naturalOf}
-use Rattle.trace.specs.declared.Verdict.{Verdict}
-use Rattle.trace.specs.declared.Verdict.the-variants as verdict
 use Rattle.trace.specs.declared.Trailer.{Trailer}
 use Rattle.trace.specs.declared.Trailer.the-variants as trailer
 use Rattle.trace.specs.declared.Headed.{Headed}
-use Rattle.trace.specs.declared.Headed.the-variants as headed
 use Rattle.trace.specs.declared.GuardLine.{GuardLine}
 use Rattle.trace.specs.declared.Guards.{Guards}
 use Rattle.trace.specs.declared.Trace.{Trace}
 
+-- ---- what finding refuses
+
 -- 1. Paper over 65,536 bytes (line 0).
-abbrev pub most : ℕ
-most = 65536
+abbrev pub tooLong : Verdict
+tooLong = said (refused 1 0)
+
+-- 2. Trailer missing or wrong (line 0).
+abbrev pub wrongTrailer : Verdict
+wrongTrailer = said (refused 2 0)
+
+-- 3. Head wrong (line 1).
+abbrev pub wrongHead : Verdict
+wrongHead = said (refused 3 1)
+
+-- 6. `G` line wrong: form, count, or undeclared lock (line 2).
+abbrev pub wrongGuards : Verdict
+wrongGuards = said (refused 6 2)
+
+-- ---- the trailer
 
 -- Last line, the trailer: `Z n`.
 unfoldable pub trailerNumber : List (List ℕ) → Natural
@@ -45,28 +60,39 @@ trailerOf s =
     (checkAt (lastLine s) (trailerNumber (splitOn 32 (take (length s - 1 - lastLine s) (drop (lastLine s) s)))))
     trailer.Wrong
 
--- threads 1 to 8, variables 1 to 16, locks 0 to 8
-abbrev pub checkCounts : Counts → Headed
-checkCounts c = cond (allowed full c) (headed.Of c) headed.Wrong
+-- ---- the head
 
-abbrev pub checkHead : Natural → Natural → Natural → Headed
-checkHead natural.Bad v l = headed.Wrong
-checkHead (natural.Of t) natural.Bad l = headed.Wrong
-checkHead (natural.Of t) (natural.Of v) natural.Bad = headed.Wrong
-checkHead (natural.Of t) (natural.Of v) (natural.Of l) = checkCounts (record { threads = t; variables = v; locks = l })
+abbrev pub noCounts : Counts
+noCounts = record { threads = 0; variables = 0; locks = 0 }
+
+-- a wrong line 1
+abbrev pub noHead : Headed
+noHead = record { ok = false; head = noCounts }
+
+-- threads 1 to 8, variables 1 to 16, locks 0 to 8
+abbrev pub checkCounts : Limits → Counts → Headed
+checkCounts m c = cond (allowed m c) (record { ok = true; head = c }) noHead
+
+abbrev pub checkHead : Limits → Natural → Natural → Natural → Headed
+checkHead m natural.Bad v l = noHead
+checkHead m (natural.Of t) natural.Bad l = noHead
+checkHead m (natural.Of t) (natural.Of v) natural.Bad = noHead
+checkHead m (natural.Of t) (natural.Of v) (natural.Of l) = checkCounts m (record { threads = t; variables = v; locks = l })
 
 -- Line 1: `H t v l`.
-unfoldable pub headOf : List (List ℕ) → Headed
-headOf fs =
+unfoldable pub headOf : Limits → List (List ℕ) → Headed
+headOf m fs =
     cond (eqb (length fs) 4)
     (cond (eqb (letter (getD fs 0 [])) 72)
-    (checkHead (naturalOf (getD fs 1 [])) (naturalOf (getD fs 2 [])) (naturalOf (getD fs 3 [])))
-    headed.Wrong)
-    headed.Wrong
+    (checkHead m (naturalOf (getD fs 1 [])) (naturalOf (getD fs 2 [])) (naturalOf (getD fs 3 [])))
+    noHead)
+    noHead
+
+-- ---- the guards
 
 -- one place for each variable that a trace may have
 abbrev pub noLocks : List ℕ
-noLocks = replicate 16 0
+noLocks = replicate (full .variables) 0
 
 -- a wrong line, `G -`, and a line with locks
 abbrev pub badLine : GuardLine
@@ -104,64 +130,50 @@ guardsOf v l fs =
     (cond (eqb (length fs) (v + 1)) (locksFrom 0 noLocks l (drop 1 fs)) badLine))
     badLine
 
--- no head and no guards
-abbrev pub noCounts : Counts
-noCounts = record { threads = 0; variables = 0; locks = 0 }
+-- ---- the whole
 
 abbrev pub noGuards : Guards
 noGuards = record { given = false; locks = noLocks }
 
 -- A refusal gives number and line and nothing else.
-abbrev pub refused : Verdict → Trace
-refused r = record { verdict = r; head = noCounts; guards = noGuards; from = 0; to = 0 }
+abbrev pub unfound : Verdict → Trace
+unfound v = record { verdict = v; head = noCounts; guards = noGuards; from = 0; to = 0 }
 
 -- the events stand from a on, up to the trailer at e
 abbrev pub withGuards : ℕ → ℕ → Counts → GuardLine → Trace
 withGuards a e h g =
     cond (g .ok)
-    (record { verdict = verdict.Found; head = h; guards = record { given = g .given; locks = g .locks }; from = a; to = e })
-    (refused verdict.WrongGuards)
+    (record { verdict = said accepted; head = h; guards = record { given = g .given; locks = g .locks }; from = a; to = e })
+    (unfound wrongGuards)
 
 -- line 2, the first of s, which starts at `at`
 unfoldable pub secondOf : List ℕ → ℕ → ℕ → Counts → Trace
 secondOf s at e h =
     cond (ltb (before 10 s) (length s))
     (withGuards (at + before 10 s + 1) e h (guardsOf (h .variables) (h .locks) (splitOn 32 (take (before 10 s) s))))
-    (refused verdict.WrongGuards)
+    (unfound wrongGuards)
 
+-- what stands behind line 1, whose end is at a
 abbrev pub behindHead : List ℕ → ℕ → ℕ → Headed → Trace
-behindHead s a e headed.Wrong = refused verdict.WrongHead
-behindHead s a e (headed.Of h) = secondOf (drop (a + 1) s) (a + 1) e h
+behindHead s a e r = cond (r .ok) (secondOf (drop (a + 1) s) (a + 1) e (r .head)) (unfound wrongHead)
 
 -- line 1, the first of s, what stands before the trailer at e
-unfoldable pub firstOf : List ℕ → ℕ → Trace
-firstOf s e =
-    cond (ltb (before 10 s) (length s)) (behindHead s (before 10 s) e (headOf (splitOn 32 (take (before 10 s) s)))) (refused verdict.WrongHead)
+unfoldable pub firstOf : Limits → List ℕ → ℕ → Trace
+firstOf m s e =
+    cond (ltb (before 10 s) (length s)) (behindHead s (before 10 s) e (headOf m (splitOn 32 (take (before 10 s) s)))) (unfound wrongHead)
 
-abbrev pub behindTrailer : List ℕ → Trailer → Trace
-behindTrailer s trailer.Wrong = refused verdict.WrongTrailer
-behindTrailer s (trailer.At e) = firstOf (take e s) e
+abbrev pub behindTrailer : Limits → List ℕ → Trailer → Trace
+behindTrailer m s trailer.Wrong = unfound wrongTrailer
+behindTrailer m s (trailer.At e) = firstOf m (take e s) e
 
 -- Whole paper: 1, 2, 3, 6.
-unfoldable pub traceOf : List ℕ → Trace
-traceOf s = cond (ltb most (length s)) (refused verdict.TooLong) (behindTrailer s (trailerOf s))
+unfoldable pub traceOf : Limits → List ℕ → Trace
+traceOf m s = cond (ltb (m .bytes) (length s)) (unfound tooLong) (behindTrailer m s (trailerOf s))
+
+-- the number and the line of each case; nothing is refused where a trace is found
+abbrev pub found : Trace → Marked
+found t = told (t .verdict)
 
 -- The part of the lent bytes that holds the events. It is empty after 1, 2, 3 or 6.
 unfoldable pub eventsOf : List ℕ → Trace → List ℕ
 eventsOf s t = take (t .to - t .from) (drop (t .from) s)
-
--- The number of a refusal, and 0 for none.
-abbrev pub refusal : Verdict → ℕ
-refusal verdict.Found = 0
-refusal verdict.TooLong = 1
-refusal verdict.WrongTrailer = 2
-refusal verdict.WrongHead = 3
-refusal verdict.WrongGuards = 6
-
--- The line of a refusal.
-abbrev pub refusedLine : Verdict → ℕ
-refusedLine verdict.Found = 0
-refusedLine verdict.TooLong = 0
-refusedLine verdict.WrongTrailer = 0
-refusedLine verdict.WrongHead = 1
-refusedLine verdict.WrongGuards = 2

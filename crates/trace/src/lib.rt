@@ -1,22 +1,15 @@
 // Finding a trace in bytes: its refusal, or its head, its guards and the part that holds its events.
 use decimal::Natural;
 use rules::Counts;
+use rules::Verdict;
 ghost use mathlib.Core.Path.{_≡_};
-ghost use mathlib.Core.List.{[]};
-ghost use Prim.Native.Nat.{_+_, _-_, _≤_, _<_};
+ghost use Prim.Native.Nat.{_+_, _≤_};
 ghost use lib.ListN.{length, drop};
 ghost use Rattle.lines.specs.Lines.{splitOn};
 ghost use Rattle.decimal.specs.Decimal.{naturalOf};
-ghost use Rattle.trace.specs.Trace.{most, trailerNumber, checkAt, trailerOf, checkHead, headOf, badLine, noLocks, lockOf, locksFrom, isDash, guardsOf, refused, withGuards, secondOf, firstOf, traceOf, eventsOf};
-
-// What finding says of the bytes. The number and the line of a refusal are in specs/Trace.antt.
-pub enum Verdict {
-    Found,
-    TooLong,
-    WrongTrailer,
-    WrongHead,
-    WrongGuards,
-}
+ghost use Rattle.rules.specs.Limits.{full};
+ghost use Rattle.rules.specs.Rules.{refused, said};
+ghost use Rattle.trace.specs.Trace.{trailerNumber, checkAt, trailerOf, noHead, checkHead, headOf, badLine, noLocks, lockOf, locksFrom, isDash, guardsOf, unfound, withGuards, secondOf, firstOf, traceOf, eventsOf};
 
 // The guards of a trace: whether line 2 names locks, and then the lock of each variable, 0 past the last.
 pub struct Guards {
@@ -39,11 +32,13 @@ pub enum Trailer {
     At(usize),
 }
 
-pub enum Headed {
-    Wrong,
-    Of(Counts),
+// The head: whether line 1 is right, and its counts; all 0 where it is wrong.
+pub struct Headed {
+    pub ok: bool,
+    pub head: Counts,
 }
 
+// Line 2: whether it is right, whether it names locks, and the lock of each variable.
 pub struct GuardLine {
     pub ok: bool,
     pub given: bool,
@@ -93,46 +88,58 @@ fn find_trailer(s: &[u8]) -> Trailer
     }
 }
 
-fn check_head(t: Natural, v: Natural, l: Natural) -> Headed
-    ensures { λ r. ⌜ r ≡ checkHead t v l ⌝ }
+fn no_head() -> Headed
+    ensures { λ r. ⌜ r ≡ noHead ⌝ }
 {
-    match t {
-        Natural::Bad => Headed::Wrong,
-        Natural::Of(threads) => match v {
-            Natural::Bad => Headed::Wrong,
-            Natural::Of(variables) => match l {
-                Natural::Bad => Headed::Wrong,
-                Natural::Of(locks) => {
-                    let c = Counts {
-                        threads,
-                        variables,
-                        locks,
-                    };
-                    if rules::is_allowed(c) {
-                        Headed::Of(c)
-                    } else {
-                        Headed::Wrong
-                    }
-                }
-            },
+    Headed {
+        ok: false,
+        head: Counts {
+            threads: 0,
+            variables: 0,
+            locks: 0,
         },
+    }
+}
+
+fn check_head(t: Natural, v: Natural, l: Natural) -> Headed
+    ensures { λ r. ⌜ r ≡ checkHead full t v l ⌝ }
+{
+    let Natural::Of(threads) = t else {
+        return no_head();
+    };
+    let Natural::Of(variables) = v else {
+        return no_head();
+    };
+    let Natural::Of(locks) = l else {
+        return no_head();
+    };
+    let c = Counts {
+        threads,
+        variables,
+        locks,
+    };
+    if rules::is_allowed(c) {
+        Headed { ok: true, head: c }
+    } else {
+        no_head()
     }
 }
 
 // Line 1, without its end.
 fn read_head(s: &[u8]) -> Headed
-    ensures { λ r. ⌜ r ≡ headOf (splitOn 32 (now (s .entry))) ⌝ }
+    ensures { λ r. ⌜ r ≡ headOf full (splitOn 32 (now (s .entry))) ⌝ }
 {
-    if lines::count_fields(s) == 4 {
-        if lines::read_letter(lines::field(s, 0)) == b'H' {
-            return check_head(
-                decimal::read_natural(lines::field(s, 1)),
-                decimal::read_natural(lines::field(s, 2)),
-                decimal::read_natural(lines::field(s, 3)),
-            );
-        }
+    if lines::count_fields(s) != 4 {
+        return no_head();
     }
-    Headed::Wrong
+    if lines::read_letter(lines::field(s, 0)) != b'H' {
+        return no_head();
+    }
+    check_head(
+        decimal::read_natural(lines::field(s, 1)),
+        decimal::read_natural(lines::field(s, 2)),
+        decimal::read_natural(lines::field(s, 3)),
+    )
 }
 
 fn bad_line() -> GuardLine
@@ -157,7 +164,7 @@ fn read_lock(f: &[u8], l: usize) -> Natural
 
 // The locks of v variables, behind the first field.
 fn read_locks(s: &[u8], v: usize, l: usize) -> GuardLine
-    requires { ⌜ (v ≤ 16) × (length (splitOn 32 (now s)) ≡ v + 1) ⌝ }
+    requires { ⌜ (v ≤ full .variables) × (length (splitOn 32 (now s)) ≡ v + 1) ⌝ }
     ensures { λ r. ⌜ r ≡ locksFrom 0 noLocks l (drop 1 (splitOn 32 (now (s .entry)))) ⌝ }
 {
     let mut g = [0usize; 16];
@@ -192,7 +199,7 @@ fn is_dash(s: &[u8]) -> bool
 
 // Line 2, without its end, for v variables and l locks.
 fn read_guards(s: &[u8], v: usize, l: usize) -> GuardLine
-    requires { ⌜ v ≤ 16 ⌝ }
+    requires { ⌜ v ≤ full .variables ⌝ }
     ensures { λ r. ⌜ r ≡ guardsOf v l (splitOn 32 (now (s .entry))) ⌝ }
 {
     if lines::read_letter(lines::field(s, 0)) == b'G' {
@@ -212,11 +219,12 @@ fn read_guards(s: &[u8], v: usize, l: usize) -> GuardLine
     }
 }
 
-fn refuse(r: Verdict) -> Trace
-    ensures { λ t. ⌜ t ≡ refused r ⌝ }
+// A refusal with this number and line.
+fn refuse(number: u8, line: usize) -> Trace
+    ensures { λ r. ⌜ r ≡ unfound (said (refused number line)) ⌝ }
 {
     Trace {
-        verdict: r,
+        verdict: Verdict::Refused(number, line),
         head: Counts {
             threads: 0,
             variables: 0,
@@ -237,7 +245,7 @@ fn with_guards(a: usize, e: usize, h: Counts, g: GuardLine) -> Trace
     if g.ok {
         let locks = g.locks;
         Trace {
-            verdict: Verdict::Found,
+            verdict: Verdict::Accepted,
             head: h,
             guards: Guards {
                 given: g.given,
@@ -247,18 +255,18 @@ fn with_guards(a: usize, e: usize, h: Counts, g: GuardLine) -> Trace
             to: e,
         }
     } else {
-        refuse(Verdict::WrongGuards)
+        refuse(6, 2)
     }
 }
 
 // Line 2, the first of s, at `at` and in front of the trailer at `e`.
 fn find_second(s: &[u8], at: usize, e: usize, h: Counts) -> Trace
-    requires { ⌜ (at + length (now s) ≤ most) × (h .variables ≤ 16) ⌝ }
+    requires { ⌜ (at + length (now s) ≤ full .bytes) × (h .variables ≤ full .variables) ⌝ }
     ensures { λ r. ⌜ r ≡ secondOf (now (s .entry)) at e h ⌝ }
 {
     let b = lines::find(s, 10);
     if s.len() <= b {
-        return refuse(Verdict::WrongGuards);
+        return refuse(6, 2);
     }
     let g = read_guards(&s[..b], h.variables, h.locks);
     with_guards(at + b + 1, e, h, g)
@@ -266,35 +274,38 @@ fn find_second(s: &[u8], at: usize, e: usize, h: Counts) -> Trace
 
 // Line 1, the first of s, in front of the trailer at `e`.
 fn find_first(s: &[u8], e: usize) -> Trace
-    requires { ⌜ length (now s) ≤ most ⌝ }
-    ensures { λ r. ⌜ r ≡ firstOf (now (s .entry)) e ⌝ }
+    requires { ⌜ length (now s) ≤ full .bytes ⌝ }
+    ensures { λ r. ⌜ r ≡ firstOf full (now (s .entry)) e ⌝ }
 {
     let a = lines::find(s, 10);
     if s.len() <= a {
-        return refuse(Verdict::WrongHead);
+        return refuse(3, 1);
     }
-    match read_head(&s[..a]) {
-        Headed::Wrong => refuse(Verdict::WrongHead),
-        Headed::Of(h) => find_second(&s[a + 1..], a + 1, e, h),
+    let r = read_head(&s[..a]);
+    if r.ok {
+        let h = r.head;
+        find_second(&s[a + 1..], a + 1, e, h)
+    } else {
+        refuse(3, 1)
     }
 }
 
 // The trace in the bytes, or its refusal: 1, 2, 3 and 6 in this order.
 pub fn find(s: &[u8]) -> Trace
-    ensures { λ r. ⌜ r ≡ traceOf (now (s .entry)) ⌝ }
+    ensures { λ r. ⌜ r ≡ traceOf full (now (s .entry)) ⌝ }
 {
     if 65536 < s.len() {
-        return refuse(Verdict::TooLong);
+        return refuse(1, 0);
     }
     match find_trailer(s) {
-        Trailer::Wrong => refuse(Verdict::WrongTrailer),
+        Trailer::Wrong => refuse(2, 0),
         Trailer::At(e) => find_first(&s[..e], e),
     }
 }
 
 // The part of the bytes that holds the events; empty after a refusal.
 pub fn find_events(s: &[u8]) -> &[u8]
-    ensures { λ r. ⌜ now r ≡ eventsOf (now (s .entry)) (traceOf (now (s .entry))) ⌝ }
+    ensures { λ r. ⌜ now r ≡ eventsOf (now (s .entry)) (traceOf full (now (s .entry))) ⌝ }
 {
     let t = find(s);
     let from = t.from;

@@ -1,20 +1,19 @@
 -- The lines and fields of a text that was put together from them.
--- Assumes nothing.
 use mathlib.Core.Path.{_≡_, refl, sym, ap, _∙_}
 use mathlib.Core.Bool.{Bool, true, false, cond}
 use mathlib.Core.List.{List, [], _∷_, _++_, append-assoc, append-nil}
 use mathlib.Core.Logic.{⊎-elim}
-use Prim.Native.Nat.{ℕ, zero, suc, _≤_, _<_, _+_, _-_, _/_, _%_}
+use Prim.Native.Nat.{ℕ, zero, suc, _<_, _+_, _-_, _/_, _%_}
 use native.Mathlib.Omega.{arith}
 use borrow.Author.Tests.{lt-ltb, le-ltb, eq-eqb, ne-eqb, eqb-false}
 use lib.Dec.{eqb}
-use lib.IntN.{ℤ, pos, negsuc, natAbs}
+use lib.IntN.{ℤ, pos, negsuc}
 use lib.ListN.{length, take, drop, length-append}
 use lib.Seq.{take-at, drop-at}
 use Rattle.lines.specs.Lines.{before, upTo, splitOn, linesOf}
 use Rattle.lines.proofs.PartLaws.{lt-or-le}
 use Rattle.lines.proofs.FieldLaws.{split-more, split-last, lines-more}
-use Rattle.decimal.specs.Text.{digitsIn, naturalText, isNegative, integerText, rowText}
+use Rattle.decimal.specs.Text.{digitsIn, naturalText, integerText, rowText}
 
 -- no b stands in t
 abbrev pub Free : ℕ → List ℕ → Type 0

@@ -1,5 +1,5 @@
 pub mod NumberText
 pub mod FieldText
+pub mod WriteLaws
 pub mod EventBack
 pub mod TraceBack
-pub mod WriteLaws

@@ -1,34 +1,21 @@
 -- A number that is written is read back as it was.
--- Assumes nothing.
 use mathlib.Core.Path.{_≡_, refl, sym, ap, _∙_}
-use mathlib.Core.Bool.{Bool, true, false}
 use mathlib.Core.List.{List, [], _∷_, _++_, append-assoc, append-nil}
 use mathlib.Core.Logic.{⊎-elim}
-use Prim.Native.Nat.{ℕ, zero, suc, _≤_, _<_, _+_, _-_, _*_, _/_, _%_, _^_, min}
+use Prim.Native.Nat.{ℕ, zero, suc, _≤_, _<_, _+_, _-_, _*_, _/_, _%_, _^_}
 use native.Mathlib.Nat.{pow-suc}
 use native.Mathlib.Omega.{arith}
-use borrow.Author.Tests.{lt-ltb, le-ltb, le-leb, lt-leb, eq-eqb, ne-eqb}
-use lib.Dec.{eqb, ltb, leb}
-use lib.IntN.{ℤ, pos, negsuc, natAbs}
-use lib.ListN.{length, getD, drop, length-append}
-use mir.Val.{SFits, hbits}
+use borrow.Author.Tests.{lt-ltb, le-leb, ne-eqb}
+use lib.IntN.{ℤ, pos, negsuc}
+use lib.ListN.{length, getD}
+use mir.Val.{SFits}
 use Rattle.rules.specs.Limits.{valueWidth}
-use Rattle.lines.specs.Lines.{before}
 use Rattle.lines.proofs.PartLaws.{lt-or-le}
-use Rattle.decimal.specs.declared.Natural.{Natural}
 use Rattle.decimal.specs.declared.Natural.the-variants as natural
-use Rattle.decimal.specs.declared.Integer.{Integer}
 use Rattle.decimal.specs.declared.Integer.the-variants as integer
-use Rattle.decimal.specs.Decimal.{cap, limit, isDigit, digitsFrom, naturalOf, positiveOf, negativeOf, integerOf}
-use Rattle.decimal.specs.Text.{digitsIn, naturalText, isNegative, integerText}
-
-digits-small : (k n : ℕ) → n < 10 → digitsIn (suc k) n ≡ (48 + n) ∷ []
-unfolding digitsIn
-digits-small k n h = rw (lt-ltb n 10 h)
-
-digits-large : (k n : ℕ) → 10 ≤ n → digitsIn (suc k) n ≡ digitsIn k (n / 10) ++ ((48 + n % 10) ∷ [])
-unfolding digitsIn
-digits-large k n h = rw (le-ltb n 10 h)
+use Rattle.decimal.specs.Decimal.{cap, limit, digitsFrom, naturalOf, integerOf}
+use Rattle.decimal.proofs.TextLaws.{digits-small, digits-large}
+use Rattle.decimal.specs.Text.{digitsIn, naturalText, integerText}
 
 -- one digit more
 digit-on : (m d : ℕ) (u : List ℕ) → d < 10 → digitsFrom m ((48 + d) ∷ u) ≡ digitsFrom (m * 10 + d) u

@@ -1,37 +1,30 @@
 -- The canonical text of a trace is found and read back as it was.
--- Assumes nothing.
 use mathlib.Core.Path.{_≡_, refl, sym, ap, _∙_}
 use mathlib.Core.Bool.{Bool, true, false, _&&_, cond}
-use mathlib.Core.List.{List, [], _∷_, _++_, append-assoc, append-nil}
-use Prim.Native.Nat.{ℕ, zero, suc, _≤_, _<_, _+_, _-_}
+use mathlib.Core.List.{List, [], _∷_, _++_, map, append-assoc, append-nil}
+use mathlib.Core.Option.{some}
+use Prim.Native.Nat.{ℕ, suc, _≤_, _<_, _+_, _-_}
 use native.Mathlib.Omega.{arith}
 use borrow.Author.Tests.{lt-ltb, eq-eqb, ne-eqb, ltb-true}
-use lib.Dec.{eqb, ltb}
+use lib.Dec.{ltb}
 use lib.ListN.{length, getD, take, drop, set, replicate, length-append}
 use lib.Seq.{take-at, drop-at, getD-at, set-at}
 use Rattle.rules.specs.declared.Counts.{Counts}
 use Rattle.rules.specs.declared.Event.{Event}
 use Rattle.rules.specs.Limits.{full, allowed, firstLine}
 use Rattle.rules.proofs.Bounds.{allowed-bounds}
-use Rattle.lines.specs.Lines.{before, upTo, splitOn, ended, linesOf, letter}
-use Rattle.decimal.specs.declared.Natural.{Natural}
+use Rattle.lines.specs.Lines.{before, upTo, splitOn, linesOf, letter}
+use Rattle.lines.specs.Lines as lines
 use Rattle.decimal.specs.declared.Natural.the-variants as natural
 use Rattle.decimal.specs.Decimal.{cap, naturalOf}
-use Rattle.decimal.specs.Text.{naturalText}
+use Rattle.decimal.specs.Text.{naturalText, wordRow, ended}
 use Rattle.decimal.proofs.TextLaws.{text-small}
-use Rattle.events.specs.declared.Reading.{Reading}
-use Rattle.events.specs.declared.Reading.the-variants as reading
 use Rattle.events.specs.Events.{readings}
-use Rattle.trace.specs.declared.GuardLine.{GuardLine}
 use Rattle.trace.specs.declared.Guards.{Guards}
-use Rattle.trace.specs.declared.Headed.{Headed}
-use Rattle.trace.specs.declared.Headed.the-variants as headed
-use Rattle.trace.specs.declared.Trailer.{Trailer}
 use Rattle.trace.specs.declared.Trailer.the-variants as trailer
-use Rattle.trace.specs.declared.Trace.{Trace}
-use Rattle.trace.specs.Trace.{most, trailerNumber, checkAt, lastLine, trailerOf, headOf, noLocks, lockLine, lockOf, withLock, locksFrom, isDash, guardsOf, withGuards, secondOf, behindHead, firstOf, behindTrailer, traceOf, eventsOf}
+use Rattle.trace.specs.Trace.{trailerNumber, checkAt, lastLine, trailerOf, headOf, lockLine, locksFrom, isDash, guardsOf, withGuards, secondOf, behindHead, firstOf, behindTrailer, traceOf, eventsOf}
 use Rattle.trace.proofs.TraceLaws.{first-some, second-some, trace-short}
-use Rattle.writer.specs.Text.{rowLine, headLine, guardLine, eventLine, trailerLine, line, eventsText, bodyText, traceText, allBelow, padded, Guarded, none, given, Declared, AllDeclared, done, more, foundText, allRead}
+use Rattle.writer.specs.Text.{headLine, guardLine, eventLine, trailerLine, eventsText, bodyText, traceText, allBelow, padded, Guarded, none, given, AllDeclared, done, more, foundText}
 use Rattle.writer.proofs.NumberText.{natural-back}
 use Rattle.writer.proofs.FieldText.{Free, free-nil, free-cons, before-end, lines-free, texts, up-line, up-join, up-free, up-append}
 use Rattle.writer.proofs.EventBack.{row-fields, row-free, written-read, event-free}
@@ -43,15 +36,15 @@ pub record Cut (t u s : List ℕ) : Type 0 where
   pub front : take (length t) s ≡ t
   pub back : drop (length t + 1) s ≡ u
 
-cut : (t u : List ℕ) → Free 10 t → Cut t u (line t ++ u)
+cut : (t u : List ℕ) → Free 10 t → Cut t u (ended t ++ u)
 cut t u h =
-    let e : line t ++ u ≡ t ++ (10 ∷ u) = append-assoc t (10 ∷ []) u in
-    let m : length t + 1 ≡ length (line t) = omega (arith, length-append t (10 ∷ [])) in
+    let e : ended t ++ u ≡ t ++ (10 ∷ u) = append-assoc t (10 ∷ []) u in
+    let m : length t + 1 ≡ length (ended t) = omega (arith, length-append t (10 ∷ [])) in
     record {
       place = sym (ap (before 10) e ∙ before-end 10 t u h);
-      inside = omega (arith, length-append (line t) u, length-append t (10 ∷ []));
+      inside = omega (arith, length-append (ended t) u, length-append t (10 ∷ []));
       front = ap (take (length t)) e ∙ take-at t (10 ∷ u) (length t) refl;
-      back = ap (λ (i : ℕ). drop i (line t ++ u)) m ∙ drop-at (line t) u (length (line t)) refl;
+      back = ap (λ (i : ℕ). drop i (ended t ++ u)) m ∙ drop-at (ended t) u (length (ended t)) refl;
     }
 
 -- the trailer
@@ -64,7 +57,7 @@ module _ (b : List ℕ) (whole : upTo 10 b ≡ length b) (small : length b ≤ c
   last = trailerLine (length b)
 
   abbrev bytes : List ℕ
-  bytes = b ++ line last
+  bytes = b ++ ended last
 
   joined : bytes ≡ (b ++ last) ++ (10 ∷ [])
   joined = sym (append-assoc b last (10 ∷ []))
@@ -88,8 +81,8 @@ module _ (b : List ℕ) (whole : upTo 10 b ≡ length b) (small : length b ≤ c
   piece : take (length bytes - 1 - length b) (drop (length b) bytes) ≡ last
   piece =
       let n : length bytes - 1 - length b ≡ length last = omega (arith, before-last, length-append b last) in
-      ap (λ (s : List ℕ). take (length bytes - 1 - length b) s) (drop-at b (line last) (length b) refl)
-      ∙ ap (λ (i : ℕ). take i (line last)) n ∙ take-at last (10 ∷ []) (length last) refl
+      ap (λ (s : List ℕ). take (length bytes - 1 - length b) s) (drop-at b (ended last) (length b) refl)
+      ∙ ap (λ (i : ℕ). take i (ended last)) n ∙ take-at last (10 ∷ []) (length last) refl
 
   pub trailer-back : trailerOf bytes ≡ trailer.At (length b)
   unfolding trailerOf
@@ -101,14 +94,14 @@ module _ (b : List ℕ) (whole : upTo 10 b ≡ length b) (small : length b ≤ c
       ∙ rw (eq-eqb (length b) (length b) refl))
 
 -- the head
-head-back : (c : Counts) → allowed full c ≡ true → headOf (splitOn 32 (headLine c)) ≡ headed.Of c
+head-back : (c : Counts) → allowed full c ≡ true → headOf full (splitOn 32 (headLine c)) ≡ record { ok = true; head = c }
 unfolding headOf texts letter
 head-back c a =
     let w = allowed-bounds c a in
     let t : naturalOf (naturalText (c .threads)) ≡ natural.Of (c .threads) = natural-back (c .threads) (omega (arith, w)) in
     let v : naturalOf (naturalText (c .variables)) ≡ natural.Of (c .variables) = natural-back (c .variables) (omega (arith, w)) in
     let l : naturalOf (naturalText (c .locks)) ≡ natural.Of (c .locks) = natural-back (c .locks) (omega (arith, w)) in
-    ap headOf (row-fields 72 (c .threads ∷ c .variables ∷ c .locks ∷ []) (λ e. omega arith)) ∙ rw (t, v, l, a)
+    ap (headOf full) (row-fields 72 (c .threads ∷ c .variables ∷ c .locks ∷ []) (λ e. omega arith)) ∙ rw (t, v, l, a)
 
 -- the guards
 below-split : (l n : ℕ) (ns : List ℕ) → allBelow l (n ∷ ns) ≡ true → (n < l) × (allBelow l ns ≡ true)
@@ -119,17 +112,17 @@ below-split l n ns h = by (ltb n l) refl h
     by true e h = (ltb-true n l e, h)
     by false e h = absurd (let z : _≡_ {A = ℕ} 0 1 = cc in omega arith)
 
-locks-back : (l : ℕ) → l ≤ 8 → (a ns : List ℕ) → length a + length ns ≤ 16 → allBelow l ns ≡ true
+locks-back : (l : ℕ) → l ≤ full .locks → (a ns : List ℕ) → length a + length ns ≤ full .variables → allBelow l ns ≡ true
     → locksFrom (length a) (padded a) l (texts ns) ≡ lockLine (padded (a ++ ns))
 unfolding locksFrom texts
 locks-back l k a [] h b = ap (λ (u : List ℕ). lockLine (padded u)) (sym (append-nil a))
 locks-back l k a (n ∷ ns) h b =
     let w = below-split l n ns b in
-    let z : 16 - length a ≡ suc (16 - length (a ++ (n ∷ []))) = omega (arith, length-append a (n ∷ [])) in
+    let z : full .variables - length a ≡ suc (full .variables - length (a ++ (n ∷ []))) = omega (arith, length-append a (n ∷ [])) in
     let s : set (padded a) (length a) n ≡ padded (a ++ (n ∷ [])) =
     ap (λ (i : ℕ). set (a ++ replicate i 0) (length a) n) z
-    ∙ set-at a 0 (replicate (16 - length (a ++ (n ∷ []))) 0) n (length a) refl
-    ∙ sym (append-assoc a (n ∷ []) (replicate (16 - length (a ++ (n ∷ []))) 0)) in
+    ∙ set-at a 0 (replicate (full .variables - length (a ++ (n ∷ []))) 0) n (length a) refl
+    ∙ sym (append-assoc a (n ∷ []) (replicate (full .variables - length (a ++ (n ∷ []))) 0)) in
     let i : length a + 1 ≡ length (a ++ (n ∷ [])) = omega (arith, length-append a (n ∷ [])) in
     rw (natural-back n (omega (arith, w)), lt-ltb n l (w .0), s, i)
     (locks-back l k (a ++ (n ∷ [])) ns (omega (arith, length-append a (n ∷ []))) (w .1)
@@ -140,7 +133,7 @@ unfolding texts
 texts-length [] = refl
 texts-length (n ∷ ns) = ap suc (texts-length ns)
 
-no-dash : (l : ℕ) → l ≤ 8 → (ns : List ℕ) → allBelow l ns ≡ true → isDash ((71 ∷ []) ∷ texts ns) ≡ false
+no-dash : (l : ℕ) → l ≤ full .locks → (ns : List ℕ) → allBelow l ns ≡ true → isDash ((71 ∷ []) ∷ texts ns) ≡ false
 unfolding texts letter
 no-dash l k [] b = refl
 no-dash l k (n ∷ []) b =
@@ -154,37 +147,37 @@ unfolding guardsOf splitOn letter
 guards-back c g a none = refl
 guards-back c g a (given ns n b) =
     let w = allowed-bounds c a in
-    let t : take (c .variables) (padded ns) ≡ ns = take-at ns (replicate (16 - length ns) 0) (c .variables) n in
+    let t : take (c .variables) (padded ns) ≡ ns = take-at ns (replicate (full .variables - length ns) 0) (c .variables) n in
     let d = no-dash (c .locks) (omega (arith, w)) ns b in
     let m : suc (length (texts ns)) ≡ c .variables + 1 = omega (arith, texts-length ns, n) in
     let k = locks-back (c .locks) (omega (arith, w)) [] ns (omega (arith, w, n)) b in
-    ap (guardsOf (c .variables) (c .locks)) (ap (λ (u : List ℕ). splitOn 32 (rowLine 71 u)) t ∙ row-fields 71 ns (λ e. omega arith))
+    ap (guardsOf (c .variables) (c .locks)) (ap (λ (u : List ℕ). splitOn 32 (wordRow (71 ∷ []) u)) t ∙ row-fields 71 ns (λ e. omega arith))
     ∙ rw (d, eq-eqb _ _ m) k
 
 -- the events
-events-back : (c : Counts) → allowed full c ≡ true → (n : ℕ) (es : List Event) → AllDeclared c n es → readings c n (linesOf (eventsText es)) ≡ allRead es
-unfolding readings eventsText linesOf splitOn ended allRead
+events-back : (c : Counts) → allowed full c ≡ true → (n : ℕ) (es : List Event) → AllDeclared c n es → readings n (linesOf (eventsText es)) ≡ map (λ (e : Event). some e) es
+unfolding readings eventsText linesOf splitOn lines.ended
 events-back c a n [] (done m) = refl
 events-back c a n (e ∷ es) (more m f fs d r) =
-    ap (readings c n) (ap linesOf (append-assoc (eventLine e) (10 ∷ []) (eventsText es)) ∙ lines-free (eventLine e) (eventsText es) (event-free e))
-    ∙ rw (written-read c n e a d, events-back c a (n + 1) es r)
+    ap (readings n) (ap linesOf (append-assoc (eventLine e) (10 ∷ []) (eventsText es)) ∙ lines-free (eventLine e) (eventsText es) (event-free e))
+    ∙ rw (written-read c n e a d, events-back c a (suc n) es r)
 
 events-whole : (es : List Event) → upTo 10 (eventsText es) ≡ length (eventsText es)
 unfolding eventsText upTo
 events-whole [] = refl
-events-whole (e ∷ es) = up-join 10 (line (eventLine e)) (eventsText es) (up-line 10 (eventLine e)) (events-whole es)
+events-whole (e ∷ es) = up-join 10 (ended (eventLine e)) (eventsText es) (up-line 10 (eventLine e)) (events-whole es)
 
 guard-free : (c : Counts) (g : Guards) → Free 10 (guardLine (c .variables) g)
 guard-free c g = by (g .given)
   where
-    by : (q : Bool) → Free 10 (cond q (rowLine 71 (take (c .variables) (g .locks))) (71 ∷ 32 ∷ 45 ∷ []))
+    by : (q : Bool) → Free 10 (cond q (wordRow (71 ∷ []) (take (c .variables) (g .locks))) (71 ∷ 32 ∷ 45 ∷ []))
     by true = row-free 71 (take (c .variables) (g .locks)) (λ e. omega arith)
     by false =
         free-cons 10 71 (32 ∷ 45 ∷ []) (λ e. omega arith) (free-cons 10 32 (45 ∷ []) (λ e. omega arith) (free-cons 10 45 [] (λ e. omega arith) (free-nil 10)))
 
-module _ (c : Counts) (g : Guards) (es : List Event) (a : allowed full c ≡ true) (ok : Guarded c g) (short : length (traceText c g es) ≤ most) where
+module _ (c : Counts) (g : Guards) (es : List Event) (a : allowed full c ≡ true) (ok : Guarded c g) (short : length (traceText c g es) ≤ full .bytes) where
   abbrev second : List ℕ
-  second = line (guardLine (c .variables) g) ++ eventsText es
+  second = ended (guardLine (c .variables) g) ++ eventsText es
 
   abbrev n : ℕ
   n = length (bodyText c g es)
@@ -192,14 +185,14 @@ module _ (c : Counts) (g : Guards) (es : List Event) (a : allowed full c ≡ tru
   body-whole : upTo 10 (bodyText c g es) ≡ n
   unfolding bodyText
   body-whole =
-      up-join 10 (line (headLine c)) second (up-line 10 (headLine c))
-      (up-join 10 (line (guardLine (c .variables) g)) (eventsText es) (up-line 10 (guardLine (c .variables) g)) (events-whole es))
+      up-join 10 (ended (headLine c)) second (up-line 10 (headLine c))
+      (up-join 10 (ended (guardLine (c .variables) g)) (eventsText es) (up-line 10 (guardLine (c .variables) g)) (events-whole es))
 
   body-small : n ≤ cap
   unfolding traceText
-  body-small = omega (arith, length-append (bodyText c g es) (line (trailerLine n)))
+  body-small = omega (arith, length-append (bodyText c g es) (ended (trailerLine n)))
 
-  places : length (headLine c) + 1 + length (guardLine (c .variables) g) + 1 ≡ length (line (headLine c)) + length (line (guardLine (c .variables) g))
+  places : length (headLine c) + 1 + length (guardLine (c .variables) g) + 1 ≡ length (ended (headLine c)) + length (ended (guardLine (c .variables) g))
   places = omega (arith, length-append (headLine c) (10 ∷ []), length-append (guardLine (c .variables) g) (10 ∷ []))
 
   second-back : secondOf second (length (headLine c) + 1) n c ≡ foundText c g es
@@ -211,36 +204,36 @@ module _ (c : Counts) (g : Guards) (es : List Event) (a : allowed full c ≡ tru
       ∙ ap (withGuards (length (headLine c) + 1 + length (guardLine (c .variables) g) + 1) n c) (guards-back c g a ok)
       ∙ ap (λ (i : ℕ). withGuards i n c (record { ok = true; given = g .given; locks = g .locks })) places
 
-  first-back : firstOf (bodyText c g es) n ≡ foundText c g es
+  first-back : firstOf full (bodyText c g es) n ≡ foundText c g es
   unfolding bodyText
   first-back =
-      let b = line (headLine c) ++ second in
+      let b = ended (headLine c) ++ second in
       let w = cut (headLine c) second (row-free 72 (c .threads ∷ c .variables ∷ c .locks ∷ []) (λ e. omega arith)) in
-      sym (first-some b n (length (headLine c)) (w .place) (w .inside))
-      ∙ ap (λ (t : List ℕ). behindHead b (length (headLine c)) n (headOf (splitOn 32 t))) (w .front)
+      sym (first-some full b n (length (headLine c)) (w .place) (w .inside))
+      ∙ ap (λ (t : List ℕ). behindHead b (length (headLine c)) n (headOf full (splitOn 32 t))) (w .front)
       ∙ ap (behindHead b (length (headLine c)) n) (head-back c a)
       ∙ ap (λ (t : List ℕ). secondOf t (length (headLine c) + 1) n c) (w .back)
       ∙ second-back
 
   -- The text is found, with its head, its guards and the place of its events.
-  pub trace-found : traceOf (traceText c g es) ≡ foundText c g es
+  pub trace-found : traceOf full (traceText c g es) ≡ foundText c g es
   unfolding traceText
   trace-found =
-      let s = bodyText c g es ++ line (trailerLine n) in
-      sym (trace-short s short) ∙ ap (behindTrailer s) (trailer-back (bodyText c g es) body-whole body-small)
-      ∙ ap (λ (t : List ℕ). firstOf t n) (take-at (bodyText c g es) (line (trailerLine n)) n refl)
+      let s = bodyText c g es ++ ended (trailerLine n) in
+      sym (trace-short full s short) ∙ ap (behindTrailer full s) (trailer-back (bodyText c g es) body-whole body-small)
+      ∙ ap (λ (t : List ℕ). firstOf full t n) (take-at (bodyText c g es) (ended (trailerLine n)) n refl)
       ∙ first-back
 
   -- The part that is handed back holds the events.
-  pub events-found : eventsOf (traceText c g es) (traceOf (traceText c g es)) ≡ eventsText es
+  pub events-found : eventsOf (traceText c g es) (traceOf full (traceText c g es)) ≡ eventsText es
   unfolding eventsOf foundText traceText bodyText
   events-found =
-      let p = line (headLine c) ++ line (guardLine (c .variables) g) in
+      let p = ended (headLine c) ++ ended (guardLine (c .variables) g) in
       let e = eventsText es in
-      let z = line (trailerLine n) in
-      let from = length (line (headLine c)) + length (line (guardLine (c .variables) g)) in
-      let i : from ≡ length p = sym (length-append (line (headLine c)) (line (guardLine (c .variables) g))) in
-      let b : line (headLine c) ++ (line (guardLine (c .variables) g) ++ e) ≡ p ++ e = sym (append-assoc (line (headLine c)) (line (guardLine (c .variables) g)) e) in
+      let z = ended (trailerLine n) in
+      let from = length (ended (headLine c)) + length (ended (guardLine (c .variables) g)) in
+      let i : from ≡ length p = sym (length-append (ended (headLine c)) (ended (guardLine (c .variables) g))) in
+      let b : ended (headLine c) ++ (ended (guardLine (c .variables) g) ++ e) ≡ p ++ e = sym (append-assoc (ended (headLine c)) (ended (guardLine (c .variables) g)) e) in
       let s : traceText c g es ≡ p ++ (e ++ z) = ap (λ (u : List ℕ). u ++ z) b ∙ append-assoc p e z in
       let m : n - from ≡ length e = omega (arith, i, ap length b, length-append p e) in
       ap (eventsOf (traceText c g es)) trace-found
@@ -250,5 +243,5 @@ module _ (c : Counts) (g : Guards) (es : List Event) (a : allowed full c ≡ tru
       ∙ ap (λ (k : ℕ). take k (e ++ z)) m ∙ take-at e z (length e) refl
 
   -- Its lines are read as the events.
-  pub events-read : AllDeclared c firstLine es → readings c firstLine (linesOf (eventsOf (traceText c g es) (traceOf (traceText c g es)))) ≡ allRead es
-  events-read d = ap (λ (t : List ℕ). readings c firstLine (linesOf t)) events-found ∙ events-back c a firstLine es d
+  pub events-read : AllDeclared c (firstLine c) es → readings (firstLine c) (linesOf (eventsOf (traceText c g es) (traceOf full (traceText c g es)))) ≡ map (λ (e : Event). some e) es
+  events-read d = ap (λ (t : List ℕ). readings (firstLine c) (linesOf t)) events-found ∙ events-back c a (firstLine c) es d

@@ -1,75 +1,52 @@
--- `decimal::long_number` meets its contract: the digits, then the leading zero. Assumes nothing.
-use mathlib.Core.Path.{_≡_, refl, sym, ap, _∙_}
-use mathlib.Core.List.{List}
-use mathlib.Core.Bool.{true, false}
-use Prim.Native.Nat.{ℕ, _≤_, _<_, _+_, _-_}
+-- `decimal::long_number` meets its contract: the digits, then the leading zero.
+use mathlib.Core.Path.{ap, _∙_}
+use Prim.Native.Nat.{_-_}
 use native.Mathlib.Omega.{arith}
 use denote.Ref.{now}
-use lib.IntN.{ℤ, pos}
-use lib.ListN.{length, getD, drop}
-use Rattle.decimal.specs.declared.Natural.the-variants as natural
-use Rattle.decimal.specs.declared.Natural.{Natural}
-use Rattle.decimal.specs.declared.Integer.{Integer}
 use Rattle.decimal.specs.declared.Reached.{Reached}
-use Rattle.decimal.specs.Decimal.{nowhere, scan, numberUntil}
 use Rattle.decimal.proofs.NumberLaws.{until-out, until-empty, until-zero, until-plain, until-one}
 use borrow.Author.Needs.{needs}
 use Rattle.decimal.proofs.long_number.Statement.{statement}
 use Rattle.decimal.proofs.long_number.Tie as tie
-use Rattle.decimal.proofs.long_number.Reads as reads
-use Rattle.decimal.proofs.long_number.Lts as lts
-use Rattle.decimal.proofs.nothing.Reads as nothing-reads
-use Rattle.decimal.proofs.scan_digits.Reads as scan-digits-reads
 
--- src/lib.rt:84:9
 nothing-requires : tie.Need-nothing-requires
 nothing-requires c κs = search needs
 
--- src/lib.rt:84:9
 returns : tie.Need-returns
 returns c =
     let a = c .before .before .before .args in
     c .nothing .ensures ∙ until-out (a .d) (a .at) (now (a .s)) (c .before .if1 .taken)
 
--- src/lib.rt:86:9
 scan-digits-requires : tie.Need-scan-digits-requires
 scan-digits-requires c κs = search needs
 
--- src/lib.rt:88:13
 add-if2 : tie.Need-add-if2
 add-if2 c = search needs
 
--- src/lib.rt:89:9
 nothing-requires-2 : tie.Need-nothing-requires-2
 nothing-requires-2 c κs = search needs
 
--- src/lib.rt:89:9
 returns-2 : tie.Need-returns-2
 returns-2 c =
     let a = c .before .before .before .before .before .args in
     let q = ap (λ (z : Reached). z .next) (c .before .before .scan-digits .ensures) in
     c .nothing2 .ensures ∙ until-empty (a .d) (a .at) (now (a .s)) (omega (arith, q))
 
--- src/lib.rt:91:8
 shared-slice-read-if3 : tie.Need-shared-slice-read-if3
 shared-slice-read-if3 c = search needs
 
--- src/lib.rt:92:12
 add-if4 : tie.Need-add-if4
 add-if4 c = search needs
 
--- src/lib.rt:93:13
 nothing-requires-3 : tie.Need-nothing-requires-3
 nothing-requires-3 c κs = search needs
 
--- src/lib.rt:93:13
 returns-3 : tie.Need-returns-3
 returns-3 c =
     let a = c .before .before .before .before .before .before .before .before .args in
     let q = ap (λ (z : Reached). z .next) (c .before .before .before .before .before .scan-digits .ensures) in
     c .nothing3 .ensures ∙ until-zero (a .d) (a .at) (now (a .s)) (c .before .before .if3 .taken) (omega (arith, q))
 
--- src/lib.rt:80:1
 returns-4 : tie.Need-returns-4
 returns-4 c =
     let a = c .before .before .before .before .before .before .before .args in
@@ -77,7 +54,6 @@ returns-4 c =
     let q = ap (λ (z : Reached). z .next) (r .ensures) in
     r .ensures ∙ until-one (a .d) (a .at) (now (a .s)) (omega (arith, q)) (omega (arith, q))
 
--- src/lib.rt:80:1
 returns-5 : tie.Need-returns-5
 returns-5 c =
     let a = c .before .before .before .before .before .before .args in

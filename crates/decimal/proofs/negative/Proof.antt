@@ -1,5 +1,4 @@
 -- `decimal::negative` meets its contract: -1 - (m - 1) is the value of m with a minus.
--- Assumes nothing.
 use mathlib.Core.Path.{ap, _∙_}
 use Prim.Native.Nat.{_-_, _<_}
 use native.Mathlib.Omega.{arith}
@@ -12,38 +11,28 @@ use Rattle.decimal.specs.Decimal.{limit}
 use borrow.Author.Needs.{needs}
 use Rattle.decimal.proofs.negative.Statement.{statement}
 use Rattle.decimal.proofs.negative.Tie as tie
-use Rattle.decimal.proofs.negative.Reads as reads
-use Rattle.decimal.proofs.negative.Lts as lts
 
--- src/lib.rt:94:25
 enum-told : tie.Need-enum-told
 enum-told c = search needs
 
--- src/lib.rt:95:21
 enum-known-n : tie.Need-enum-known-n
 enum-known-n c = search needs
 
--- src/lib.rt:99:36
 sub-t8 : tie.Need-sub-t8
 sub-t8 c = search needs
 
--- src/lib.rt:99:35
 cast-t9 : tie.Need-cast-t9
 cast-t9 c = search needs
 
--- src/lib.rt:99:29
 sub-t10 : tie.Need-sub-t10
 sub-t10 c = minus-fits valueWidth (c .before .before .before .n .given .0 .0 - 1) (omega arith)
 
--- src/lib.rt:90:1
 returns : tie.Need-returns
 returns c = search needs
 
--- src/lib.rt:90:1
 returns-2 : tie.Need-returns-2
 returns-2 c = search needs
 
--- src/lib.rt:90:1
 returns-3 : tie.Need-returns-3
 returns-3 c =
     let m = c .before .before .before .n .given .0 .0 in
@@ -51,7 +40,6 @@ returns-3 c =
     rw (c .before .before .before .n .given .1, ne-eqb m 0 (λ e. omega arith), le-leb m limit (omega arith))
     (ap integer.Of (toZ-ofZ valueWidth _ (sub-t10 c) ∙ minus valueWidth (m - 1) k))
 
--- src/lib.rt:90:1
 returns-4 : tie.Need-returns-4
 returns-4 c =
     let m = c .before .before .before .n .given .0 .0 in

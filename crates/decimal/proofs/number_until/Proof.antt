@@ -1,11 +1,10 @@
--- `decimal::number_until` meets its contract: one digit at once, else the long way. Assumes nothing.
-use mathlib.Core.Path.{_≡_, refl, sym, ap, _∙_}
+-- `decimal::number_until` meets its contract: one digit at once, else the long way.
+use mathlib.Core.Path.{sym, ap, _∙_}
 use Prim.Native.Nat.{ℕ, _-_, _+_}
 use native.Mathlib.Omega.{arith}
 use borrow.Author.Needs.{needs}
 use denote.Ref.{now}
 use lib.ListN.{getD}
-use Rattle.decimal.specs.declared.Reached.{Reached}
 use Rattle.decimal.specs.declared.Natural.the-variants as natural
 use Rattle.decimal.proofs.NumberLaws.{until-out, until-digit, digit-low}
 use Rattle.decimal.proofs.number_until.Statement.{statement}

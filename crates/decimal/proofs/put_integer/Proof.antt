@@ -1,4 +1,4 @@
--- `decimal::put_integer` meets its contract: which of the two texts it is hangs on the sign. Assumes nothing.
+-- `decimal::put_integer` meets its contract: which of the two texts it is hangs on the sign.
 use mathlib.Core.Path.{_≡_, ap, _∙_}
 use mathlib.Core.List.{List, _∷_}
 use Prim.Native.Nat.{ℕ}
@@ -13,12 +13,6 @@ use Rattle.decimal.proofs.TextLaws.{is-negative-text, is-positive-text}
 use borrow.Author.Needs.{needs}
 use Rattle.decimal.proofs.put_integer.Statement.{statement}
 use Rattle.decimal.proofs.put_integer.Tie as tie
-use Rattle.decimal.proofs.put_integer.Reads as reads
-use Rattle.decimal.proofs.put_integer.Lts as lts
-use Rattle.decimal.proofs.below_zero.Reads as below-zero-reads
-use Rattle.decimal.proofs.put_after.Reads as put-after-reads
-use Rattle.decimal.proofs.put_natural.Reads as put-natural-reads
-use Rattle.decimal.proofs.size.Reads as size-reads
 
 -- the text of x, in either arm: `size` and `below_zero` were handed what the machine reads back from its bits, which is x since x fits
 negative-text : (c : tie.Then1) → 45 ∷ naturalText (c .before .before .size .result) ≡ integerText (c .before .before .before .before .args .x)
@@ -33,38 +27,30 @@ positive-text c =
     is-positive-text x (toZ valueWidth (ofZ valueWidth x)) (c .before .before .size .result) (c .before .below-zero .result)
     (toZ-ofZ valueWidth x (c .before .before .before .before .fits .x)) (c .before .before .size .ensures) (c .before .below-zero .ensures) (c .if1 .left)
 
--- src/lib.rt:174:9
 size-requires : tie.Need-size-requires
 size-requires c κs = search needs
 
--- src/lib.rt:175:8
 below-zero-requires : tie.Need-below-zero-requires
 below-zero-requires c κs = search needs
 
--- src/lib.rt:176:9
 put-after-requires : tie.Need-put-after-requires
 put-after-requires c κs = omega (arith, ap length (negative-text (c .before)))
 
--- src/lib.rt:178:9
 put-natural-requires : tie.Need-put-natural-requires
 put-natural-requires c κs = omega (arith, ap length (positive-text (c .before)))
 
--- src/lib.rt:170:1
 same-length : tie.Need-same-length
 same-length c = search needs
 
--- src/lib.rt:170:1
 returns : tie.Need-returns
 returns c =
     let w = c .before .before .put-after in
     let e = negative-text (c .before .before .before .before) in
     (w .ensures .0 ∙ ap length e, w .ensures .1 ∙ ap (λ (t : List ℕ). over t (now (c .before .before .before .before .before .before .before .before .args .out))) e)
 
--- src/lib.rt:170:1
 same-length-2 : tie.Need-same-length-2
 same-length-2 c = search needs
 
--- src/lib.rt:170:1
 returns-2 : tie.Need-returns-2
 returns-2 c =
     let w = c .before .before .put-natural in

@@ -1,4 +1,4 @@
--- `decimal::put_signed` meets its contract: a space at the front, and the value in what remains. Assumes nothing.
+-- `decimal::put_signed` meets its contract: a space at the front, and the value in what remains.
 use mathlib.Core.Path.{refl, ap, _∙_}
 use mathlib.Core.List.{[], _∷_}
 use Prim.Native.Nat.{_-_}
@@ -14,39 +14,29 @@ use Rattle.decimal.proofs.TextLaws.{over-next, over-then, rest-length}
 use borrow.Author.Needs.{needs}
 use Rattle.decimal.proofs.put_signed.Statement.{statement}
 use Rattle.decimal.proofs.put_signed.Tie as tie
-use Rattle.decimal.proofs.put_signed.Reads as reads
-use Rattle.decimal.proofs.put_signed.Lts as lts
-use Rattle.decimal.proofs.put_integer.Reads as put-integer-reads
 
--- src/lib.rt:200:5
 slice-write-out : tie.Need-slice-write-out
 slice-write-out c = search needs
 
--- src/lib.rt:201:25
 sub-put-integer : tie.Need-sub-put-integer
 sub-put-integer c = simp length-set (omega arith)
 
--- src/lib.rt:201:25
 part-put-integer-start : tie.Need-part-put-integer-start
 part-put-integer-start c = simp length-set (omega arith)
 
--- src/lib.rt:201:25
 part-put-integer-end : tie.Need-part-put-integer-end
 part-put-integer-end c = search needs
 
--- src/lib.rt:201:9
 put-integer-requires : tie.Need-put-integer-requires
 put-integer-requires c κs =
     let s = c .before .before in
     rw (rest-length, length-set, toZ-ofZ valueWidth (s .args .x) (s .fits .x)) (omega arith)
 
--- src/lib.rt:202:5
 add-result : tie.Need-add-result
 add-result c =
     let s = c .before .before .before .before .before in
     omega (arith, ap (λ (x : ℤ). length (integerText x)) (toZ-ofZ valueWidth (s .args .x) (s .fits .x)))
 
--- src/lib.rt:196:1
 same-length : tie.Need-same-length
 same-length c =
     let o = now (c .before .before .before .before .before .args .out) in
@@ -54,7 +44,6 @@ same-length c =
     let xs = set o 0 b in
     same-len-mid 1 (length xs - 1) xs (c .before .before .put-integer .last .0) (c .before .before .put-integer .kept .0) ∙ length-set o 0 b
 
--- src/lib.rt:196:1
 returns : tie.Need-returns
 returns c =
     let s = c .before .before .before .before .before in

@@ -1,21 +1,15 @@
 -- `decimal::scan_digits` meets its contract. The invariant: the definition from `at` is the definition from `n` over what is left.
--- Assumes nothing.
 use mathlib.Core.Path.{_≡_, refl, sym, ap, _∙_}
-use Prim.Native.Nat.{ℕ, suc, _≤_, _<_, _+_, _-_, _*_, min}
+use Prim.Native.Nat.{ℕ, _≤_, _+_, _-_, _*_, min}
 use native.Mathlib.Omega.{arith}
 use borrow.Author.Needs.{needs}
 use denote.Ref.{now}
 use lib.ListN.{length, getD, drop}
 use Rattle.decimal.specs.Decimal.{cap}
-use Rattle.decimal.specs.Decimal.{scan}
+use Rattle.decimal.specs.Computed.Forward.{scan}
 use Rattle.decimal.proofs.ScanLaws.{scan-end, scan-here, scan-low, scan-high, scan-on}
 use Rattle.decimal.proofs.scan_digits.Statement.{statement}
 use Rattle.decimal.proofs.scan_digits.Tie as tie
-use Rattle.decimal.proofs.scan_digits.Reads as reads
-use Rattle.decimal.proofs.scan_digits.Lts as lts
-use Rattle.decimal.proofs.push_digit.Reads as push-digit-reads
-use Rattle.decimal.proofs.wide.Reads as wide-reads
-use Rattle.decimal.proofs.nothing.Reads as nothing-reads
 
 abbrev Inv-loop : tie.InvT-loop
 Inv-loop s at d n₀ i₀ n i = (n ≤ cap) × (scan d 0 at (drop at s) ≡ scan d n i (drop i s))

@@ -1,4 +1,4 @@
--- `decimal::size` meets its contract: the size of -1 - k is k + 1. Assumes nothing.
+-- `decimal::size` meets its contract: the size of -1 - k is k + 1.
 use mathlib.Core.Path.{ap, sym, _∙_}
 use native.Mathlib.Omega.{arith}
 use native.Mathlib.Numerals.{add-one}
@@ -9,37 +9,29 @@ use Rattle.decimal.proofs.SignedLaws.{sign, Negative, negative-form, no
 use borrow.Author.Needs.{needs}
 use Rattle.decimal.proofs.size.Statement.{statement}
 use Rattle.decimal.proofs.size.Tie as tie
-use Rattle.decimal.proofs.size.Reads as reads
-use Rattle.decimal.proofs.size.Lts as lts
 
 -- in the arm of a negative value
 low : (c : tie.Then1) → Negative valueWidth (c .before .args .x)
 low c = negative-form valueWidth (c .before .args .x) (c .before .fits .x) (sym (sign valueWidth (c .before .args .x) (c .before .fits .x)) ∙ c .if1 .taken)
 
--- src/lib.rt:163:11
 sub-result : tie.Need-sub-result
 sub-result c = rw (low c .flipped) (record { sfits = low c .small })
 
--- src/lib.rt:163:10
 cast-result : tie.Need-cast-result
 cast-result c = rw (low c .flipped, toZ-pos valueWidth (low c .below) (low c .small)) (tt, record { fits = omega (arith, low c .small) })
 
--- src/lib.rt:163:9
 add-result : tie.Need-add-result
 add-result c = rw (low c .flipped, toZ-pos valueWidth (low c .below) (low c .small)) (record { fits = omega (arith, low c .small) })
 
--- src/lib.rt:165:9
 cast-result-2 : tie.Need-cast-result-2
 cast-result-2 c =
     let x = c .before .args .x in
     let f = c .before .fits .x in
     rw (toZ-ofZ valueWidth x f) (non-negative x (sym (sign valueWidth x f) ∙ c .if1 .left), record { fits = omega (arith, size-fits valueWidth x f) })
 
--- src/lib.rt:159:1
 returns : tie.Need-returns
 returns c = rw (low c .flipped, toZ-pos valueWidth (low c .below) (low c .small)) (add-one (low c .below) ∙ sym (ap natAbs (low c .is)))
 
--- src/lib.rt:159:1
 returns-2 : tie.Need-returns-2
 returns-2 c = search needs
 

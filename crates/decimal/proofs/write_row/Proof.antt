@@ -1,5 +1,5 @@
--- `decimal::write_row` meets its contract: after i turns the first i numbers lie over the output. Assumes nothing.
-use Prim.Native.Nat.{ℕ, _*_, _-_, _+_}
+-- `decimal::write_row` meets its contract: after i turns the first i numbers lie over the output.
+use Prim.Native.Nat.{_*_, _-_, _+_}
 use native.Mathlib.Omega.{arith}
 use denote.Ref.{now}
 use lib.ListN.{length}
@@ -10,9 +10,6 @@ use borrow.Author.Needs.{needs}
 use borrow.Rule.Slice.PartMut.{putMid}
 use Rattle.decimal.proofs.write_row.Statement.{statement}
 use Rattle.decimal.proofs.write_row.Tie as tie
-use Rattle.decimal.proofs.write_row.Reads as reads
-use Rattle.decimal.proofs.write_row.Lts as lts
-use Rattle.decimal.proofs.write_number.Reads as write-number-reads
 
 abbrev Inv-loop : tie.InvT-loop
 Inv-loop out₀ ns a₀ i₀ out a i = RowAt ns out₀ i a out
@@ -20,39 +17,31 @@ Inv-loop out₀ ns a₀ i₀ out a i = RowAt ns out₀ i a out
 abbrev μ-loop : tie.MeasureT-loop
 μ-loop out₀ ns a₀ i₀ out a i = length ns - i
 
--- src/lib.rt:261:9
 returns : tie.Need-returns Inv-loop μ-loop
 returns c =
     let s = c .before .before .before .args in
     wrote-none (32 * length (now (s .ns))) (rowText (now (s .ns))) (now (s .out)) (omega arith)
 
--- src/lib.rt:265:5
 loop-holds : tie.Need-loop-holds Inv-loop μ-loop
 loop-holds c =
     let s = c .before .before .before .args in
     row-start (now (s .ns)) (now (s .out)) (omega arith)
 
--- src/lib.rt:266:30
 sub-write-number : tie.Need-sub-write-number Inv-loop μ-loop
 sub-write-number c = row-place _ _ _ _ _ (c .before .loop .inv)
 
--- src/lib.rt:266:30
 part-write-number-start : tie.Need-part-write-number-start Inv-loop μ-loop
 part-write-number-start c = row-place _ _ _ _ _ (c .before .loop .inv)
 
--- src/lib.rt:266:30
 part-write-number-end : tie.Need-part-write-number-end Inv-loop μ-loop
 part-write-number-end c = search needs
 
--- src/lib.rt:266:49
 mul-write-number : tie.Need-mul-write-number Inv-loop μ-loop
 mul-write-number c = search needs
 
--- src/lib.rt:266:49
 shared-slice-read-write-number : tie.Need-shared-slice-read-write-number Inv-loop μ-loop
 shared-slice-read-write-number c = search needs
 
--- src/lib.rt:266:13
 write-number-requires : tie.Need-write-number-requires Inv-loop μ-loop
 write-number-requires c κs = search needs
 
@@ -65,29 +54,23 @@ next c =
     let w = c .before .before .write-number in
     row-step _ _ _ _ _ (c .before .before .before .before .before .before .loop .inv) (omega arith) (w .last .0) (w .result) (w .ensures)
 
--- src/lib.rt:267:9
 add-a : tie.Need-add-a Inv-loop μ-loop
 add-a c =
     let n = next c in
     omega (arith, row-place _ _ _ _ _ n, row-length _ _ _ _ _ n)
 
--- src/lib.rt:268:9
 add-i : tie.Need-add-i Inv-loop μ-loop
 add-i c = omega arith
 
--- src/lib.rt:265:5
 loop-less : tie.Need-loop-less Inv-loop μ-loop
 loop-less c = omega arith
 
--- src/lib.rt:265:5
 loop-again : tie.Need-loop-again Inv-loop μ-loop
 loop-again c = next c
 
--- src/lib.rt:257:1
 same-length : tie.Need-same-length Inv-loop μ-loop
 same-length c = row-length _ _ _ _ _ (c .before .loop .inv)
 
--- src/lib.rt:257:1
 returns-2 : tie.Need-returns-2 Inv-loop μ-loop
 returns-2 c = row-end _ _ _ _ _ (c .before .loop .inv) (omega arith)
 

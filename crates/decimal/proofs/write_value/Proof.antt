@@ -1,7 +1,7 @@
--- `decimal::write_value` meets its contract: a byte and a value are at most 22 bytes. Assumes nothing.
-use mathlib.Core.Path.{_≡_, refl, sym, ap, _∙_}
-use mathlib.Core.List.{List, [], _∷_}
-use Prim.Native.Nat.{ℕ, _≤_}
+-- `decimal::write_value` meets its contract: a byte and a value are at most 22 bytes.
+use mathlib.Core.Path.{ap, _∙_}
+use mathlib.Core.List.{List, _∷_}
+use Prim.Native.Nat.{ℕ}
 use native.Mathlib.Omega.{arith}
 use denote.Ref.{now}
 use lib.ListN.{length}
@@ -14,27 +14,20 @@ use Rattle.decimal.proofs.TextLaws.{value-short, wrote-none, wrote-text
 use borrow.Author.Needs.{needs}
 use Rattle.decimal.proofs.write_value.Statement.{statement}
 use Rattle.decimal.proofs.write_value.Tie as tie
-use Rattle.decimal.proofs.write_value.Reads as reads
-use Rattle.decimal.proofs.write_value.Lts as lts
-use Rattle.decimal.proofs.put_signed.Reads as put-signed-reads
 
--- src/lib.rt:251:9
 returns : tie.Need-returns
 returns c =
     let s = c .before .before .args in
     wrote-none 32 (s .b ∷ integerText (s .x)) (now (s .out)) (c .if1 .taken)
 
--- src/lib.rt:253:5
 put-signed-requires : tie.Need-put-signed-requires
 put-signed-requires c κs =
     let s = c .before .before .before .args in
     omega (arith, value-short (toZ valueWidth (ofZ valueWidth (s .x))))
 
--- src/lib.rt:247:1
 same-length : tie.Need-same-length
 same-length c = search needs
 
--- src/lib.rt:247:1
 returns-2 : tie.Need-returns-2
 returns-2 c =
     let s = c .before .before .before .before .before .before in

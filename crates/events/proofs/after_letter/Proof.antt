@@ -1,53 +1,32 @@
--- `events::after_letter` meets its contract: the thread, and what is behind it. Assumes nothing.
-use mathlib.Core.Path.{_≡_, refl, sym, ap, _∙_}
-use mathlib.Core.List.{List}
-use mathlib.Core.Bool.{true, false}
-use Prim.Native.Nat.{ℕ, _≤_, _<_, _+_, _-_}
-use native.Mathlib.Omega.{arith}
+-- `events::after_letter` meets its contract: the thread, and what is behind it.
+use mathlib.Core.Path.{sym, ap, _∙_}
+use Prim.Native.Nat.{ℕ, _-_}
 use denote.Ref.{now}
-use lib.IntN.{ℤ, pos}
-use lib.ListN.{length, getD, drop}
-use Rattle.decimal.specs.declared.Natural.the-variants as natural
-use Rattle.decimal.specs.declared.Natural.{Natural}
-use Rattle.decimal.specs.declared.Integer.{Integer}
-use Rattle.decimal.specs.Decimal.{positiveOf, negativeOf}
-use Rattle.lines.specs.Lines.{splitOn}
+use lib.ListN.{drop}
 use Rattle.decimal.specs.declared.Reached.{Reached}
-use Rattle.events.specs.declared.Line.{Line}
-use Rattle.decimal.specs.Decimal.{nowhere, scan, numberUntil}
-use Rattle.events.specs.Events.{Fields, wrong, placed, kindOf, noLine, right, onNumber, onInteger, field, last, lockEnd, valueEnd, afterThread, fromFields, stage, lineAt}
+use Rattle.events.specs.Events.{afterThread}
+use Rattle.events.specs.Computed.Lines.{stage}
 use Rattle.events.proofs.StageLaws.{stage-bad, stage-number}
-use Rattle.events.proofs.LineLaws.{lock-line, plain-line, minus-line, at-none, at-last, at-other, at-space, stage-out, thread-none, thread-lock, thread-unlock, thread-value}
+use Rattle.events.proofs.LineLaws.{thread-none}
 use borrow.Author.Needs.{needs}
 use Rattle.events.proofs.after_letter.Statement.{statement}
 use Rattle.events.proofs.after_letter.Tie as tie
-use Rattle.events.proofs.after_letter.Reads as reads
-use Rattle.events.proofs.after_letter.Lts as lts
-use Rattle.events.proofs.after_thread.Reads as after-thread-reads
-use Rattle.events.proofs.no_line.Reads as no-line-reads
-use Rattle.decimal.proofs.number_until.Reads as number-until-reads
 
--- src/lib.rt:192:9
 number-until-requires : tie.Need-number-until-requires
 number-until-requires c κs = search needs
 
--- src/lib.rt:195:25
 enum-told : tie.Need-enum-told
 enum-told c = search needs
 
--- src/lib.rt:195:25
 no-line-requires : tie.Need-no-line-requires
 no-line-requires c κs = search needs
 
--- src/lib.rt:196:21
 enum-known-n : tie.Need-enum-known-n
 enum-known-n c = search needs
 
--- src/lib.rt:196:27
 after-thread-requires : tie.Need-after-thread-requires
 after-thread-requires c κs = search needs
 
--- src/lib.rt:189:1
 returns : tie.Need-returns
 returns c =
     let a = c .before .before .before .before .before .args in
@@ -55,7 +34,6 @@ returns c =
     c .no-line .ensures
     ∙ sym (stage-bad (afterThread (a .k)) (thread-none (a .k)) (a .at) (drop (a .at) (now (a .s))) (ap (λ (q : Reached). q .number) (sym (r .ensures)) ∙ c .before .enum-told .given .1))
 
--- src/lib.rt:189:1
 returns-2 : tie.Need-returns-2
 returns-2 c =
     let a = c .before .before .before .before .before .before .args in

@@ -1,12 +1,10 @@
--- `lines::count_fields` meets its contract: one field, and one more for each space passed; those of the rest are still to come. Assumes nothing.
+-- `lines::count_fields` meets its contract: one field, and one more for each space passed; those of the rest are still to come.
 use mathlib.Core.Path.{_≡_}
-use Prim.Native.Nat.{ℕ, _≤_, _+_, _-_}
-use mathlib.Core.Bool.{cond}
+use Prim.Native.Nat.{_≤_, _+_, _-_}
 use native.Mathlib.Omega.{arith}
 use borrow.Author.Needs.{needs}
 use denote.Ref.{now}
-use lib.Dec.{eqb}
-use lib.ListN.{length, getD, drop}
+use lib.ListN.{length, drop}
 use Rattle.lines.specs.Lines.{splitOn}
 use Rattle.lines.proofs.FieldLaws.{split-length, count-on, count-end}
 use Rattle.lines.proofs.count_fields.Statement.{statement}

@@ -1,4 +1,4 @@
--- `lines::ends` meets its contract. Assumes nothing.
+-- `lines::ends` meets its contract.
 use borrow.Author.Tests.{eq-eqb, ne-eqb}
 use Rattle.lines.proofs.ends.Statement.{statement}
 use Rattle.lines.proofs.ends.Tie as tie

@@ -1,7 +1,7 @@
--- `lines::field` meets its contract: the field looked for is the k-th from `a` on, and the first from there ends at `e`. Assumes nothing.
+-- `lines::field` meets its contract: the field looked for is the k-th from `a` on, and the first from there ends at `e`.
 use mathlib.Core.Path.{_≡_, refl, sym, _∙_}
 use mathlib.Core.List.{[]}
-use Prim.Native.Nat.{ℕ, _≤_, _<_, _+_, _-_}
+use Prim.Native.Nat.{_≤_, _+_, _-_}
 use native.Mathlib.Omega.{arith}
 use borrow.Author.Needs.{needs}
 use denote.Ref.{now}

@@ -1,4 +1,4 @@
--- `lines::last_end` meets its contract: no byte 10 was passed on the way from the end. Assumes nothing.
+-- `lines::last_end` meets its contract: no byte 10 was passed on the way from the end.
 use mathlib.Core.Path.{_≡_, sym, _∙_}
 use Prim.Native.Nat.{suc, _≤_, _-_}
 use native.Mathlib.Omega.{arith}
@@ -8,8 +8,6 @@ use Rattle.lines.specs.Lines.{upTo}
 use Rattle.lines.proofs.FieldLaws.{up-none, up-here, up-back}
 use Rattle.lines.proofs.last_end.Statement.{statement}
 use Rattle.lines.proofs.last_end.Tie as tie
-use Rattle.lines.proofs.last_end.Reads as reads
-use Rattle.lines.proofs.last_end.Lts as lts
 
 abbrev Inv-loop : tie.InvT-loop
 Inv-loop s i₀ i = (i ≤ length s) × (upTo 10 (drop i s) ≡ 0)
@@ -17,19 +15,15 @@ Inv-loop s i₀ i = (i ≤ length s) × (upTo 10 (drop i s) ≡ 0)
 abbrev μ-loop : tie.MeasureT-loop
 μ-loop s i₀ i = i
 
--- src/lib.rt:20:5
 loop-holds : tie.Need-loop-holds Inv-loop μ-loop
 loop-holds c = (omega arith, up-none 10 (now (c .args .s)))
 
--- src/lib.rt:21:14
 sub-if1 : tie.Need-sub-if1 Inv-loop μ-loop
 sub-if1 c = omega arith
 
--- src/lib.rt:21:12
 shared-slice-read-if1 : tie.Need-shared-slice-read-if1 Inv-loop μ-loop
 shared-slice-read-if1 c = omega arith
 
--- src/lib.rt:22:13
 returns : tie.Need-returns Inv-loop μ-loop
 returns c =
     let l = c .before .before .before .loop in
@@ -37,15 +31,12 @@ returns c =
     let e : suc (l .i - 1) ≡ l .i = omega arith in
     sym e ∙ up-here 10 (l .i - 1) s (omega arith) (c .if1 .taken) (rw e (l .inv .1))
 
--- src/lib.rt:24:9
 sub-i : tie.Need-sub-i Inv-loop μ-loop
 sub-i c = omega arith
 
--- src/lib.rt:20:5
 loop-less : tie.Need-loop-less Inv-loop μ-loop
 loop-less c = omega arith
 
--- src/lib.rt:20:5
 loop-again : tie.Need-loop-again Inv-loop μ-loop
 loop-again c =
     let l = c .before .before .before .loop in
@@ -53,7 +44,6 @@ loop-again c =
     let e : suc (l .i - 1) ≡ l .i = omega arith in
     (omega arith, up-back 10 (l .i - 1) s (omega arith) (c .if1 .left) (rw e (l .inv .1)))
 
--- src/lib.rt:16:1
 returns-2 : tie.Need-returns-2 Inv-loop μ-loop
 returns-2 c =
     let l = c .before .loop in

@@ -1,21 +1,16 @@
--- `lines::read_letter` meets its contract. Assumes nothing.
+-- `lines::read_letter` meets its contract.
 use denote.Ref.{now}
 use Rattle.lines.proofs.FieldLaws.{letter-one, letter-none}
 use borrow.Author.Needs.{needs}
 use Rattle.lines.proofs.read_letter.Statement.{statement}
 use Rattle.lines.proofs.read_letter.Tie as tie
-use Rattle.lines.proofs.read_letter.Reads as reads
-use Rattle.lines.proofs.read_letter.Lts as lts
 
--- src/lib.rt:119:23
 shared-slice-read-result : tie.Need-shared-slice-read-result
 shared-slice-read-result c = search needs
 
--- src/lib.rt:116:1
 returns : tie.Need-returns
 returns c = letter-one (now (c .before .before .args .f)) (c .before .if1 .taken)
 
--- src/lib.rt:116:1
 returns-2 : tie.Need-returns-2
 returns-2 c = letter-none (now (c .before .args .f)) (c .if1 .left)
 

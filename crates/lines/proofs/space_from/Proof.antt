@@ -1,8 +1,7 @@
--- `lines::space_from` meets its contract: what was passed, and what stands before the first space of the rest. Assumes nothing.
+-- `lines::space_from` meets its contract: what was passed, and what stands before the first space of the rest.
 use mathlib.Core.Path.{_≡_}
-use Prim.Native.Nat.{ℕ, _≤_, _+_, _-_}
+use Prim.Native.Nat.{_+_, _-_}
 use native.Mathlib.Omega.{arith}
-use borrow.Author.Needs.{needs}
 use denote.Ref.{now}
 use lib.ListN.{length, drop}
 use Rattle.lines.specs.Lines.{before}

@@ -2,29 +2,21 @@
 use Prim.Native.Nat.{_-_}
 use native.Mathlib.Omega.{arith}
 use borrow.Author.Needs.{needs}
-use Rattle.listing.specs.Listing.{copyLines, copiesIn}
+use Rattle.rules.specs.Memories.{below, each}
+use Rattle.listing.specs.Listing.{copyLines, copiesAt}
 use Rattle.listing.proofs.LineLaws.{Listed, listed-start, listed-place, listed-length, listed-step, listed-end}
-use Rattle.listing.proofs.ListLaws.{threads-none, threads-more, fit-copies}
+use Rattle.listing.proofs.ListLaws.{copies-none, copies-more, fit-copies}
 use Rattle.listing.proofs.write_copies.Statement.{statement}
 use Rattle.listing.proofs.write_copies.Tie as tie
-use Rattle.listing.proofs.write_copies.Reads as reads
-use Rattle.listing.proofs.write_copies.Lts as lts
-use Rattle.listing.proofs.write_thread.Reads as write-thread-reads
 
 abbrev Inv-loop : tie.InvT-loop
-Inv-loop out₀ cells n m locked a₀ t₀ out a t = Listed (λ i. copyLines (copiesIn cells locked n i)) m out₀ t a out
+Inv-loop out₀ copies n m a₀ t₀ out a t = Listed (λ i. copyLines (each (copiesAt copies n) (below i))) m out₀ t a out
 
 abbrev μ-loop : tie.MeasureT-loop
-μ-loop out₀ cells n m locked a₀ t₀ out a t = m - t
+μ-loop out₀ copies n m a₀ t₀ out a t = m - t
 
 loop-holds : tie.Need-loop-holds Inv-loop μ-loop
-loop-holds c = listed-start _ _ _ (fit-copies _) (threads-none _ _ _)
-
-mul-k : tie.Need-mul-k Inv-loop μ-loop
-mul-k c = search needs
-
-array-read-k : tie.Need-array-read-k Inv-loop μ-loop
-array-read-k c = search needs
+loop-holds c = listed-start _ _ _ (fit-copies _) (copies-none _)
 
 sub-write-thread : tie.Need-sub-write-thread Inv-loop μ-loop
 sub-write-thread c = listed-place _ _ _ _ _ _ (c .before .loop .inv)
@@ -42,7 +34,7 @@ add-a : tie.Need-add-a Inv-loop μ-loop
 add-a c =
     let l = c .before .before .before .before .before .loop in
     let w = c .before .before .write-thread in
-    let n = listed-step _ _ _ _ _ _ (l .inv) (omega arith) _ (threads-more _ _ _ (l .t)) (fit-copies _) (w .last .0) (w .result) (w .ensures) in
+    let n = listed-step _ _ _ _ _ _ (l .inv) (omega arith) _ (copies-more _ (l .t)) (fit-copies _) (w .last .0) (w .result) (w .ensures) in
     omega (arith, listed-place _ _ _ _ _ _ n, listed-length _ _ _ _ _ _ n)
 
 add-t : tie.Need-add-t Inv-loop μ-loop
@@ -55,7 +47,7 @@ loop-again : tie.Need-loop-again Inv-loop μ-loop
 loop-again c =
     let l = c .before .before .before .before .before .loop in
     let w = c .before .before .write-thread in
-    listed-step _ _ _ _ _ _ (l .inv) (omega arith) _ (threads-more _ _ _ (l .t)) (fit-copies _) (w .last .0) (w .result) (w .ensures)
+    listed-step _ _ _ _ _ _ (l .inv) (omega arith) _ (copies-more _ (l .t)) (fit-copies _) (w .last .0) (w .result) (w .ensures)
 
 same-length : tie.Need-same-length Inv-loop μ-loop
 same-length c = listed-length _ _ _ _ _ _ (c .before .loop .inv)
@@ -70,8 +62,6 @@ write-copies-spec =
     Inv-loop
     μ-loop
     loop-holds
-    mul-k
-    array-read-k
     sub-write-thread
     part-write-thread-start
     part-write-thread-end

@@ -7,15 +7,12 @@ use lib.IntN.{ℤ}
 use mir.Val.{toZ, ofZ}
 use mir.ValLaws.{toZ-ofZ}
 use Rattle.rules.specs.Limits.{valueWidth}
-use Rattle.decimal.specs.Text.{room}
+use Rattle.decimal.specs.Text.{ended, room}
 use Rattle.decimal.proofs.TextLaws.{wrote-same}
-use Rattle.listing.specs.Listing.{mainLine, ended, lineRoom}
+use Rattle.listing.specs.Listing.{mainLine, lineRoom}
 use borrow.Author.Needs.{needs}
 use Rattle.listing.proofs.write_main.Statement.{statement}
 use Rattle.listing.proofs.write_main.Tie as tie
-use Rattle.listing.proofs.write_main.Reads as reads
-use Rattle.listing.proofs.write_main.Lts as lts
-use Rattle.listing.proofs.value_line.Reads as value-line-reads
 
 slice-aggregate-value-line : tie.Need-slice-aggregate-value-line
 slice-aggregate-value-line c = search needs

@@ -2,20 +2,18 @@
 use Prim.Native.Nat.{_-_}
 use native.Mathlib.Omega.{arith}
 use borrow.Author.Needs.{needs}
-use Rattle.listing.specs.Listing.{mainLines, valuesIn}
+use Rattle.rules.specs.Memories.{below, each}
+use Rattle.listing.specs.Listing.{mainLines, mainAt}
 use Rattle.listing.proofs.LineLaws.{Listed, listed-start, listed-place, listed-length, listed-step, listed-end, wrote-one}
 use Rattle.listing.proofs.ListLaws.{mains-none, mains-more, fit-mains}
 use Rattle.listing.proofs.write_mains.Statement.{statement}
 use Rattle.listing.proofs.write_mains.Tie as tie
-use Rattle.listing.proofs.write_mains.Reads as reads
-use Rattle.listing.proofs.write_mains.Lts as lts
-use Rattle.listing.proofs.write_main.Reads as write-main-reads
 
 abbrev Inv-loop : tie.InvT-loop
-Inv-loop out₀ n memory a₀ v₀ out a v = Listed (λ i. mainLines (valuesIn memory i)) n out₀ v a out
+Inv-loop out₀ n main a₀ v₀ out a v = Listed (λ i. mainLines (each (mainAt main) (below i))) n out₀ v a out
 
 abbrev μ-loop : tie.MeasureT-loop
-μ-loop out₀ n memory a₀ v₀ out a v = n - v
+μ-loop out₀ n main a₀ v₀ out a v = n - v
 
 loop-holds : tie.Need-loop-holds Inv-loop μ-loop
 loop-holds c = listed-start _ _ _ (fit-mains 0 _) (mains-none _)

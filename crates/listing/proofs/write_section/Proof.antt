@@ -3,9 +3,6 @@ use Rattle.sections.specs.Entries.{entryIn}
 use borrow.Author.Needs.{needs}
 use Rattle.listing.proofs.write_section.Statement.{statement}
 use Rattle.listing.proofs.write_section.Tie as tie
-use Rattle.listing.proofs.write_section.Reads as reads
-use Rattle.listing.proofs.write_section.Lts as lts
-use Rattle.listing.proofs.row_line.Reads as row-line-reads
 
 slice-aggregate-row-line : tie.Need-slice-aggregate-row-line
 slice-aggregate-row-line c = search needs

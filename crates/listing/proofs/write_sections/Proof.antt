@@ -9,9 +9,6 @@ use Rattle.listing.proofs.LineLaws.{Listed, listed-start, listed-place,
 use Rattle.listing.proofs.ListLaws.{entries-none, entries-more, entries-all, fit-sections}
 use Rattle.listing.proofs.write_sections.Statement.{statement}
 use Rattle.listing.proofs.write_sections.Tie as tie
-use Rattle.listing.proofs.write_sections.Reads as reads
-use Rattle.listing.proofs.write_sections.Lts as lts
-use Rattle.listing.proofs.write_section.Reads as write-section-reads
 
 abbrev Inv-loop : tie.InvT-loop
 Inv-loop out₀ entries a₀ i₀ out a i = Listed (λ k. entryLines (take k entries)) (length entries) out₀ i a out

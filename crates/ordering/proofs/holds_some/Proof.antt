@@ -1,21 +1,13 @@
-use Prim.Native.Nat.{ℕ, zero, suc, _+_, _*_, _-_, _≤_, _<_}
+-- `ordering::holds_some` meets its contract. Assumes nothing.
+use Prim.Native.Nat.{_-_, _≤_}
 use native.Mathlib.Omega.{arith}
-use native.Mathlib.Numerals.{add-one}
-use mathlib.Core.Path.{_≡_, refl, sym, ap, _∙_, subst}
-use mathlib.Core.Bool.{Bool, true, false, not, cond, _&&_, _||_}
-use mathlib.Core.List.{List, [], _∷_, _++_}
-use lib.Dec.{eqb, ltb}
-use lib.ListN.{length, getD, set, take, drop, replicate, length-set}
-use denote.Ref.{now}
+use mathlib.Core.Path.{_≡_, refl}
 use borrow.Author.Needs.{needs}
-use borrow.Author.Tests.{eq-eqb, ne-eqb, lt-ltb, le-ltb, ltb-true, ltb-false, eqb-true, eqb-false, not-true, not-false}
-use Rattle.ordering.specs.Parts.{heldIn}
+use Rattle.ordering.specs.Computed.Parts.{heldIn}
 use Rattle.rules.specs.Rules.{some}
 use Rattle.ordering.proofs.Loops.{some-none, some-more, some-end}
 use Rattle.ordering.proofs.holds_some.Statement.{statement}
 use Rattle.ordering.proofs.holds_some.Tie as tie
-use Rattle.ordering.proofs.holds_some.Reads as reads
-use Rattle.ordering.proofs.holds_some.Lts as lts
 
 abbrev Inv-loop : tie.InvT-loop
 Inv-loop levels t n any₀ l₀ any l = (l ≤ n) × (any ≡ some l (heldIn levels t))
@@ -23,40 +15,31 @@ Inv-loop levels t n any₀ l₀ any l = (l ≤ n) × (any ≡ some l (heldIn lev
 abbrev μ-loop : tie.MeasureT-loop
 μ-loop levels t n any₀ l₀ any l = n - l
 
--- src/lib.rt:97:5
 loop-holds : tie.Need-loop-holds Inv-loop μ-loop
 loop-holds c = (omega arith, some-none _)
 
--- src/lib.rt:98:30
 mul-any : tie.Need-mul-any Inv-loop μ-loop
 mul-any c = search needs
 
--- src/lib.rt:98:30
 add-any : tie.Need-add-any Inv-loop μ-loop
 add-any c = search needs
 
--- src/lib.rt:98:23
 mul-any-2 : tie.Need-mul-any-2 Inv-loop μ-loop
 mul-any-2 c = search needs
 
--- src/lib.rt:98:23
 element-copy-out-any : tie.Need-element-copy-out-any Inv-loop μ-loop
 element-copy-out-any c = search needs
 
--- src/lib.rt:99:9
 add-l : tie.Need-add-l Inv-loop μ-loop
 add-l c = search needs
 
--- src/lib.rt:97:5
 loop-less : tie.Need-loop-less Inv-loop μ-loop
 loop-less c = search needs
 
--- src/lib.rt:97:5
 loop-again : tie.Need-loop-again Inv-loop μ-loop
 unfolding heldIn
 loop-again c = (omega arith, some-more _ _ (c .before .before .loop .inv .1) refl)
 
--- src/lib.rt:90:1
 returns : tie.Need-returns Inv-loop μ-loop
 returns c = some-end _ (heldIn _ _) (c .before .loop .inv .0) (c .loop-test .left) (c .before .loop .inv .1)
 

@@ -1,69 +1,49 @@
--- `ordering::order_trace` meets its contract: an accepted trace's row is ordered. Assumes nothing.
-use Prim.Native.Nat.{_≤_}
-use native.Mathlib.Omega.{arith}
-use mathlib.Core.Path.{_≡_, sym, ap, _∙_}
+-- `ordering::order_trace` meets its contract: the records of an accepted trace are ordered. Assumes nothing.
+use mathlib.Core.Path.{_≡_, sym, _∙_}
+use mathlib.Core.Bool.{true, false}
 use lib.ListN.{length}
-use lib.Seq.{length-take-le}
-use Rattle.records.proofs.RowLaws.{row-length}
-use Rattle.marking.specs.Marking.{pastOf, reported, numberIn}
-use Rattle.ordering.proofs.Traces.{is-accepted, count-low, row-kept, gives-trace, gives-none, front-fits}
+use denote.Ref.{now}
 use borrow.Author.Needs.{needs}
-use mathlib.Core.Path.{subst}
-use Rattle.rules.specs.declared.Counts.{Counts}
-use Rattle.trace.specs.declared.Trace.{Trace}
-use Rattle.ordering.specs.Parts.{Fits}
+use Rattle.rules.specs.Limits.{full, orderShort}
+use Rattle.ordering.proofs.Traces.{is-accepted, rows-hold, front-fits, orders-nothing, orders-refused, orders-accepted}
 use Rattle.ordering.proofs.order_trace.Statement.{statement}
 use Rattle.ordering.proofs.order_trace.Tie as tie
 
-find-requires : tie.Need-find-requires
-find-requires c κs = search needs
-
-mark-requires : tie.Need-mark-requires
-mark-requires c κs = search needs
-
-number-of-requires : tie.Need-number-of-requires
-number-of-requires c κs = search needs
+is-order-short-requires : tie.Need-is-order-short-requires
+is-order-short-requires c κs = search needs
 
 refuse-requires : tie.Need-refuse-requires
 refuse-requires c κs = search needs
 
 returns : tie.Need-returns
 returns c =
-    let a = c .before .before .before .before .before .before .before .before .args in
-    let m = c .before .before .before .mark in
-    let z : numberIn (reported (m .result .verdict)) ≡ 0 → ⊥ = λ e. c .before .if1 .taken (c .before .before .number-of .ensures ∙ e) in
-    gives-none (a .bytes .now) (m .result) (m .ensures) (a .list .now) (a .scratch .now) (c .refuse .result) z (c .refuse .ensures)
+    let a = c .before .before .before .before .before .before .args in
+    let z : orderShort full (length (now (a .list))) (length (now (a .scratch))) ≡ true = sym (c .before .before .is-order-short .ensures) ∙ c .before .if1 .taken in
+    orders-nothing (now (a .bytes)) (now (a .what)) (now (a .value)) (now (a .list)) (now (a .scratch)) (c .refuse .result) z (c .refuse .ensures)
 
-count-of-requires : tie.Need-count-of-requires
-count-of-requires c κs = search needs
+mark-requires : tie.Need-mark-requires
+mark-requires c κs = search needs
 
-array-share-prefix-row : tie.Need-array-share-prefix-row
-array-share-prefix-row c =
-    let a = c .before .before .before .before .before .before .before .before .before .args in
-    let m = c .before .before .before .before .mark in
-    let z = is-accepted (a .bytes .now) (m .result) (m .ensures) (sym (c .before .before .before .number-of .ensures) ∙ c .before .before .if1 .left) in
-    let n = c .before .count-of .ensures in
-    let low = count-low (a .bytes .now) (m .result) (m .ensures) z in
-    let w = ap length (row-kept (a .bytes .now) (m .result) (m .ensures) z) ∙ row-length (pastOf (a .bytes .now)) in
-    omega (arith, n, low, w)
+enum-told : tie.Need-enum-told
+enum-told c = search needs
 
-slice-aggregate-order-known : tie.Need-slice-aggregate-order-known
-slice-aggregate-order-known c =
+returns-2 : tie.Need-returns-2
+returns-2 c =
     let a = c .before .before .before .before .before .before .before .before .before .before .args in
-    let m = c .before .before .before .before .before .mark in
-    let z = is-accepted (a .bytes .now) (m .result) (m .ensures) (sym (c .before .before .before .before .number-of .ensures) ∙ c .before .before .before .if1 .left) in
-    let n = c .before .before .count-of .ensures in
-    let low = count-low (a .bytes .now) (m .result) (m .ensures) z in
-    let w = ap length (row-kept (a .bytes .now) (m .result) (m .ensures) z) ∙ row-length (pastOf (a .bytes .now)) in
-    sym (length-take-le (c .before .before .count-of .result) (m .result .row) (omega (arith, n, low, w)))
+    let z : orderShort full (length (now (a .list))) (length (now (a .scratch))) ≡ false = sym (c .before .before .before .before .before .before .is-order-short .ensures) ∙ c .before .before .before .before .before .if1 .left in
+    let m = c .before .before .mark in
+    orders-refused (now (a .bytes)) (now (a .what)) (now (a .value)) (now (a .list)) (now (a .scratch)) z (m .result) (m .last .1 .0) (m .last .1 .1 .0) (m .ensures) (c .enum-told .given .0 .0) (c .enum-told .given .0 .1 .0) (c .enum-told .given .1)
 
-order-known-requires : tie.Need-order-known-requires
-order-known-requires c κs =
-    let a = c .before .before .before .before .before .before .before .before .before .before .before .before .args in
-    let m = c .before .before .before .before .before .before .before .mark in
-    let z = is-accepted (a .bytes .now) (m .result) (m .ensures) (sym (c .before .before .before .before .before .before .number-of .ensures) ∙ c .before .before .before .before .before .if1 .left) in
-    let n = c .before .before .before .before .count-of .ensures in
-    front-fits (a .bytes .now) (m .result) (m .ensures) z (c .before .before .before .before .before .before .before .before .find .result) (c .before .before .before .before .before .before .before .before .find .ensures) _ n
+enum-told-2 : tie.Need-enum-told-2
+enum-told-2 c = search needs
+
+order-front-requires : tie.Need-order-front-requires
+order-front-requires c κs =
+    let a = c .before .before .before .before .before .before .before .before .before .before .before .before .before .before .before .before .args in
+    let z : orderShort full (length (now (a .list))) (length (now (a .scratch))) ≡ false = sym (c .before .before .before .before .before .before .before .before .before .before .before .before .is-order-short .ensures) ∙ c .before .before .before .before .before .before .before .before .before .before .before .if1 .left in
+    let m = c .before .before .before .before .before .before .before .before .mark in
+    let e = is-accepted (now (a .bytes)) (now (a .what)) (now (a .value)) (m .result) (m .last .1 .0) (m .last .1 .1 .0) (m .ensures) (c .before .before .before .before .before .before .enum-told2 .given .1) in
+    (rows-hold (now (a .bytes)) (now (a .what)) (now (a .value)) (m .result) (m .last .1 .0) (m .last .1 .1 .0) (m .ensures) e, (front-fits (now (a .bytes)) (now (a .what)) (now (a .value)) (m .result) (m .last .1 .0) (m .last .1 .1 .0) (m .ensures) e, z))
 
 same-length : tie.Need-same-length
 same-length c = search needs
@@ -71,27 +51,26 @@ same-length c = search needs
 same-length-2 : tie.Need-same-length-2
 same-length-2 c = search needs
 
-returns-2 : tie.Need-returns-2
-returns-2 c =
-    let a = c .before .before .before .before .before .before .before .before .before .before .before .before .before .before .before .before .before .args in
-    let m = c .before .before .before .before .before .before .before .before .before .before .before .before .mark in
-    let z = is-accepted (a .bytes .now) (m .result) (m .ensures) (sym (c .before .before .before .before .before .before .before .before .before .before .before .number-of .ensures) ∙ c .before .before .before .before .before .before .before .before .before .before .if1 .left) in
-    let n = c .before .before .before .before .before .before .before .before .before .count-of .ensures in
-    gives-trace (a .bytes .now) (m .result) (m .ensures) z (c .before .before .before .before .before .before .before .before .before .before .before .before .before .find .result) (a .list .now) (a .scratch .now) _ _ (c .before .before .before .before .order-known .result) (c .before .before .before .before .before .before .before .before .before .before .before .before .before .find .ensures) (rw (← n) (c .before .before .before .before .order-known .ensures))
+returns-3 : tie.Need-returns-3
+returns-3 c =
+    let a = c .before .before .before .before .before .before .before .before .before .before .before .before .before .before .before .before .before .before .before .before .before .args in
+    let z : orderShort full (length (now (a .list))) (length (now (a .scratch))) ≡ false = sym (c .before .before .before .before .before .before .before .before .before .before .before .before .before .before .before .before .before .is-order-short .ensures) ∙ c .before .before .before .before .before .before .before .before .before .before .before .before .before .before .before .before .if1 .left in
+    let m = c .before .before .before .before .before .before .before .before .before .before .before .before .before .mark in
+    let o = c .before .before .before .before .order-front in
+    orders-accepted (now (a .bytes)) (now (a .what)) (now (a .value)) (now (a .list)) (now (a .scratch)) z (m .result) (m .last .1 .0) (m .last .1 .1 .0) (m .ensures) (c .before .before .before .before .before .before .before .before .before .before .before .enum-told2 .given .1) (o .result) (o .last .1 .1 .1 .1 .1 .0) (o .last .1 .1 .1 .1 .1 .1 .0) (o .ensures)
 
 pub order-trace-spec : {M : Type 1} → statement M
 order-trace-spec =
     tie.close
     (tie.spec
-    find-requires
-    mark-requires
-    number-of-requires
+    is-order-short-requires
     refuse-requires
     returns
-    count-of-requires
-    array-share-prefix-row
-    slice-aggregate-order-known
-    order-known-requires
+    mark-requires
+    enum-told
+    returns-2
+    enum-told-2
+    order-front-requires
     same-length
     same-length-2
-    returns-2)
+    returns-3)

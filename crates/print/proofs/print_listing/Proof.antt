@@ -5,48 +5,38 @@ use mathlib.Core.Path.{sym}
 use denote.Ref.{now}
 use lib.ListN.{replicate, length-replicate}
 use lib.Seq.{length-take-le}
-use Rattle.report.proofs.Reported.{written-in, written-is}
+use Rattle.report.proofs.Reported.{written-in, not-short, written-is}
 use borrow.Author.Needs.{needs}
 use Rattle.print.proofs.print_listing.Statement.{statement}
 use Rattle.print.proofs.print_listing.Tie as tie
-use Rattle.print.proofs.print_listing.Reads as reads
-use Rattle.print.proofs.print_listing.Lts as lts
-use Rattle.io.proofs.write_all.Reads as write-all-reads
-use Rattle.report.proofs.mark_lent.Reads as mark-lent-reads
 
--- src/lib.rt:10:44
 slice-aggregate-mark-lent : tie.Need-slice-aggregate-mark-lent
 slice-aggregate-mark-lent c = search needs
 
--- src/lib.rt:10:54
 slice-aggregate-mark-lent-2 : tie.Need-slice-aggregate-mark-lent-2
 slice-aggregate-mark-lent-2 c = search needs
 
--- src/lib.rt:10:65
 slice-aggregate-mark-lent-3 : tie.Need-slice-aggregate-mark-lent-3
 slice-aggregate-mark-lent-3 c = search needs
 
--- src/lib.rt:10:9
 mark-lent-requires : tie.Need-mark-lent-requires
 mark-lent-requires c κs = search needs
 
--- src/lib.rt:13:34
 array-share-prefix-out : tie.Need-array-share-prefix-out
-array-share-prefix-out c = written-in _ _ _ _ _ (c .before .before .before .before .mark-lent .result) _ _ _ (c .before .before .before .before .mark-lent .ensures)
+array-share-prefix-out c = written-in _ _ _ _ _ (c .before .before .before .mark-lent .result) _ _ _ (c .before .before .before .mark-lent .ensures .reports)
 
--- src/lib.rt:13:34
 slice-aggregate-write-all : tie.Need-slice-aggregate-write-all
-slice-aggregate-write-all c = sym (length-take-le _ _ (written-in _ _ _ _ _ (c .before .before .before .before .before .mark-lent .result) _ _ _ (c .before .before .before .before .before .mark-lent .ensures)))
+slice-aggregate-write-all c = sym (length-take-le _ _ (written-in _ _ _ _ _ (c .before .before .before .before .mark-lent .result) _ _ _ (c .before .before .before .before .mark-lent .ensures .reports)))
 
--- src/lib.rt:13:5
 write-all-requires : tie.Need-write-all-requires
 write-all-requires c κs = search needs
 
--- src/lib.rt:6:1
 returns : tie.Need-returns
 returns c =
-    written-is (now (c .before .before .before .before .before .before .before .before .before .before .before .args .s)) 2000 (replicate 32768 0) (replicate 1000 0) (replicate 2000 0) (c .before .before .before .before .before .before .mark-lent .result) _ _ _ (c .before .before .before .before .before .before .mark-lent .ensures) (omega arith)
-    (omega (arith, length-replicate {A = ℕ} 32768 0)) (omega (arith, length-replicate {A = ℕ} 1000 0)) (omega (arith, length-replicate {A = ℕ} 2000 0))
+    let m = c .before .before .before .before .before .mark-lent in
+    written-is (now (c .before .before .before .before .before .before .before .before .before .before .before .before .args .s)) 2000 (replicate 32768 0) (replicate 1000 0) (replicate 2000 0) (m .result) _ _ _ (m .ensures .reports)
+    (not-short 2000 (replicate 32768 0) (replicate 1000 0) (replicate 2000 0) (omega arith) (omega (arith, length-replicate {A = ℕ} 32768 0)) (omega (arith, length-replicate {A = ℕ} 1000 0))
+    (omega (arith, length-replicate {A = ℕ} 2000 0)))
 
 pub print-listing-spec : {M : Type 1} → statement M
 print-listing-spec =

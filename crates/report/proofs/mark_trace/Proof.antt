@@ -1,75 +1,95 @@
--- `report::mark_trace` meets its contract: the records that are to be written, over the lent ones. Assumes nothing.
-use mathlib.Core.Path.{refl, sym}
-use native.Mathlib.Omega.{arith}
+-- `report::mark_trace` meets its contract: the records of the events, over the lent ones.
 use denote.Ref.{now}
-use lib.Seq.{length-take-le}
-use Rattle.report.proofs.Reported.{count-in, count-lent, fills}
+use Rattle.report.proofs.Reported.{front-whats, front-values, fills}
 use borrow.Author.Needs.{needs}
 use Rattle.report.proofs.mark_trace.Statement.{statement}
 use Rattle.report.proofs.mark_trace.Tie as tie
-use Rattle.report.proofs.mark_trace.Reads as reads
-use Rattle.report.proofs.mark_trace.Lts as lts
-use Rattle.report.proofs.copy.Reads as copy-reads
-use Rattle.report.proofs.mark_lent.Reads as mark-lent-reads
 
--- src/lib.rt:159:9
+lesser-requires : tie.Need-lesser-requires
+lesser-requires c κs = search needs
+
 mark-lent-requires : tie.Need-mark-lent-requires
 mark-lent-requires c κs = search needs
 
--- src/lib.rt:162:19
-array-share-prefix-row : tie.Need-array-share-prefix-row
-array-share-prefix-row c =
-    let a = c .before .before .before .before .before .before .before .before .before .before .before .before .before .before .before .before .before .args in
-    let m = c .before .before .before .before .before .before .before .before .mark-lent in
-    count-in (now (a .bytes)) (now (a .records)) (now (a .out)) (now (a .list)) (now (a .scratch)) (m .result) _ _ _ (m .ensures)
+array-share-prefix-what : tie.Need-array-share-prefix-what
+array-share-prefix-what c =
+    let a = c .before .before .before .before .before .before .before .before .before .before .before .before .before .before .before .before .before .before .before .args in
+    let l = c .before .before .before .before .before .before .before .mark-lent in
+    let c′ = rw (c .before .before .before .before .before .before .before .before .before .before .before .before .before .lesser .ensures) at (l .ensures) in
+    front-whats (now (a .bytes)) (now (a .whats)) (now (a .values)) _ _ (now (a .out)) (now (a .list)) (now (a .scratch)) (l .result) _ _ _ _ _ c′ .inside
 
--- src/lib.rt:162:19
-slice-aggregate-copy : tie.Need-slice-aggregate-copy
-slice-aggregate-copy c =
-    let a = c .before .before .before .before .before .before .before .before .before .before .before .before .before .before .before .before .before .before .args in
-    let m = c .before .before .before .before .before .before .before .before .before .mark-lent in
-    sym (length-take-le (m .result .count) (m .result .row) (count-in (now (a .bytes)) (now (a .records)) (now (a .out)) (now (a .list)) (now (a .scratch)) (m .result) _ _ _ (m .ensures)))
+slice-aggregate-copy-whats : tie.Need-slice-aggregate-copy-whats
+slice-aggregate-copy-whats c =
+    let a = c .before .before .before .before .before .before .before .before .before .before .before .before .before .before .before .before .before .before .before .before .args in
+    let l = c .before .before .before .before .before .before .before .before .mark-lent in
+    let c′ = rw (c .before .before .before .before .before .before .before .before .before .before .before .before .before .before .lesser .ensures) at (l .ensures) in
+    front-whats (now (a .bytes)) (now (a .whats)) (now (a .values)) _ _ (now (a .out)) (now (a .list)) (now (a .scratch)) (l .result) _ _ _ _ _ c′ .count
 
--- src/lib.rt:162:5
-copy-requires : tie.Need-copy-requires
-copy-requires c κs =
-    let a = c .before .before .before .before .before .before .before .before .before .before .before .before .before .before .before .before .before .before .args in
-    let m = c .before .before .before .before .before .before .before .before .before .mark-lent in
-    omega (arith, count-lent (now (a .bytes)) (now (a .records)) (now (a .out)) (now (a .list)) (now (a .scratch)) (m .result) _ _ _ (m .ensures), length-take-le (m .result .count) (m .result .row) (count-in (now (a .bytes)) (now (a .records)) (now (a .out)) (now (a .list)) (now (a .scratch)) (m .result) _ _ _ (m .ensures)))
+copy-whats-requires : tie.Need-copy-whats-requires
+copy-whats-requires c κs =
+    let a = c .before .before .before .before .before .before .before .before .before .before .before .before .before .before .before .before .before .before .before .before .args in
+    let l = c .before .before .before .before .before .before .before .before .mark-lent in
+    let c′ = rw (c .before .before .before .before .before .before .before .before .before .before .before .before .before .before .lesser .ensures) at (l .ensures) in
+    front-whats (now (a .bytes)) (now (a .whats)) (now (a .values)) _ _ (now (a .out)) (now (a .list)) (now (a .scratch)) (l .result) _ _ _ _ _ c′ .room
 
--- src/lib.rt:156:1
+array-share-prefix-value : tie.Need-array-share-prefix-value
+array-share-prefix-value c =
+    let a = c .before .before .before .before .before .before .before .before .before .before .before .before .before .before .before .before .before .before .before .before .before .before .before .before .args in
+    let l = c .before .before .before .before .before .before .before .before .before .before .before .before .mark-lent in
+    let c′ = rw (c .before .before .before .before .before .before .before .before .before .before .before .before .before .before .before .before .before .before .lesser .ensures) at (l .ensures) in
+    front-values (now (a .bytes)) (now (a .whats)) (now (a .values)) _ _ (now (a .out)) (now (a .list)) (now (a .scratch)) (l .result) _ _ _ _ _ c′ .inside
+
+slice-aggregate-copy-values : tie.Need-slice-aggregate-copy-values
+slice-aggregate-copy-values c =
+    let a = c .before .before .before .before .before .before .before .before .before .before .before .before .before .before .before .before .before .before .before .before .before .before .before .before .before .args in
+    let l = c .before .before .before .before .before .before .before .before .before .before .before .before .before .mark-lent in
+    let c′ = rw (c .before .before .before .before .before .before .before .before .before .before .before .before .before .before .before .before .before .before .before .lesser .ensures) at (l .ensures) in
+    front-values (now (a .bytes)) (now (a .whats)) (now (a .values)) _ _ (now (a .out)) (now (a .list)) (now (a .scratch)) (l .result) _ _ _ _ _ c′ .count
+
+copy-values-requires : tie.Need-copy-values-requires
+copy-values-requires c κs =
+    let a = c .before .before .before .before .before .before .before .before .before .before .before .before .before .before .before .before .before .before .before .before .before .before .before .before .before .args in
+    let l = c .before .before .before .before .before .before .before .before .before .before .before .before .before .mark-lent in
+    let c′ = rw (c .before .before .before .before .before .before .before .before .before .before .before .before .before .before .before .before .before .before .before .lesser .ensures) at (l .ensures) in
+    front-values (now (a .bytes)) (now (a .whats)) (now (a .values)) _ _ (now (a .out)) (now (a .list)) (now (a .scratch)) (l .result) _ _ _ _ _ c′ .room
+
 same-length : tie.Need-same-length
 same-length c = search needs
 
--- src/lib.rt:156:1
 same-length-2 : tie.Need-same-length-2
 same-length-2 c = search needs
 
--- src/lib.rt:156:1
 same-length-3 : tie.Need-same-length-3
 same-length-3 c = search needs
 
--- src/lib.rt:156:1
 same-length-4 : tie.Need-same-length-4
 same-length-4 c = search needs
 
--- src/lib.rt:156:1
+same-length-5 : tie.Need-same-length-5
+same-length-5 c = search needs
+
 returns : tie.Need-returns
 returns c =
-    let a = c .before .before .before .before .before .before .before .before .before .before .before .before .before .before .before .before .before .before .before .before .before .before .args in
-    let m = c .before .before .before .before .before .before .before .before .before .before .before .before .before .mark-lent in
-    fills (now (a .bytes)) (now (a .records)) (now (a .out)) (now (a .list)) (now (a .scratch)) (m .result) _ _ _ (m .ensures) (m .result .report) _ (c .before .before .before .copy .ensures) refl
+    let a = c .before .before .before .before .before .before .before .before .before .before .before .before .before .before .before .before .before .before .before .before .before .before .before .before .before .before .before .args in
+    let l = c .before .before .before .before .before .before .before .before .before .before .before .before .before .before .before .mark-lent in
+    let c′ = rw (c .before .before .before .before .before .before .before .before .before .before .before .before .before .before .before .before .before .before .before .before .before .lesser .ensures) at (l .ensures) in
+    fills (now (a .bytes)) (now (a .whats)) (now (a .values)) _ _ (now (a .out)) (now (a .list)) (now (a .scratch)) (l .result) _ _ _ _ _ c′ _ _ (c .before .before .before .before .before .before .copy-whats .ensures) (c .before .copy-values .ensures)
 
 pub mark-trace-spec : {M : Type 1} → statement M
 mark-trace-spec =
     tie.close
     (tie.spec
+    lesser-requires
     mark-lent-requires
-    array-share-prefix-row
-    slice-aggregate-copy
-    copy-requires
+    array-share-prefix-what
+    slice-aggregate-copy-whats
+    copy-whats-requires
+    array-share-prefix-value
+    slice-aggregate-copy-values
+    copy-values-requires
     same-length
     same-length-2
     same-length-3
     same-length-4
+    same-length-5
     returns)

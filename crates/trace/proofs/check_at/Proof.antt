@@ -1,28 +1,21 @@
--- `trace::check_at` meets its contract. Assumes nothing.
+-- `trace::check_at` meets its contract.
 use borrow.Author.Tests.{eq-eqb, ne-eqb}
 use borrow.Author.Needs.{needs}
 use Rattle.trace.proofs.check_at.Statement.{statement}
 use Rattle.trace.proofs.check_at.Tie as tie
-use Rattle.trace.proofs.check_at.Reads as reads
-use Rattle.trace.proofs.check_at.Lts as lts
 
--- src/lib.rt:70:25
 enum-told : tie.Need-enum-told
 enum-told c = search needs
 
--- src/lib.rt:71:21
 enum-known-n : tie.Need-enum-known-n
 enum-known-n c = search needs
 
--- src/lib.rt:66:1
 returns : tie.Need-returns
 returns c = search needs
 
--- src/lib.rt:66:1
 returns-2 : tie.Need-returns-2
 returns-2 c = rw (c .before .before .n .given .1, eq-eqb _ _ (c .if1 .taken))
 
--- src/lib.rt:66:1
 returns-3 : tie.Need-returns-3
 returns-3 c = rw (c .before .before .n .given .1, ne-eqb _ _ (c .if1 .left))
 

@@ -1,47 +1,34 @@
--- `trace::find_trailer` meets its contract: the last line, from behind the last byte 10 but the final one. Assumes nothing.
+-- `trace::find_trailer` meets its contract: the last line, from behind the last byte 10 but the final one.
 use mathlib.Core.Path.{_≡_, sym, ap, _∙_}
-use mathlib.Core.List.{[]}
 use Prim.Native.Nat.{ℕ, _-_}
 use native.Mathlib.Omega.{arith}
 use borrow.Author.Tests.{eq-eqb, ne-eqb}
 use denote.Ref.{now}
 use lib.ListN.{length, getD, take, drop}
 use lib.Seq.{length-take-le}
-use Rattle.lines.specs.Lines.{splitOn, letter}
-use Rattle.decimal.specs.Decimal.{naturalOf}
+use Rattle.lines.specs.Lines.{splitOn}
 use Rattle.trace.specs.Trace.{checkAt, trailerNumber, lastLine, trailerOf}
 use Rattle.trace.proofs.TraceLaws.{trailer-none, last-le}
 use borrow.Author.Needs.{needs}
 use Rattle.trace.proofs.find_trailer.Statement.{statement}
 use Rattle.trace.proofs.find_trailer.Tie as tie
-use Rattle.trace.proofs.find_trailer.Reads as reads
-use Rattle.trace.proofs.find_trailer.Lts as lts
-use Rattle.lines.proofs.last_end.Reads as last-end-reads
-use Rattle.trace.proofs.check_at.Reads as check-at-reads
-use Rattle.trace.proofs.trailer_number.Reads as trailer-number-reads
 
--- src/lib.rt:86:9
 returns : tie.Need-returns
 unfolding trailerOf lastLine
 returns c = trailer-none (now (c .before .before .args .s)) (c .if1 .taken)
 
--- src/lib.rt:88:16
 sub-last : tie.Need-sub-last
 sub-last c = search needs
 
--- src/lib.rt:89:8
 shared-slice-read-if2 : tie.Need-shared-slice-read-if2
 shared-slice-read-if2 c = search needs
 
--- src/lib.rt:90:34
 slice-aggregate-last-end : tie.Need-slice-aggregate-last-end
 slice-aggregate-last-end c = sym (length-take-le _ (now (c .before .before .before .before .before .args .s)) (omega arith))
 
--- src/lib.rt:90:13
 last-end-requires : tie.Need-last-end-requires
 last-end-requires c κs = search needs
 
--- src/lib.rt:91:37
 starts : tie.Need-sub-trailer-number
 unfolding lastLine
 starts c = omega (arith, c .last-end .ensures, last-le (now (c .before .before .before .before .before .before .args .s)))
@@ -49,23 +36,18 @@ starts c = omega (arith, c .last-end .ensures, last-le (now (c .before .before .
 sub-trailer-number : tie.Need-sub-trailer-number
 sub-trailer-number c = starts c
 
--- src/lib.rt:91:37
 part-trailer-number-start : tie.Need-part-trailer-number-start
 part-trailer-number-start c = starts c
 
--- src/lib.rt:91:37
 part-trailer-number-end : tie.Need-part-trailer-number-end
 part-trailer-number-end c = search needs
 
--- src/lib.rt:91:22
 trailer-number-requires : tie.Need-trailer-number-requires
 trailer-number-requires c κs = search needs
 
--- src/lib.rt:91:9
 check-at-requires : tie.Need-check-at-requires
 check-at-requires c κs = search needs
 
--- src/lib.rt:82:1
 returns-2 : tie.Need-returns-2
 unfolding trailerOf lastLine
 returns-2 c =
@@ -76,7 +58,6 @@ returns-2 c =
     ∙ ap (λ (a : ℕ). checkAt a (trailerNumber (splitOn 32 (take (length s - 1 - a) (drop a s))))) (l .ensures)
     ∙ sym (rw (eq-eqb _ _ b))
 
--- src/lib.rt:82:1
 returns-3 : tie.Need-returns-3
 unfolding trailerOf lastLine
 returns-3 c =

@@ -1,7 +1,6 @@
--- `trace::read_guards` meets its contract: a G, and then a dash or the locks. Assumes nothing.
+-- `trace::read_guards` meets its contract: a G, and then a dash or the locks.
 use mathlib.Core.Path.{_≡_, sym, ap, _∙_}
 use mathlib.Core.List.{[]}
-use native.Mathlib.Omega.{arith}
 use borrow.Author.Tests.{eq-eqb, ne-eqb}
 use denote.Ref.{now}
 use lib.ListN.{length, getD}
@@ -11,48 +10,31 @@ use Rattle.trace.specs.Trace.{guardsOf}
 use borrow.Author.Needs.{needs}
 use Rattle.trace.proofs.read_guards.Statement.{statement}
 use Rattle.trace.proofs.read_guards.Tie as tie
-use Rattle.trace.proofs.read_guards.Reads as reads
-use Rattle.trace.proofs.read_guards.Lts as lts
-use Rattle.lines.proofs.count_fields.Reads as count-fields-reads
-use Rattle.lines.proofs.field.Reads as field-reads
-use Rattle.lines.proofs.read_letter.Reads as read-letter-reads
-use Rattle.trace.proofs.bad_line.Reads as bad-line-reads
-use Rattle.trace.proofs.is_dash.Reads as is-dash-reads
-use Rattle.trace.proofs.read_locks.Reads as read-locks-reads
 
--- src/lib.rt:217:27
 field-requires : tie.Need-field-requires
 field-requires c κs = search needs
 
--- src/lib.rt:217:8
 read-letter-requires : tie.Need-read-letter-requires
 read-letter-requires c κs = search needs
 
--- src/lib.rt:218:12
 is-dash-requires : tie.Need-is-dash-requires
 is-dash-requires c κs = search needs
 
--- src/lib.rt:224:19
 count-fields-requires : tie.Need-count-fields-requires
 count-fields-requires c κs = search needs
 
--- src/lib.rt:224:45
 add-if3 : tie.Need-add-if3
 add-if3 c = search needs
 
--- src/lib.rt:225:13
 read-locks-requires : tie.Need-read-locks-requires
 read-locks-requires c κs = search needs
 
--- src/lib.rt:227:13
 bad-line-requires : tie.Need-bad-line-requires
 bad-line-requires c κs = search needs
 
--- src/lib.rt:230:9
 bad-line-requires-2 : tie.Need-bad-line-requires-2
 bad-line-requires-2 c κs = search needs
 
--- src/lib.rt:213:1
 returns : tie.Need-returns
 unfolding guardsOf
 returns c =
@@ -60,7 +42,6 @@ returns c =
     let k : letter (getD fs 0 []) ≡ 71 = sym (c .before .before .before .read-letter .ensures ∙ ap letter (c .before .before .before .before .field .ensures)) ∙ c .before .before .if1 .taken in
     rw (eq-eqb _ _ k, sym (c .before .is-dash .ensures) ∙ c .if2 .taken)
 
--- src/lib.rt:213:1
 returns-2 : tie.Need-returns-2
 unfolding guardsOf
 returns-2 c =
@@ -69,7 +50,6 @@ returns-2 c =
     let n : length fs ≡ c .before .before .before .before .before .before .before .before .before .args .v + 1 = sym (c .before .before .count-fields .ensures) ∙ c .before .if3 .taken in
     rw (eq-eqb _ _ k, sym (c .before .before .before .before .is-dash .ensures) ∙ c .before .before .before .if2 .left, eq-eqb _ _ n) (c .read-locks .ensures)
 
--- src/lib.rt:213:1
 returns-3 : tie.Need-returns-3
 unfolding guardsOf
 returns-3 c =
@@ -78,7 +58,6 @@ returns-3 c =
     rw (eq-eqb _ _ k, sym (c .before .before .before .before .is-dash .ensures) ∙ c .before .before .before .if2 .left, ne-eqb (length fs) (c .before .before .before .before .before .before .before .before .before .args .v + 1) (λ e. c .before .if3 .left (c .before .before .count-fields .ensures ∙ e)))
     (c .bad-line .ensures)
 
--- src/lib.rt:213:1
 returns-4 : tie.Need-returns-4
 unfolding guardsOf
 returns-4 c =

@@ -1,34 +1,25 @@
--- `trace::read_lock` meets its contract. Assumes nothing.
+-- `trace::read_lock` meets its contract.
 use mathlib.Core.Path.{sym, _∙_}
 use borrow.Author.Tests.{lt-ltb, le-ltb}
 use borrow.Author.Needs.{needs}
 use Rattle.trace.proofs.read_lock.Statement.{statement}
 use Rattle.trace.proofs.read_lock.Tie as tie
-use Rattle.trace.proofs.read_lock.Reads as reads
-use Rattle.trace.proofs.read_lock.Lts as lts
-use Rattle.decimal.proofs.read_natural.Reads as read-natural-reads
 
--- src/lib.rt:168:11
 read-natural-requires : tie.Need-read-natural-requires
 read-natural-requires c κs = search needs
 
--- src/lib.rt:169:25
 enum-told : tie.Need-enum-told
 enum-told c = search needs
 
--- src/lib.rt:170:21
 enum-known-n : tie.Need-enum-known-n
 enum-known-n c = search needs
 
--- src/lib.rt:165:1
 returns : tie.Need-returns
 returns c = rw (sym (c .before .before .read-natural .ensures) ∙ c .enum-told .given .1)
 
--- src/lib.rt:165:1
 returns-2 : tie.Need-returns-2
 returns-2 c = rw (sym (c .before .before .before .before .read-natural .ensures) ∙ c .before .before .n .given .1, lt-ltb _ _ (c .if1 .taken))
 
--- src/lib.rt:165:1
 returns-3 : tie.Need-returns-3
 returns-3 c = rw (sym (c .before .before .before .before .read-natural .ensures) ∙ c .before .before .n .given .1, le-ltb _ _ (c .if1 .left))
 

@@ -1,12 +1,11 @@
--- `trace::read_locks` meets its contract: after i turns the first i locks are stored, and the i-th field ends at `e`. Assumes nothing.
+-- `trace::read_locks` meets its contract: after i turns the first i locks are stored, and the i-th field ends at `e`.
 use mathlib.Core.Path.{_≡_, refl, sym, ap, _∙_}
-use mathlib.Core.List.{List, []}
+use mathlib.Core.List.{List}
 use Prim.Native.Nat.{ℕ, _≤_, _<_, _+_, _-_}
 use native.Mathlib.Omega.{arith}
 use denote.Ref.{now}
-use lib.ListN.{length, getD, drop}
+use lib.ListN.{length, drop}
 use Rattle.lines.specs.Lines.{splitOn}
-use Rattle.decimal.specs.declared.Natural.{Natural}
 use Rattle.decimal.specs.Decimal.{naturalOf}
 use Rattle.trace.specs.Trace.{noLocks, lockOf, locksFrom}
 use Rattle.trace.proofs.TraceLaws.{locks-step, locks-bad, locks-end}

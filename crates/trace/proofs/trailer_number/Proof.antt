@@ -1,46 +1,32 @@
--- `trace::trailer_number` meets its contract: two fields, a Z and a number. Assumes nothing.
+-- `trace::trailer_number` meets its contract: two fields, a Z and a number.
 use mathlib.Core.Path.{_≡_, sym, ap, _∙_}
 use mathlib.Core.List.{[]}
-use Prim.Native.Nat.{ℕ, _-_}
-use native.Mathlib.Omega.{arith}
+use Prim.Native.Nat.{_-_}
 use borrow.Author.Tests.{eq-eqb, ne-eqb}
 use denote.Ref.{now}
-use lib.ListN.{length, getD, take, drop}
-use lib.Seq.{length-take-le}
+use lib.ListN.{length, getD}
 use Rattle.lines.specs.Lines.{splitOn, letter}
 use Rattle.decimal.specs.Decimal.{naturalOf}
 use Rattle.trace.specs.Trace.{trailerNumber}
 use borrow.Author.Needs.{needs}
 use Rattle.trace.proofs.trailer_number.Statement.{statement}
 use Rattle.trace.proofs.trailer_number.Tie as tie
-use Rattle.trace.proofs.trailer_number.Reads as reads
-use Rattle.trace.proofs.trailer_number.Lts as lts
-use Rattle.decimal.proofs.read_natural.Reads as read-natural-reads
-use Rattle.lines.proofs.count_fields.Reads as count-fields-reads
-use Rattle.lines.proofs.field.Reads as field-reads
-use Rattle.lines.proofs.read_letter.Reads as read-letter-reads
 
--- src/lib.rt:58:8
 count-fields-requires : tie.Need-count-fields-requires
 count-fields-requires c κs = search needs
 
--- src/lib.rt:59:31
 field-requires : tie.Need-field-requires
 field-requires c κs = search needs
 
--- src/lib.rt:59:12
 read-letter-requires : tie.Need-read-letter-requires
 read-letter-requires c κs = search needs
 
--- src/lib.rt:60:42
 field-requires-2 : tie.Need-field-requires-2
 field-requires-2 c κs = search needs
 
--- src/lib.rt:60:13
 read-natural-requires : tie.Need-read-natural-requires
 read-natural-requires c κs = search needs
 
--- src/lib.rt:60:13
 returns : tie.Need-returns
 unfolding trailerNumber
 returns c =
@@ -49,7 +35,6 @@ returns c =
     let k : letter (getD fs 0 []) ≡ 90 = sym (c .before .before .before .read-letter .ensures ∙ ap letter (c .before .before .before .before .field .ensures)) ∙ c .before .before .if2 .taken in
     rw (eq-eqb _ _ two, eq-eqb _ _ k) (c .read-natural .ensures ∙ ap naturalOf (c .before .field2 .ensures))
 
--- src/lib.rt:55:1
 returns-2 : tie.Need-returns-2
 unfolding trailerNumber
 returns-2 c =
@@ -57,7 +42,6 @@ returns-2 c =
     let two : length fs ≡ 2 = sym (c .before .before .before .before .count-fields .ensures) ∙ c .before .before .before .if1 .taken in
     rw (eq-eqb _ _ two, ne-eqb (letter (getD fs 0 [])) 90 (λ e. c .if2 .left (c .before .read-letter .ensures ∙ ap letter (c .before .before .field .ensures) ∙ e)))
 
--- src/lib.rt:55:1
 returns-3 : tie.Need-returns-3
 unfolding trailerNumber
 returns-3 c =

@@ -1,20 +1,14 @@
--- `trace::with_guards` meets its contract. Assumes nothing.
+-- `trace::with_guards` meets its contract.
 use borrow.Author.Needs.{needs}
 use Rattle.trace.proofs.with_guards.Statement.{statement}
 use Rattle.trace.proofs.with_guards.Tie as tie
-use Rattle.trace.proofs.with_guards.Reads as reads
-use Rattle.trace.proofs.with_guards.Lts as lts
-use Rattle.trace.proofs.refuse.Reads as refuse-reads
 
--- src/lib.rt:259:9
 refuse-requires : tie.Need-refuse-requires
 refuse-requires c κs = search needs
 
--- src/lib.rt:243:1
 returns : tie.Need-returns
 returns c = rw (c .before .if1 .taken)
 
--- src/lib.rt:243:1
 returns-2 : tie.Need-returns-2
 returns-2 c = rw (c .before .if1 .left) (c .refuse .ensures)
 

@@ -1,0 +1,197 @@
+// What a program in C calls: a whole trace, marked into lent memory, and one step over a state that it keeps. Events and answers are
+// plain numbers. include/dabzhoni.h declares these functions and the layout of the state.
+ghost use mathlib.Core.Path.{_≡_};
+ghost use Rattle.state.specs.State.{start};
+ghost use Rattle.c_api.specs.Replies.{replyOf, stepReply, orderReply, markReply, MarkReplies, BriefReplies};
+use ordering::Ordering;
+use report::Report;
+use rules::Counts;
+use rules::Event;
+use rules::Named;
+use rules::Value;
+use rules::Verdict;
+use state::State;
+
+// The number of a refusal and its line; both are 0 where nothing is refused.
+#[repr(C)]
+pub struct Reply {
+    pub number: usize,
+    pub line: usize,
+}
+
+pub fn reply_of(v: Verdict) -> Reply
+    ensures { λ r. ⌜ r ≡ replyOf v ⌝ }
+{
+    let number = rules::number_of(v);
+    let line = rules::line_of(v);
+    Reply {
+        number: number as usize,
+        line: line,
+    }
+}
+
+// ---- One step.
+
+// The reply to an event, and the state after it.
+pub struct StepReply {
+    pub reply: Reply,
+    pub state: State,
+}
+
+// One step, by value.
+pub fn step_numbers(s: State, letter: u8, thread: usize, place: usize, value: Value) -> StepReply
+    ensures { λ r. ⌜ r ≡ stepReply s letter thread place value ⌝ }
+{
+    let h = s.counts;
+    let line = rules::line_after(h, s.events);
+    let named = rules::kind_of(letter, place, value);
+    match named {
+        Named::Nothing => {
+            let no = Reply {
+                number: 4,
+                line: line,
+            };
+            StepReply {
+                reply: no,
+                state: s,
+            }
+        },
+        Named::Of(kind) => {
+            let e = Event {
+                thread: thread,
+                line: line,
+                kind: kind,
+            };
+            let a = machine::step(s, e);
+            let v = a.verdict;
+            let next = a.state;
+            let reply = reply_of(v);
+            StepReply {
+                reply: reply,
+                state: next,
+            }
+        },
+    }
+}
+
+// Makes the state before the first event.
+#[no_mangle]
+pub extern "C" fn dabzhoni_initial(s: &mut State, threads: usize, variables: usize, locks: usize)
+    ensures { λ _. ⌜ now (s .exit) ≡ start (record { threads = threads; variables = variables; locks = locks }) ⌝ }
+{
+    let h = Counts {
+        threads: threads,
+        variables: variables,
+        locks: locks,
+    };
+    *s = state::initial(h);
+}
+
+// One step over the state that the caller keeps, changed in place.
+#[no_mangle]
+pub extern "C" fn dabzhoni_step(
+    s: &mut State,
+    letter: u8,
+    thread: usize,
+    place: usize,
+    value: Value,
+) -> Reply
+    ensures { λ r. ⌜ record { reply = r; state = now (s .exit) } ≡ stepReply (now (s .entry)) letter thread place value ⌝ }
+{
+    let a = step_numbers(*s, letter, thread, place, value);
+    *s = a.state;
+    a.reply
+}
+
+// ---- A whole trace.
+
+// What is said of an order: how many entries the order list has, or the number and the line of what denies it.
+pub struct OrderReply {
+    pub sections: usize,
+    pub denial: usize,
+    pub line: usize,
+}
+
+pub fn order_reply(o: Ordering) -> OrderReply
+    ensures { λ r. ⌜ r ≡ orderReply o ⌝ }
+{
+    match o {
+        Ordering::Ordered(c) => OrderReply {
+            sections: c,
+            denial: 0,
+            line: 0,
+        },
+        Ordering::Unordered(number, line) => OrderReply {
+            sections: 0,
+            denial: number as usize,
+            line: line,
+        },
+        Ordering::NoOrder => OrderReply {
+            sections: 0,
+            denial: 0,
+            line: 0,
+        },
+    }
+}
+
+// What is said of a trace: the number of a refusal and its line, both 0 where it is accepted; the events of an accepted one, else 0; the
+// length of the listing; how many entries the order list has; and 20 to 22 and its line where the order is denied, else 0.
+#[repr(C)]
+pub struct MarkReply {
+    pub number: usize,
+    pub line: usize,
+    pub events: usize,
+    pub written: usize,
+    pub sections: usize,
+    pub denial: usize,
+    pub denial_line: usize,
+}
+
+// The numbers of a report.
+pub fn mark_reply(r: Report) -> MarkReply
+    ensures { λ a. ⌜ a ≡ markReply r ⌝ }
+{
+    let verdict = r.verdict;
+    let ordering = r.ordering;
+    let v = reply_of(verdict);
+    let o = order_reply(ordering);
+    MarkReply {
+        number: v.number,
+        line: v.line,
+        events: r.events,
+        written: r.written,
+        sections: o.sections,
+        denial: o.denial,
+        denial_line: o.line,
+    }
+}
+
+// Marks a whole trace, with its records, its order and its listing.
+#[no_mangle]
+pub extern "C" fn dabzhoni_mark(
+    paper: &[u8],
+    what: &mut [u32],
+    values: &mut [Value],
+    out: &mut [u8],
+    order: &mut [u64],
+    scratch: &mut [u64],
+) -> MarkReply
+    ensures { λ r. ⌜ MarkReplies (now (paper .entry)) (now (what .entry)) (now (values .entry)) (now (out .entry)) (now (order .entry)) (now (scratch .entry)) r (now (what .exit)) (now (values .exit)) (now (out .exit)) (now (order .exit)) (now (scratch .exit)) ⌝ }
+{
+    let r = report::mark_trace(paper, what, values, out, order, scratch);
+    mark_reply(r)
+}
+
+// The same where no order is wanted.
+#[no_mangle]
+pub extern "C" fn dabzhoni_mark_unordered(
+    paper: &[u8],
+    what: &mut [u32],
+    values: &mut [Value],
+    out: &mut [u8],
+) -> MarkReply
+    ensures { λ r. ⌜ BriefReplies (now (paper .entry)) (now (what .entry)) (now (values .entry)) (now (out .entry)) r (now (what .exit)) (now (values .exit)) (now (out .exit)) ⌝ }
+{
+    let r = report::mark_unordered(paper, what, values, out);
+    mark_reply(r)
+}

@@ -1,0 +1,93 @@
+-- The events that are filled in: those of an accepted trace, none after a refusal.
+use Prim.Native.Nat.{ℕ, _+_, _≤_, _<_, min}
+use native.Mathlib.Omega.{arith}
+use mathlib.Core.Path.{_≡_, refl, sym, ap, ap₂, _∙_}
+use mathlib.Core.Bool.{Bool, true, false, cond, _||_}
+use mathlib.Core.List.{List, [], _∷_, _++_, map}
+use lib.Dec.{ltb}
+use lib.IntN.{ℤ, pos}
+use lib.ListN.{length, getD, replicate, drop, length-map, length-append, List·getD-append}
+use borrow.Author.Tests.{ltb-false}
+use Rattle.rules.specs.declared.Event.{Event}
+use Rattle.rules.specs.declared.Counts.{Counts}
+use Rattle.rules.specs.Limits.{full, lentShort, orderShort, lineAfter}
+use Rattle.rules.specs.Rules.{Marked, accepted, refused, onMarked}
+use Rattle.rules.specs.Memories.{from}
+use Rattle.rules.proofs.From.{from-same}
+use Rattle.decimal.specs.Text.{over}
+use Rattle.records.specs.Records.{packed, valueIn, unpacked, eventAt, rowEvents}
+use Rattle.records.proofs.RowLaws.{Numbered, Small, row-back}
+use Rattle.trace.specs.Trace.{traceOf}
+use Rattle.marking.specs.Marking.{markedOf, eventsIn, readIn}
+use Rattle.marking.proofs.Whole.{read-is, events-few, events-numbered, events-declared}
+use Rattle.ordering.specs.Traces.{orderingOf}
+use Rattle.report.specs.declared.Report.{Report}
+use Rattle.report.specs.Report.{short, shortReport, reportOf, countOf, listingOf, recordsAfter, Reports}
+use Rattle.report.specs.Computed.Parts.{Lends}
+use Rattle.event_rows.specs.declared.Kept.{Kept}
+use Rattle.event_rows.specs.EventRows.{fitting, filled, FillsEvents}
+use Rattle.event_rows.specs.Computed.Kept.{Keeps}
+
+-- none are asked for
+filled-none : (h : Counts) (ws : List ℕ) (xs : List ℤ) (records : List Event) → filled h ws xs 0 records ≡ records
+unfolding filled fitting from
+filled-none h ws xs records = let e : min (min 0 2000) (min (length records) (min (length ws) (length xs))) ≡ 0 = omega arith in ap (λ (k : ℕ). over (from (eventAt h ws xs) 0 k) records) e
+
+-- the rows hold the records of these events at their front
+module _ (h : Counts) (es : List Event) (numbered : Numbered h 0 es) (small : Small es) (ws : List ℕ) (xs : List ℤ) where
+  whats : List ℕ
+  whats = map packed es ++ ws
+
+  values : List ℤ
+  values = map valueIn es ++ xs
+
+  same : (j : ℕ) → j < length es → eventAt h whats values j ≡ eventAt h (map packed es) (map valueIn es) j
+  unfolding eventAt whats values
+  same j q = ap₂ (unpacked (lineAfter h j)) (List·getD-append (map packed es) ws 0 j (omega (arith, q, length-map es packed))) (List·getD-append (map valueIn es) xs (pos 0) j (omega (arith, q, length-map es valueIn)))
+
+  back : from (eventAt h whats values) 0 (length es) ≡ es
+  unfolding rowEvents
+  back =
+      from-same (eventAt h whats values) (eventAt h (map packed es) (map valueIn es)) 0 (length es) (λ j p q. same j (omega (arith, q)))
+      ∙ ap (from (eventAt h (map packed es) (map valueIn es)) 0) (sym (length-map es packed)) ∙ row-back h es numbered small
+
+  filled-all : (records : List Event) → length es ≤ 2000 → length es ≤ length records → filled h (map packed es ++ ws) (map valueIn es ++ xs) (length es) records ≡ over es records
+  unfolding filled fitting whats values
+  filled-all records few fit =
+      let e : min (min (length es) 2000) (min (length records) (min (length (map packed es ++ ws)) (length (map valueIn es ++ xs)))) ≡ length es
+      = omega (arith, few, fit, length-append (map packed es) ws, length-append (map valueIn es) xs, length-map es packed, length-map es valueIn) in
+      ap (λ (k : ℕ). over (from (eventAt h (map packed es ++ ws) (map valueIn es ++ xs)) 0 k) records) e ∙ ap (λ (l : List Event). over l records) back
+
+neither : (a b : Bool) → (a || b) ≡ false → a ≡ false
+neither false b q = refl
+neither true b q = q
+
+module _ (s : List ℕ) (records : List Event) (out list scratch : List ℕ) where
+  abbrev lent : Bool
+  lent = short full (length records) out list scratch
+
+  many : lent ≡ false → 2000 ≤ length records
+  unfolding lentShort
+  many q = ltb-false (length records) 2000 (neither (ltb (length records) 2000) _ (neither (lentShort full (length records) (length out)) _ q))
+
+  filled-marked : lent ≡ false → (m : Marked) → markedOf full s ≡ m → (ws : List ℕ) (xs : List ℤ) → ws ≡ over (map packed (readIn full s)) (replicate 2000 0) → xs ≡ over (map valueIn (readIn full s)) (replicate 2000 (pos 0))
+      → filled (traceOf full s .head) ws xs (onMarked m (length (eventsIn full s)) 0) records ≡ onMarked m (over (eventsIn full s) records) records
+  filled-marked q (refused number line) a ws xs e f = filled-none (traceOf full s .head) ws xs records
+  filled-marked q accepted a ws xs e f = rw (e, f, read-is s a) (filled-all (traceOf full s .head) (eventsIn full s) (events-numbered s) (events-declared s) _ _ records (events-few s) (omega (arith, events-few s, many q)))
+
+  filled-lent : (b : Bool) → lent ≡ b → (r : Report) (ws : List ℕ) (xs : List ℤ)
+      → r ≡ cond b shortReport (reportOf full s (orderingOf full s) (listingOf full s))
+      → ws ≡ cond b (replicate 2000 0) (over (map packed (readIn full s)) (replicate 2000 0)) → xs ≡ cond b (replicate 2000 (pos 0)) (over (map valueIn (readIn full s)) (replicate 2000 (pos 0)))
+      → filled (traceOf full s .head) ws xs (r .events) records ≡ cond b records (recordsAfter full s (eventsIn full s) records)
+  unfolding reportOf countOf recordsAfter
+  filled-lent true q r ws xs c e f = ap (λ (x : Report). filled (traceOf full s .head) ws xs (x .events) records) c ∙ filled-none (traceOf full s .head) ws xs records
+  filled-lent false q r ws xs c e f = ap (λ (x : Report). filled (traceOf full s .head) ws xs (x .events) records) c ∙ filled-marked q (markedOf full s) refl ws xs e f
+
+  -- the contract, from those of the two calls
+  pub fills-events : (k : Kept) (out′ list′ scratch′ : List ℕ) → Keeps s (length records) out list scratch k out′ list′ scratch′
+      → (records′ : List Event) → records′ ≡ filled (k .head) (k .what) (k .value) (k .report .events) records → FillsEvents s records out list scratch (k .report) records′ out′ list′ scratch′
+  fills-events k out′ list′ scratch′ c records′ e = record {
+    reports = c .lends .reports;
+    fills = e ∙ ap (λ (h : Counts). filled h (k .what) (k .value) (k .report .events) records) (c .heads)
+        ∙ filled-lent lent refl (k .report) (k .what) (k .value) (c .lends .reports .says) (c .lends .keeps) (c .lends .beside);
+  }

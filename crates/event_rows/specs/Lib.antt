@@ -1,0 +1,3 @@
+pub mod EventRows
+-- what is only computed
+pub mod Computed

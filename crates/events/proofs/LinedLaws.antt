@@ -1,0 +1,58 @@
+-- The events that are read have the numbers of their lines.
+use Prim.Native.Nat.{ℕ, zero, suc, _<_, _+_}
+use native.Mathlib.Omega.{arith}
+use native.Mathlib.Nat.{not-suc-le-zero}
+use mathlib.Core.Path.{_≡_, refl, sym, ap, _∙_}
+use mathlib.Core.Bool.{Bool, true, false, cond}
+use mathlib.Core.List.{List, [], _∷_}
+use mathlib.Core.Option.{Option, none, some}
+use lib.Dec.{leb}
+use lib.ListN.{length, getD}
+use Rattle.rules.specs.declared.Event.{Event}
+use Rattle.rules.specs.declared.Counts.{Counts}
+use Rattle.rules.specs.declared.Named.{Named}
+use Rattle.rules.specs.declared.Named.the-variants as named
+use Rattle.rules.specs.Events.{kindOf, eventWith}
+use Rattle.rules.specs.Limits.{Limits, full, firstLine, lineAfter}
+use Rattle.rules.specs.Computed.Reading.{readFrom}
+use Rattle.events.specs.Events.{Fields, wrong, right, lineOf, eventIn, eventOf, readings, partLines}
+use Rattle.events.specs.Computed.Reading.{eventsRead}
+
+pub event-line : (n : ℕ) (l : List ℕ) (e : Event) → eventOf n l ≡ some e → e .line ≡ n
+unfolding eventOf
+event-line n l e q = by (lineOf l) q
+  where
+    with-kind : (t : ℕ) (k : Named) → eventWith n t k ≡ some e → e .line ≡ n
+    with-kind t named.Nothing q = absurd (let z : _≡_ {A = ℕ} 0 1 = cc in omega arith)
+    with-kind t (named.Of k) q = let d : record { thread = t; line = n; kind = k } ≡ e = cc in ap (λ (x : Event). x .line) (sym d)
+
+    by : (f : Fields) → eventIn n f ≡ some e → e .line ≡ n
+    by wrong q = absurd (let z : _≡_ {A = ℕ} 0 1 = cc in omega arith)
+    by (right k t p x) q = with-kind t (kindOf k p x) q
+
+-- events on the lines from the n-th on, one on each
+abbrev pub Lined : ℕ → List Event → Type 0
+Lined n [] = Unit {0}
+Lined n (e ∷ es) = (e .line ≡ n) × Lined (suc n) es
+
+pub read-lined : (m : Limits) (k n : ℕ) (ls : List (List ℕ)) → Lined n (readFrom m k (readings n ls))
+unfolding readFrom readings
+read-lined m k n [] = tt
+read-lined m k n (l ∷ ls) = by (eventOf n l) refl (read-lined m (suc k) (suc n) ls)
+  where
+    on : (e : Event) (b : Bool) → e .line ≡ n → Lined (suc n) (readFrom m (suc k) (readings (suc n) ls)) → Lined n (cond b [] (e ∷ readFrom m (suc k) (readings (suc n) ls)))
+    on e true q r = tt
+    on e false q r = (q, r)
+
+    by : (o : Option Event) → eventOf n l ≡ o → Lined (suc n) (readFrom m (suc k) (readings (suc n) ls)) → Lined n (readFrom m k (o ∷ readings (suc n) ls))
+    by none q r = tt
+    by (some e) q r = on e (leb (m .events) k) (event-line n l e q) r
+
+lined-at : (n : ℕ) (es : List Event) (d : Event) → Lined n es → (i : ℕ) → i < length es → getD es i d .line ≡ i + n
+lined-at n [] d w i h = absurd (not-suc-le-zero h)
+lined-at n (e ∷ es) d w zero h = w .0 ∙ omega arith
+lined-at n (e ∷ es) d w (suc i) h = lined-at (suc n) es d (w .1) i (omega arith) ∙ omega arith
+
+-- the i-th event that is read stands on the line that comes after i events
+pub read-line : (h : Counts) (s : List ℕ) (d : Event) (i : ℕ) → i < length (eventsRead h s) → getD (eventsRead h s) i d .line ≡ lineAfter h i
+read-line h s d i l = lined-at (firstLine h) (eventsRead h s) d (read-lined full 0 (firstLine h) (partLines s)) i l

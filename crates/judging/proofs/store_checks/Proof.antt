@@ -1,0 +1,13 @@
+-- `judging::store_checks` meets its contract.
+use Rattle.rules.specs.Limits.{valueWidth}
+use Rattle.rules.proofs.Signed.{bits-equal}
+use borrow.Author.Needs.{needs}
+use mathlib.Core.Path.{refl}
+use Rattle.judging.proofs.store_checks.Statement.{statement}
+use Rattle.judging.proofs.store_checks.Tie as tie
+
+returns : tie.Need-returns
+returns c = rw (bits-equal valueWidth (c .before .before .before .before .before .before .args .x) (c .before .before .before .before .before .before .args .c .copy) (c .before .before .before .before .before .before .fits .x) (search needs)) refl
+
+pub store-checks-spec : {M : Type 1} → statement M
+store-checks-spec = tie.close (tie.spec returns)

@@ -1,0 +1,77 @@
+-- What a turn answers: the first broken check of the letter's row, and the parts as the event leaves them. A letter that is none of a
+-- turn's breaks nothing there and leaves everything.
+use Prim.Native.Nat.{ℕ}
+use mathlib.Core.Bool.{not, cond, _&&_}
+use mathlib.Core.List.{List, [], _∷_}
+use lib.Dec.{eqb, ltb}
+use lib.IntN.{ℤ}
+use Rattle.rules.specs.declared.Slot.{Slot}
+use Rattle.rules.specs.Events.{A, B, K, L, N, P, R, S, U, W, among}
+use Rattle.rules.specs.Rules.{some}
+use Rattle.state.specs.declared.Cell.{Cell}
+use Rattle.state.specs.declared.Hold.{Hold}
+use Rattle.rules.specs.declared.Main.{Main}
+use Rattle.state.specs.declared.State.{State}
+use Rattle.state.specs.State.{noSlot, cellAt}
+use Rattle.state.specs.Step.{nextCell, readAfter, storeAfter, holdAfter, mainAfter, lockedAfter}
+use Rattle.judging.specs.declared.OnSome.{OnSome}
+use Rattle.judging.specs.declared.CellTurn.{CellTurn}
+use Rattle.judging.specs.declared.ReadsTurn.{ReadsTurn}
+use Rattle.judging.specs.declared.StoresTurn.{StoresTurn}
+use Rattle.judging.specs.declared.LockTurn.{LockTurn}
+use Rattle.judging.specs.Computed.Checks.{oldestOf, noChecks, useChecks, loadChecks, storeChecks, readChecks, writeChecks, lockChecks, unlockChecks, prescientStoreChecks, prescientAssignChecks, rowOf, firstOf}
+
+-- a cell after an event with one of these letters; as it was after another
+abbrev pub cellOn : List ℕ → ℕ → Slot → ℕ → ℤ → Cell → Cell
+cellOn ks p r k x c = cond (among ks k) (nextCell p r k x c) c
+
+-- a lock, within the range of threads and depths
+unfoldable pub holdFor : Hold → ℕ → ℕ → Hold
+holdFor a t k = cond (ltb t 8 && ltb (a .depth) 2000) (holdAfter a t k) a
+
+-- U, A, B; q is the position of the thread's last lock, p that of the event
+unfoldable pub cellTurn : Cell → ℕ → ℕ → ℤ → ℕ → CellTurn
+cellTurn c q k x p = record {
+  rule = firstOf (cond (eqb U k) (useChecks c q x) (cond (eqb B k) (prescientAssignChecks c x) noChecks)) (rowOf k);
+  cell = cellOn (A ∷ B ∷ []) p noSlot k x c;
+}
+
+-- R, L; r is the oldest outstanding read, b stands behind the last
+unfoldable pub readsWith : Cell → Slot → Slot → Main → ℕ → ℤ → ℕ → ReadsTurn
+readsWith c r b m k x p = record {
+  rule = firstOf (cond (eqb L k) (loadChecks c r x) (cond (eqb R k) (readChecks c m x) noChecks)) (rowOf k);
+  cell = cellOn (L ∷ R ∷ []) p r k x c;
+  slot = readAfter b k x p;
+}
+
+-- the same, where f stands at the first place of the queue
+unfoldable pub readsTurn : Cell → Slot → Slot → Main → ℕ → ℤ → ℕ → ReadsTurn
+readsTurn c f b m k x p = readsWith c (oldestOf (c .reads) f) b m k x p
+
+-- S, P, W; r is the oldest outstanding store, b stands behind the last
+unfoldable pub storesWith : Cell → Slot → Slot → Main → ℕ → ℕ → ℤ → ℕ → StoresTurn
+storesWith c r b m q k x p = record {
+  rule = firstOf (cond (eqb W k) (writeChecks c r x) (cond (eqb S k) (storeChecks c q x) (cond (eqb P k) (prescientStoreChecks c) noChecks))) (rowOf k);
+  cell = cellOn (W ∷ S ∷ P ∷ []) p noSlot k x c;
+  slot = storeAfter b k x p;
+  main = mainAfter m k x;
+}
+
+unfoldable pub storesTurn : Cell → Slot → Slot → Main → ℕ → ℕ → ℤ → ℕ → StoresTurn
+storesTurn c f b m q k x p = storesWith c (oldestOf (c .stores) f) b m q k x p
+
+-- K, N, of n threads; w is what some variable of the thread has
+unfoldable pub lockTurn : Hold → ℕ → ℕ → OnSome → ℕ → ℕ → ℕ → LockTurn
+lockTurn a q n w t k p = record {
+  rule = firstOf (cond (eqb K k) (lockChecks a n w t) (cond (eqb N k) (unlockChecks a w t) noChecks)) (rowOf k);
+  hold = holdFor a t k;
+  locked = lockedAfter q k p;
+}
+
+-- of the first n variables of thread t: whether one has a pending prescient store, a fresh assign, an outstanding store
+unfoldable pub someOf : State → ℕ → ℕ → OnSome
+someOf s t n = record {
+  pending = some n (λ v. cellAt s t v .pending);
+  fresh = some n (λ v. cellAt s t v .fresh);
+  stored = some n (λ v. not (eqb (cellAt s t v .stores .len) 0));
+}

@@ -1,0 +1,620 @@
+// One event judged from the parts of a state that it looks at, and what it leaves of them. Nothing here sees a whole state; what a turn
+// answers is in specs/Computed/Turns.antt, and proofs/Turned.antt proves that it is the row of the rules and the state after the event.
+ghost use mathlib.Core.Path.{_≡_};
+ghost use mathlib.Core.List.{[]};
+ghost use Prim.Native.Nat.{_<_, max};
+ghost use lib.ListN.{getD};
+ghost use Rattle.rules.specs.Events.{A as Assign, B, K, L, N, P, R, S, W};
+ghost use Rattle.state.specs.State.{noSlot, depthOf};
+ghost use Rattle.state.specs.Step.{pushed, popped, nextCell};
+ghost use Rattle.judging.specs.Computed.Checks.{
+  oldestOf,
+  othersHold,
+  useChecks,
+  loadChecks,
+  storeChecks,
+  readChecks,
+  writeChecks,
+  lockChecks,
+  unlockChecks,
+  prescientStoreChecks,
+  prescientAssignChecks,
+  rowOf,
+  table,
+  firstOf,
+};
+ghost use Rattle.judging.specs.Computed.Turns.{holdFor, cellTurn, readsTurn, storesTurn, lockTurn};
+use rules::Main;
+use rules::Slot;
+use rules::Value;
+use state::Cell;
+use state::Hold;
+use state::Ring;
+
+// What some variable of a thread has: a pending prescient store, a fresh assign, an outstanding store.
+pub struct OnSome {
+    pub pending: bool,
+    pub fresh: bool,
+    pub stored: bool,
+}
+
+// The answers: 0 or the number of the first check of the event's row that is broken, and what the event leaves.
+pub struct CellTurn {
+    pub rule: u8,
+    pub cell: Cell,
+}
+
+pub struct ReadsTurn {
+    pub rule: u8,
+    pub cell: Cell,
+    pub slot: Slot,
+}
+
+pub struct StoresTurn {
+    pub rule: u8,
+    pub cell: Cell,
+    pub slot: Slot,
+    pub main: Main,
+}
+
+pub struct LockTurn {
+    pub rule: u8,
+    pub hold: Hold,
+    pub locked: u32,
+}
+
+// ---- Queues.
+
+// The oldest of a queue, which is s if it has one.
+fn oldest(q: Ring, s: Slot) -> Slot
+    ensures { λ r. ⌜ r ≡ oldestOf q s ⌝ }
+{
+    if q.len == 0 {
+        return Slot {
+            value: 0,
+            position: 0,
+        };
+    }
+    s
+}
+
+fn push(q: Ring) -> Ring
+    ensures { λ r. ⌜ r ≡ pushed q ⌝ }
+{
+    let n = q.len;
+    if n < 8 {
+        return Ring {
+            first: q.first,
+            len: n + 1,
+        };
+    }
+    q
+}
+
+fn pop(q: Ring) -> Ring
+    ensures { λ r. ⌜ r ≡ popped q ⌝ }
+{
+    let n = q.len;
+    let f = (q.first % 8 + 1) % 8;
+    if 0 < n {
+        return Ring {
+            first: f,
+            len: n - 1,
+        };
+    }
+    Ring { first: f, len: 0 }
+}
+
+// ---- The checks of each row, in the row's order; false fills them.
+
+struct Checks {
+    pub first: bool,
+    pub second: bool,
+    pub third: bool,
+    pub fourth: bool,
+    pub fifth: bool,
+}
+
+fn use_checks(c: Cell, locked: u32, x: Value) -> Checks
+    ensures { λ r. ⌜ r ≡ useChecks c locked x ⌝ }
+{
+    Checks {
+        first: !(locked < c.source),
+        second: !(x == c.copy),
+        third: false,
+        fourth: false,
+        fifth: false,
+    }
+}
+
+fn load_checks(c: Cell, s: Slot, x: Value) -> Checks
+    ensures { λ r. ⌜ r ≡ loadChecks c s x ⌝ }
+{
+    let q = c.reads;
+    let o = c.stores;
+    Checks {
+        first: q.len == 0,
+        second: c.pending,
+        third: c.fresh,
+        fourth: (o.len != 0) | (s.position < c.written),
+        fifth: !(x == s.value),
+    }
+}
+
+fn store_checks(c: Cell, locked: u32, x: Value) -> Checks
+    ensures { λ r. ⌜ r ≡ storeChecks c locked x ⌝ }
+{
+    let o = c.stores;
+    Checks {
+        first: c.pending,
+        second: !c.fresh,
+        third: !(locked < c.source),
+        fourth: !(x == c.copy),
+        fifth: 8 <= o.len,
+    }
+}
+
+fn read_checks(c: Cell, m: Main, x: Value) -> Checks
+    ensures { λ r. ⌜ r ≡ readChecks c m x ⌝ }
+{
+    let q = c.reads;
+    Checks {
+        first: !(x == m.value),
+        second: 8 <= q.len,
+        third: false,
+        fourth: false,
+        fifth: false,
+    }
+}
+
+fn write_checks(c: Cell, s: Slot, x: Value) -> Checks
+    ensures { λ r. ⌜ r ≡ writeChecks c s x ⌝ }
+{
+    let o = c.stores;
+    Checks {
+        first: o.len == 0,
+        second: !(x == s.value),
+        third: false,
+        fourth: false,
+        fifth: false,
+    }
+}
+
+// How many times thread t holds a lock.
+fn depth_of(a: Hold, t: usize) -> u32
+    ensures { λ r. ⌜ r ≡ depthOf a t ⌝ }
+{
+    if t < 8 {
+        if a.holder == t + 1 {
+            return a.depth;
+        }
+    }
+    0
+}
+
+// Whether one of n threads other than t holds a lock.
+fn others_hold(a: Hold, n: usize, t: usize) -> bool
+    ensures { λ r. ⌜ r ≡ othersHold a n t ⌝ }
+{
+    if t < 8 {
+        return (0 < a.holder) & (a.holder <= n) & (a.holder != t + 1) & (0 < a.depth);
+    }
+    false
+}
+
+fn lock_checks(a: Hold, n: usize, w: OnSome, t: usize) -> Checks
+    ensures { λ r. ⌜ r ≡ lockChecks a n w t ⌝ }
+{
+    let other = others_hold(a, n, t);
+    Checks {
+        first: other,
+        second: w.pending,
+        third: false,
+        fourth: false,
+        fifth: false,
+    }
+}
+
+fn unlock_checks(a: Hold, w: OnSome, t: usize) -> Checks
+    ensures { λ r. ⌜ r ≡ unlockChecks a w t ⌝ }
+{
+    let n = depth_of(a, t);
+    Checks {
+        first: !(0 < n),
+        second: w.fresh,
+        third: w.stored,
+        fourth: false,
+        fifth: false,
+    }
+}
+
+fn prescient_store_checks(c: Cell) -> Checks
+    ensures { λ r. ⌜ r ≡ prescientStoreChecks c ⌝ }
+{
+    let o = c.stores;
+    Checks {
+        first: c.pending,
+        second: 8 <= o.len,
+        third: false,
+        fourth: false,
+        fifth: false,
+    }
+}
+
+fn prescient_assign_checks(c: Cell, x: Value) -> Checks
+    ensures { λ r. ⌜ r ≡ prescientAssignChecks c x ⌝ }
+{
+    Checks {
+        first: !c.pending,
+        second: !(x == c.announced),
+        third: false,
+        fourth: false,
+        fifth: false,
+    }
+}
+
+// ---- The rows.
+
+// The rows of U, A, L, S, R, W, K, N, P, B; 0 fills a row.
+const ROWS: [[u8; 5]; 10] = [
+    [17, 18, 0, 0, 0],
+    [0, 0, 0, 0, 0],
+    [10, 13, 15, 16, 18],
+    [13, 14, 17, 18, 19],
+    [18, 19, 0, 0, 0],
+    [10, 18, 0, 0, 0],
+    [11, 13, 0, 0, 0],
+    [12, 15, 16, 0, 0],
+    [13, 19, 0, 0, 0],
+    [10, 18, 0, 0, 0],
+];
+
+// The place of a letter's row; of an empty one where it has none.
+fn row_number(k: u8) -> usize
+    ensures { λ r. ⌜ (getD table r [] ≡ rowOf k) × (r < 10) ⌝ }
+{
+    match k {
+        b'U' => 0,
+        b'A' => 1,
+        b'L' => 2,
+        b'S' => 3,
+        b'R' => 4,
+        b'W' => 5,
+        b'K' => 6,
+        b'N' => 7,
+        b'P' => 8,
+        b'B' => 9,
+        _ => 1,
+    }
+}
+
+// The number of a row at its first broken check; 0 where none is.
+fn first_of(b: Checks, row: [u8; 5]) -> u8
+    ensures { λ r. ⌜ r ≡ firstOf b row ⌝ }
+{
+    if b.first {
+        return row[0];
+    }
+    if b.second {
+        return row[1];
+    }
+    if b.third {
+        return row[2];
+    }
+    if b.fourth {
+        return row[3];
+    }
+    if b.fifth {
+        return row[4];
+    }
+    0
+}
+
+// The same of a letter's row, which is looked up only to name a refusal.
+fn rule_of(k: u8, b: Checks) -> u8
+    ensures { λ r. ⌜ r ≡ firstOf b (rowOf k) ⌝ }
+{
+    if b.first | b.second | b.third | b.fourth | b.fifth {
+        let i = row_number(k);
+        let row = ROWS[i];
+        return first_of(b, row);
+    }
+    0
+}
+
+// ---- What an event leaves. `p` is its position.
+
+fn later(a: u32, b: u32) -> u32
+    ensures { λ r. ⌜ r ≡ max a b ⌝ }
+{
+    if a < b { b } else { a }
+}
+
+fn assigned(c: Cell, x: Value, p: u32) -> Cell
+    ensures { λ r. ⌜ r ≡ nextCell p noSlot Assign x c ⌝ }
+{
+    let mut d = c;
+    d.copy = x;
+    d.fresh = true;
+    d.source = p;
+    d
+}
+
+fn prescient_assigned(c: Cell, x: Value, p: u32) -> Cell
+    ensures { λ r. ⌜ r ≡ nextCell p noSlot B x c ⌝ }
+{
+    let mut d = c;
+    d.copy = x;
+    d.fresh = false; // its store has gone out already
+    d.pending = false;
+    d.source = p;
+    d
+}
+
+// `s` is the oldest outstanding read.
+fn loaded(c: Cell, s: Slot, x: Value, p: u32) -> Cell
+    ensures { λ r. ⌜ r ≡ nextCell p s L x c ⌝ }
+{
+    let q = c.reads;
+    let rest = pop(q);
+    let mut d = c;
+    d.copy = x;
+    d.reads = rest;
+    d.source = later(c.source, s.position);
+    d
+}
+
+fn has_read(c: Cell, s: Slot, x: Value, p: u32) -> Cell
+    ensures { λ r. ⌜ r ≡ nextCell p s R x c ⌝ }
+{
+    let q = c.reads;
+    let more = push(q);
+    let mut d = c;
+    d.reads = more;
+    d
+}
+
+fn stored(c: Cell, x: Value, p: u32) -> Cell
+    ensures { λ r. ⌜ r ≡ nextCell p noSlot S x c ⌝ }
+{
+    let q = c.stores;
+    let more = push(q);
+    let mut d = c;
+    d.fresh = false;
+    d.stores = more;
+    d
+}
+
+fn prescient_stored(c: Cell, x: Value, p: u32) -> Cell
+    ensures { λ r. ⌜ r ≡ nextCell p noSlot P x c ⌝ }
+{
+    let q = c.stores;
+    let more = push(q);
+    let mut d = c;
+    d.pending = true;
+    d.announced = x;
+    d.stores = more;
+    d
+}
+
+fn has_written(c: Cell, x: Value, p: u32) -> Cell
+    ensures { λ r. ⌜ r ≡ nextCell p noSlot W x c ⌝ }
+{
+    let q = c.stores;
+    let rest = pop(q);
+    let mut d = c;
+    d.stores = rest;
+    d.written = p;
+    d
+}
+
+fn taken(a: Hold, t: usize) -> Hold
+    ensures { λ r. ⌜ r ≡ holdFor a t K ⌝ }
+{
+    let n = depth_of(a, t);
+    if t < 8 {
+        if a.depth < 2000 {
+            return Hold {
+                holder: t + 1,
+                depth: n + 1,
+            };
+        }
+    }
+    a
+}
+
+fn left(a: Hold, t: usize) -> Hold
+    ensures { λ r. ⌜ r ≡ holdFor a t N ⌝ }
+{
+    let n = depth_of(a, t);
+    if t < 8 {
+        if a.depth < 2000 {
+            if n <= 1 {
+                return Hold {
+                    holder: 0,
+                    depth: 0,
+                };
+            }
+            return Hold {
+                holder: a.holder,
+                depth: n - 1,
+            };
+        }
+    }
+    a
+}
+
+// ---- The turns. A letter that is none of a turn's breaks nothing there and leaves everything.
+
+// U, A, B: the cell alone.
+pub fn cell_turn(c: Cell, locked: u32, k: u8, x: Value, p: u32) -> CellTurn
+    ensures { λ r. ⌜ r ≡ cellTurn c locked k x p ⌝ }
+{
+    if k == b'U' {
+        let b = use_checks(c, locked, x);
+        let rule = rule_of(k, b);
+        return CellTurn {
+            rule: rule,
+            cell: c,
+        };
+    }
+    if k == b'A' {
+        let d = assigned(c, x, p);
+        return CellTurn { rule: 0, cell: d };
+    }
+    if k == b'B' {
+        let b = prescient_assign_checks(c, x);
+        let rule = rule_of(k, b);
+        let d = prescient_assigned(c, x, p);
+        return CellTurn {
+            rule: rule,
+            cell: d,
+        };
+    }
+    CellTurn { rule: 0, cell: c }
+}
+
+// R, L: the reads of the cell. `front` is the slot at the queue's first place, `behind` the one behind its last.
+pub fn reads_turn(
+    c: Cell,
+    front: Slot,
+    behind: Slot,
+    main: Main,
+    k: u8,
+    x: Value,
+    p: u32,
+) -> ReadsTurn
+    ensures { λ r. ⌜ r ≡ readsTurn c front behind main k x p ⌝ }
+{
+    let q = c.reads;
+    let s = oldest(q, front);
+    if k == b'L' {
+        let b = load_checks(c, s, x);
+        let rule = rule_of(k, b);
+        let d = loaded(c, s, x, p);
+        return ReadsTurn {
+            rule: rule,
+            cell: d,
+            slot: behind,
+        };
+    }
+    if k == b'R' {
+        let b = read_checks(c, main, x);
+        let rule = rule_of(k, b);
+        let d = has_read(c, s, x, p);
+        let new = Slot {
+            value: x,
+            position: p,
+        };
+        return ReadsTurn {
+            rule: rule,
+            cell: d,
+            slot: new,
+        };
+    }
+    ReadsTurn {
+        rule: 0,
+        cell: c,
+        slot: behind,
+    }
+}
+
+// S, P, W: the stores of the cell, and its variable in main memory.
+pub fn stores_turn(
+    c: Cell,
+    front: Slot,
+    behind: Slot,
+    main: Main,
+    locked: u32,
+    k: u8,
+    x: Value,
+    p: u32,
+) -> StoresTurn
+    ensures { λ r. ⌜ r ≡ storesTurn c front behind main locked k x p ⌝ }
+{
+    if k == b'W' {
+        let q = c.stores;
+        let s = oldest(q, front);
+        let b = write_checks(c, s, x);
+        let rule = rule_of(k, b);
+        let d = has_written(c, x, p);
+        let m = Main { value: x };
+        return StoresTurn {
+            rule: rule,
+            cell: d,
+            slot: behind,
+            main: m,
+        };
+    }
+    let new = Slot {
+        value: x,
+        position: p,
+    };
+    if k == b'S' {
+        let b = store_checks(c, locked, x);
+        let rule = rule_of(k, b);
+        let d = stored(c, x, p);
+        return StoresTurn {
+            rule: rule,
+            cell: d,
+            slot: new,
+            main: main,
+        };
+    }
+    if k == b'P' {
+        let b = prescient_store_checks(c);
+        let rule = rule_of(k, b);
+        let d = prescient_stored(c, x, p);
+        return StoresTurn {
+            rule: rule,
+            cell: d,
+            slot: new,
+            main: main,
+        };
+    }
+    StoresTurn {
+        rule: 0,
+        cell: c,
+        slot: behind,
+        main: main,
+    }
+}
+
+// K, N: a lock, and the position of the thread's last lock. `any` is what the variables of the thread have.
+pub fn lock_turn(
+    a: Hold,
+    locked: u32,
+    threads: usize,
+    any: OnSome,
+    t: usize,
+    k: u8,
+    p: u32,
+) -> LockTurn
+    ensures { λ r. ⌜ r ≡ lockTurn a locked threads any t k p ⌝ }
+{
+    if k == b'K' {
+        let b = lock_checks(a, threads, any, t);
+        let rule = rule_of(k, b);
+        let h = taken(a, t);
+        return LockTurn {
+            rule: rule,
+            hold: h,
+            locked: p,
+        };
+    }
+    if k == b'N' {
+        let b = unlock_checks(a, any, t);
+        let rule = rule_of(k, b);
+        let h = left(a, t);
+        return LockTurn {
+            rule: rule,
+            hold: h,
+            locked: locked,
+        };
+    }
+    LockTurn {
+        rule: 0,
+        hold: a,
+        locked: locked,
+    }
+}

@@ -1,0 +1,127 @@
+-- What the parts of the two passes compute. A level is what a thread holds of a lock, at 16 * thread + lock.
+use Prim.Native.Nat.{ℕ, zero, suc, pred, _+_, _*_, _≤_, _<_}
+use mathlib.Core.Path.{_≡_}
+use mathlib.Core.Bool.{Bool, true, false, not, cond, _&&_, _||_}
+use mathlib.Core.List.{List, [], _∷_, _++_}
+use lib.Dec.{eqb, ltb}
+use lib.IntN.{ℤ}
+use lib.ListN.{length, getD, take, drop, replicate}
+use Rattle.rules.specs.declared.Event.{Event}
+use Rattle.rules.specs.declared.Counts.{Counts}
+use Rattle.rules.specs.declared.Verdict.{Verdict}
+use Rattle.rules.specs.declared.Verdict.the-variants.{Accepted, Refused}
+use Rattle.rules.specs.Events.{A, B, K, N, P, U, isLetter}
+use Rattle.rules.specs.Limits.{full}
+use Rattle.rules.specs.Rules.{some}
+use Rattle.decimal.specs.Text.{over}
+use Rattle.records.specs.Records.{letterIn, eventAt, rowEvents}
+use Rattle.serial.specs.Sections.{Section}
+use Rattle.sections.specs.Demand3.{AcceptedTrace}
+use Rattle.sections.specs.Denials.{Denial, fit, denied}
+use Rattle.sections.specs.CriticalSections.{Entry}
+use Rattle.sections.specs.Order.{sections, entry}
+use Rattle.sections.specs.Entries.{entryCode}
+use Rattle.ordering.specs.Answer.{entriesFor}
+
+-- two rows that both passes may take: each record names an event, and the trace of these is accepted
+pub record Fits (h : Counts) (what : List ℕ) (value : List ℤ) : Type 0 where
+  pub lettered : (i : ℕ) → i < length what → isLetter (letterIn (getD what i 0)) ≡ true
+  pub accepted : AcceptedTrace full h (rowEvents h what value)
+
+-- the first i events, the latest first
+unfoldable pub past : (ℕ → Event) → ℕ → List Event
+past events zero = []
+past events (suc i) = events i ∷ past events i
+
+-- ---- by letter, k
+
+-- where the level of thread t and its variable's guard g stands; 0 where g is no lock
+unfoldable pub guardCell : ℕ → ℕ → ℕ
+guardCell t g = cond (ltb g 16) (t * 16 + g) 0
+
+-- 20, 21 or 0
+unfoldable pub brokenBy : ℕ → Bool → Bool → ℕ
+brokenBy k under late = cond ((eqb k U || (eqb k A || eqb k B)) && not under) 20 (cond (eqb k K && late) 21 0)
+
+unfoldable pub levelAfter : ℕ → ℕ → ℕ
+levelAfter x k = cond (eqb k K) (suc x) (cond (eqb k N) (pred x) x)
+
+unfoldable pub pendingAfter : Bool → ℕ → Bool
+pendingAfter b k = eqb k P || (b && not (eqb k B))
+
+unfoldable pub lateAfter : Bool → ℕ → Bool → Bool
+lateAfter b k any = cond (eqb k N) any b
+
+unfoldable pub busyAfter : Bool → ℕ → Bool → Bool
+busyAfter b k any = cond (eqb k K || eqb k N) any b
+
+-- ---- over the levels
+
+unfoldable pub heldIn : List ℕ → ℕ → ℕ → Bool
+heldIn levels t l = ltb 0 (getD levels (t * 16 + l) 0)
+
+unfoldable pub pendingIn : List Bool → ℕ → ℕ → Bool
+pendingIn pending t v = getD pending (t * 16 + v) false
+
+unfoldable pub unfinishedIn : Counts → List ℕ → List Bool → Bool
+unfinishedIn h levels pending = some (h .threads) (λ t. some (h .locks) (heldIn levels t) || some (h .variables) (pendingIn pending t))
+
+-- a denial as the first pass answers it
+unfoldable pub toldAs : Denial → Verdict
+toldAs fit = Accepted
+toldAs (denied number line) = Refused number line
+
+-- ---- the second pass: thread t, its section's first line a, the event's line b, and whether it was busy before
+
+abbrev pub codeOf : ℕ → ℕ → ℕ → ℕ
+codeOf t a b = entryCode (record { thread = t; first = a; last = b })
+
+unfoldable pub firstAfter : ℕ → Bool → ℕ → ℕ → ℕ
+firstAfter k busy a b = cond (eqb k K && not busy) b a
+
+-- what stands where t's section had its last K, x before: 0 after another K, the section with its new last line after another event
+unfoldable pub atTop : ℕ → Bool → ℕ → ℕ → ℕ
+atTop k busy x code = cond busy (cond (eqb k K) 0 code) x
+
+-- what stands at the event's index: the section of a K
+unfoldable pub atEvent : ℕ → ℕ → ℕ
+atEvent k code = cond (eqb k K) code 0
+
+unfoldable pub topAfter : ℕ → ℕ → ℕ → ℕ
+topAfter k i j = cond (eqb k K) i j
+
+-- the number of the section whose last K has this position; 0 where there is none
+unfoldable pub bucket : Counts → List (Section ℤ) → ℕ → ℕ
+bucket h [] q = 0
+bucket h (s ∷ ss) q = cond (eqb (s .top) q) (entryCode (entry h s)) (bucket h ss q)
+
+-- each place of the scratch up to the number of events has the section whose last K is there
+pub record Filled (h : Counts) (what : List ℕ) (value : List ℤ) (scratch : List ℕ) : Type 0 where
+  pub buckets : (p : ℕ) → p < length what → getD scratch p 0 ≡ bucket h (sections h (past (eventAt h what value) (length what))) (suc p)
+
+-- ---- gathering
+
+-- x, unless it is 0
+unfoldable pub unlessZero : ℕ → List ℕ
+unlessZero x = cond (eqb x 0) [] (x ∷ [])
+
+unfoldable pub nonzero : List ℕ → List ℕ
+nonzero [] = []
+nonzero (x ∷ xs) = unlessZero x ++ nonzero xs
+
+-- a list written at place c, and the place after it
+pub record Put (xs list : List ℕ) (c r : ℕ) (list′ : List ℕ) : Type 0 where
+  pub count : r ≡ c + length xs
+  pub lists : list′ ≡ take c list ++ (xs ++ drop r list)
+
+-- two rows, with room for their order
+pub record Orders (h : Counts) (what : List ℕ) (value : List ℤ) (list scratch : List ℕ) : Type 0 where
+  pub fits : Fits h what value
+  pub room : length (entriesFor h (rowEvents h what value)) ≤ length list
+  pub places : full .scratch ≤ length scratch
+
+-- the order written out
+pub record Written (xs list scratch : List ℕ) (r : ℕ) (list′ scratch′ : List ℕ) : Type 0 where
+  pub count : r ≡ length xs
+  pub lists : list′ ≡ over xs list
+  pub zeros : scratch′ ≡ replicate (length scratch) 0

@@ -1,0 +1,22 @@
+-- Reading lines and marking events one after the other: the events up to the first line that is none, or up to the limit, and what ends the reading.
+use Prim.Native.Nat.{ℕ, suc}
+use mathlib.Core.Bool.{cond}
+use mathlib.Core.List.{List, [], _∷_}
+use mathlib.Core.Option.{Option, none, some}
+use lib.Dec.{leb}
+use Rattle.rules.specs.declared.Event.{Event}
+use Rattle.rules.specs.declared.Counts.{Counts}
+use Rattle.rules.specs.Limits.{Limits, lineAfter}
+use Rattle.rules.specs.Rules.{Marked, accepted, refused}
+
+-- the events that are read where n events are in
+unfoldable pub readFrom : Limits → ℕ → List (Option Event) → List Event
+readFrom m n [] = []
+readFrom m n (none ∷ rest) = []
+readFrom m n (some e ∷ rest) = cond (leb (m .events) n) [] (e ∷ readFrom m (suc n) rest)
+
+-- what ends the reading: nothing, a line that is no event, or one event too many
+unfoldable pub stopFrom : Limits → Counts → ℕ → List (Option Event) → Marked
+stopFrom m h n [] = accepted
+stopFrom m h n (none ∷ rest) = refused 4 (lineAfter h n)
+stopFrom m h n (some e ∷ rest) = cond (leb (m .events) n) (refused (m .excess) (lineAfter h n)) (stopFrom m h (suc n) rest)

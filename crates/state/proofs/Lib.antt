@@ -1,0 +1,7 @@
+pub mod CellTable
+pub mod Kept
+pub mod LeafLaws
+pub mod Letters
+pub mod Rings
+pub mod Stands
+pub mod StepWords

@@ -1,0 +1,4 @@
+pub mod State
+pub mod Range
+pub mod Step
+pub mod Computed

@@ -1,0 +1,66 @@
+-- 8. The state handed in has a number out of range: declared counts as in the head; events so far at most 2,000; at most 8
+-- outstanding reads and 8 outstanding stores for each thread and variable; a position or lock depth above the events so far; a
+-- holder undeclared; a holder without depth or depth without holder. The whole record is looked at, undeclared places included.
+use Prim.Native.Nat.{ℕ, zero, suc, _+_, _*_, _%_}
+use mathlib.Core.Bool.{Bool, true, not, _&&_, _||_}
+use mathlib.Core.List.{List}
+use lib.Dec.{eqb, leb}
+use lib.ListN.{getD}
+use Rattle.state.specs.declared.Ring.{Ring}
+use Rattle.state.specs.declared.Cell.{Cell}
+use Rattle.state.specs.declared.Hold.{Hold}
+use Rattle.state.specs.declared.State.{State}
+use Rattle.state.specs.State.{noSlot, noHold, blank}
+use Rattle.rules.specs.declared.Slot.{Slot}
+use Rattle.rules.specs.Limits.{Limits, most, allowed}
+
+-- f holds of each number below n
+unfoldable pub every : ℕ → (ℕ → Bool) → Bool
+every zero f = true
+every (suc n) f = f n && every n f
+
+-- a lock of t threads after n events; p is the position of a thread's last lock
+abbrev pub holdOk : ℕ → ℕ → Hold → ℕ → Bool
+holdOk t n a p = leb (a .holder) t && leb (a .depth) n && (not (eqb (a .holder) 0) || eqb (a .depth) 0) && (eqb (a .holder) 0 || not (eqb (a .depth) 0)) && leb p n
+
+abbrev pub holdsIn : State → ℕ → Bool
+holdsIn s i = holdOk (s .counts .threads) (s .events) (getD (s .holds) i noHold) (getD (s .locked) i 0)
+
+unfoldable pub holdsOk : State → Bool
+holdsOk s = every 8 (holdsIn s)
+
+abbrev pub cellOk : ℕ → Cell → Bool
+cellOk n c = leb (c .source) n && leb (c .written) n
+
+abbrev pub cellsIn : State → ℕ → Bool
+cellsIn s i = cellOk (s .events) (getD (s .cells) i blank)
+
+unfoldable pub cellsOk : State → Bool
+cellsOk s = every 128 (cellsIn s)
+
+-- the j-th of the queue of cell i, from 0
+abbrev pub slotAt : List Slot → ℕ → Ring → ℕ → Slot
+slotAt ss i q j = getD ss (8 * i + (q .first + j) % 8) noSlot
+
+-- where a queue of len has a j-th, its position is at most n
+abbrev pub slotOk : ℕ → ℕ → ℕ → Slot → Bool
+slotOk n len j r = leb len j || leb (r .position) n
+
+abbrev pub slotsIn : ℕ → List Slot → ℕ → Ring → ℕ → Bool
+slotsIn n ss i q j = slotOk n (q .len) j (slotAt ss i q j)
+
+-- at most eight, each with a position up to n
+unfoldable pub queueOk : ℕ → List Slot → ℕ → Ring → Bool
+queueOk n ss i q = leb (q .len) most && every most (slotsIn n ss i q)
+
+-- the queues f of all cells
+abbrev pub queuesIn : ℕ → List Cell → List Slot → (Cell → Ring) → ℕ → Bool
+queuesIn n cs ss f i = queueOk n ss i (f (getD cs i blank))
+
+unfoldable pub queuesOk : ℕ → List Cell → List Slot → (Cell → Ring) → Bool
+queuesOk n cs ss f = every 128 (queuesIn n cs ss f)
+
+unfoldable pub inRange : Limits → State → Bool
+inRange m s =
+    allowed m (s .counts) && leb (s .events) (m .events) && holdsOk s && cellsOk s
+    && queuesOk (s .events) (s .cells) (s .reads) (λ c. c .reads) && queuesOk (s .events) (s .cells) (s .stores) (λ c. c .stores)

@@ -1,0 +1,84 @@
+-- What a state's fields say of the words.
+use Prim.Native.Nat.{ℕ, zero, suc, _+_, _*_, _%_}
+use mathlib.Core.Bool.{false, cond, _&&_}
+use mathlib.Core.List.{List, [], _∷_}
+use lib.Dec.{ltb, eqb}
+use lib.IntN.{pos}
+use lib.ListN.{getD, replicate}
+use Rattle.state.specs.declared.Ring.{Ring}
+use Rattle.state.specs.declared.Cell.{Cell}
+use Rattle.state.specs.declared.Hold.{Hold}
+use Rattle.rules.specs.declared.Main.{Main}
+use Rattle.state.specs.declared.State.{State}
+use Rattle.rules.specs.declared.Slot.{Slot}
+use Rattle.rules.specs.declared.Counts.{Counts}
+use Rattle.rules.specs.Rules.{Words}
+
+abbrev pub noSlot : Slot
+noSlot = record { value = pos 0; position = 0 }
+
+abbrev pub noMain : Main
+noMain = record { value = pos 0 }
+
+abbrev pub noHold : Hold
+noHold = record { holder = 0; depth = 0 }
+
+abbrev pub noRing : Ring
+noRing = record { first = 0; len = 0 }
+
+abbrev pub blank : Cell
+blank = record { copy = pos 0; announced = pos 0; source = 0; written = 0; reads = noRing; stores = noRing; fresh = false; pending = false }
+
+-- the n slots from the f-th on of the eight that begin at b, round and round
+unfoldable pub around : List Slot → ℕ → ℕ → ℕ → List Slot
+around ss b f zero = []
+around ss b f (suc n) = getD ss (b + f % 8) noSlot ∷ around ss b (suc f) n
+
+-- the queue of cell i, the oldest first
+unfoldable pub queued : List Slot → ℕ → Ring → List Slot
+queued ss i q = around ss (8 * i) (q .first) (q .len)
+
+-- the cell of thread t and variable v; a blank one for those that no state holds
+unfoldable pub cellAt : State → ℕ → ℕ → Cell
+cellAt s t v = cond (ltb t 8 && ltb v 16) (getD (s .cells) (16 * t + v) blank) blank
+
+-- its outstanding reads and stores, the oldest first
+unfoldable pub readsAt : State → ℕ → ℕ → List Slot
+readsAt s t v = queued (s .reads) (16 * t + v) (cellAt s t v .reads)
+
+unfoldable pub storesAt : State → ℕ → ℕ → List Slot
+storesAt s t v = queued (s .stores) (16 * t + v) (cellAt s t v .stores)
+
+-- how many times t holds a lock: its depth, where t is the holder
+unfoldable pub depthOf : Hold → ℕ → ℕ
+depthOf a t = cond (ltb t 8 && eqb (a .holder) (t + 1)) (a .depth) 0
+
+-- the words that a state's contents give
+unfoldable pub wordsIn : State → Words
+wordsIn s = record {
+  events = s .events;
+  copy = λ t v. cellAt s t v .copy;
+  fresh = λ t v. cellAt s t v .fresh;
+  pending = λ t v. cellAt s t v .pending;
+  announced = λ t v. cellAt s t v .announced;
+  usable = λ t v. ltb (getD (s .locked) t 0) (cellAt s t v .source);
+  reads = λ t v. readsAt s t v;
+  stores = λ t v. storesAt s t v;
+  lastWrite = λ t v. cellAt s t v .written;
+  lastLock = λ t. getD (s .locked) t 0;
+  depth = λ t l. depthOf (getD (s .holds) l noHold) t;
+  main = λ v. getD (s .memory) v noMain .value;
+}
+
+-- the state before the first event of a trace with this head
+unfoldable pub start : Counts → State
+start h = record {
+  counts = h;
+  events = 0;
+  cells = replicate 128 blank;
+  reads = replicate 1024 noSlot;
+  stores = replicate 1024 noSlot;
+  locked = replicate 8 0;
+  holds = replicate 8 noHold;
+  memory = replicate 16 noMain;
+}

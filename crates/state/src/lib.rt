@@ -1,0 +1,377 @@
+// The state of the marker, which a caller keeps: what its fields say is in specs/State.antt, refusal 8 in specs/Range.antt, and the state
+// after an event in specs/Step.antt.
+ghost use mathlib.Core.Path.{_≡_};
+ghost use mathlib.Core.Bool.{true};
+ghost use Prim.Native.Nat.{_<_};
+ghost use lib.ListN.{length};
+ghost use Rattle.rules.specs.Limits.{full};
+ghost use Rattle.state.specs.State.{start};
+ghost use Rattle.state.specs.Range.{holdOk, holdsOk, cellOk, cellsOk, slotOk, queuesOk, inRange};
+ghost use Rattle.state.specs.Computed.Places.{cellPlace, slotPlace, ringOf, Shape};
+use rules::Counts;
+use rules::Main;
+use rules::Slot;
+use rules::Value;
+
+// A queue of at most eight: its oldest is at place `first` of the cell's eight places (modulo 8), the others follow it round.
+#[repr(C)]
+pub struct Ring {
+    pub first: u8,
+    pub len: u8,
+}
+
+// What is kept for one thread and variable. The outstanding reads and stores themselves are in the state's `reads` and `stores`.
+#[repr(C)]
+pub struct Cell {
+    pub copy: Value,
+    pub announced: Value,
+    // The latest position that makes the copy usable: of an A or B, or of the read of an L.
+    pub source: u32,
+    // The position of the thread's last write on the variable.
+    pub written: u32,
+    pub reads: Ring,
+    pub stores: Ring,
+    pub fresh: bool,
+    pub pending: bool,
+}
+
+// Who holds a lock: the thread's number plus 1, or 0 where nobody does, and how many times.
+#[repr(C)]
+pub struct Hold {
+    pub holder: usize,
+    pub depth: u32,
+}
+
+#[repr(C)]
+pub struct State {
+    // The declared threads, variables and locks.
+    pub counts: Counts,
+    // The events so far. A position is an event's number among them, from 1.
+    pub events: u32,
+    // The cell of thread t and variable v is number 16 * t + v.
+    pub cells: [Cell; 128],
+    // The eight places of cell i begin at 8 * i.
+    pub reads: [Slot; 1024],
+    pub stores: [Slot; 1024],
+    // The position of each thread's last lock.
+    pub locked: [u32; 8],
+    pub holds: [Hold; 8],
+    pub memory: [Main; 16],
+}
+
+// The state before the first event, for these declared counts.
+pub fn initial(h: Counts) -> State
+    ensures { λ r. ⌜ r ≡ start h ⌝ }
+{
+    let none = Ring { first: 0, len: 0 };
+    let cell = Cell {
+        copy: 0,
+        announced: 0,
+        source: 0,
+        written: 0,
+        reads: none,
+        stores: none,
+        fresh: false,
+        pending: false,
+    };
+    let slot = Slot {
+        value: 0,
+        position: 0,
+    };
+    let hold = Hold {
+        holder: 0,
+        depth: 0,
+    };
+    let main = Main { value: 0 };
+    State {
+        counts: h,
+        events: 0,
+        cells: [cell; 128],
+        reads: [slot; 1024],
+        stores: [slot; 1024],
+        locked: [0; 8],
+        holds: [hold; 8],
+        memory: [main; 16],
+    }
+}
+
+// ---- Places in the state's arrays.
+
+// 16 * thread + variable
+const CELLS: [[u8; 16]; 8] = [
+    [0, 1, 2, 3, 4, 5, 6, 7, 8, 9, 10, 11, 12, 13, 14, 15],
+    [
+        16,
+        17,
+        18,
+        19,
+        20,
+        21,
+        22,
+        23,
+        24,
+        25,
+        26,
+        27,
+        28,
+        29,
+        30,
+        31,
+    ],
+    [
+        32,
+        33,
+        34,
+        35,
+        36,
+        37,
+        38,
+        39,
+        40,
+        41,
+        42,
+        43,
+        44,
+        45,
+        46,
+        47,
+    ],
+    [
+        48,
+        49,
+        50,
+        51,
+        52,
+        53,
+        54,
+        55,
+        56,
+        57,
+        58,
+        59,
+        60,
+        61,
+        62,
+        63,
+    ],
+    [
+        64,
+        65,
+        66,
+        67,
+        68,
+        69,
+        70,
+        71,
+        72,
+        73,
+        74,
+        75,
+        76,
+        77,
+        78,
+        79,
+    ],
+    [
+        80,
+        81,
+        82,
+        83,
+        84,
+        85,
+        86,
+        87,
+        88,
+        89,
+        90,
+        91,
+        92,
+        93,
+        94,
+        95,
+    ],
+    [
+        96,
+        97,
+        98,
+        99,
+        100,
+        101,
+        102,
+        103,
+        104,
+        105,
+        106,
+        107,
+        108,
+        109,
+        110,
+        111,
+    ],
+    [
+        112,
+        113,
+        114,
+        115,
+        116,
+        117,
+        118,
+        119,
+        120,
+        121,
+        122,
+        123,
+        124,
+        125,
+        126,
+        127,
+    ],
+];
+
+fn wide(x: u8) -> usize
+    ensures { λ r. ⌜ r ≡ x ⌝ }
+{
+    x as usize
+}
+
+// The number of the cell of thread t and variable v; 0 where there is none.
+pub fn cell_place(t: usize, v: usize) -> usize
+    ensures { λ r. ⌜ (r ≡ cellPlace t v) × (r < 128) ⌝ }
+{
+    if t < 8 {
+        if v < 16 {
+            return wide(CELLS[t][v]);
+        }
+    }
+    0
+}
+
+// The place of the j-th of a queue of cell i, from 0; 0 where there is no such cell.
+pub fn slot_place(i: usize, q: Ring, j: u8) -> usize
+    ensures { λ r. ⌜ (r ≡ slotPlace i q j) × (r < 1024) ⌝ }
+{
+    if i < 128 {
+        let f = wide(q.first);
+        return 8 * i + (f + wide(j)) % 8;
+    }
+    0
+}
+
+// ---- Refusal 8.
+
+fn hold_ok(threads: usize, n: u32, a: Hold, p: u32) -> bool
+    ensures { λ r. ⌜ r ≡ holdOk threads n a p ⌝ }
+{
+    (a.holder <= threads)
+        & (a.depth <= n)
+        & ((a.holder != 0) | (a.depth == 0))
+        & ((a.holder == 0) | (a.depth != 0))
+        & (p <= n)
+}
+
+fn holds_ok(s: State) -> bool
+    ensures { λ r. ⌜ r ≡ holdsOk s ⌝ }
+{
+    let n = s.events;
+    let h = s.counts;
+    let mut ok = true;
+    let mut i: usize = 0;
+    while i < 8 {
+        let a = s.holds[i];
+        ok = hold_ok(h.threads, n, a, s.locked[i]) & ok;
+        i += 1;
+    }
+    ok
+}
+
+fn cell_ok(n: u32, c: Cell) -> bool
+    ensures { λ r. ⌜ r ≡ cellOk n c ⌝ }
+{
+    (c.source <= n) & (c.written <= n)
+}
+
+fn cells_ok(s: State) -> bool
+    ensures { λ r. ⌜ r ≡ cellsOk s ⌝ }
+{
+    let n = s.events;
+    let mut ok = true;
+    let mut i: usize = 0;
+    while i < 128 {
+        let c = s.cells[i];
+        ok = cell_ok(n, c) & ok;
+        i += 1;
+    }
+    ok
+}
+
+// The queue of a cell: of its stores, or of its reads.
+fn ring_of(c: Cell, stores: bool) -> Ring
+    ensures { λ r. ⌜ r ≡ ringOf stores c ⌝ }
+{
+    if stores { c.stores } else { c.reads }
+}
+
+// The j-th of a queue of `len`: where there is one, its position is at most n.
+fn slot_ok(n: u32, len: u8, j: u8, s: Slot) -> bool
+    ensures { λ r. ⌜ r ≡ slotOk n len j s ⌝ }
+{
+    (len <= j) | (s.position <= n)
+}
+
+// The queues of all cells, of their stores or of their reads: at most eight each, with positions up to n.
+fn queues_ok(n: u32, cells: [Cell; 128], slots: [Slot; 1024], stores: bool) -> bool
+    ensures { λ r. ⌜ r ≡ queuesOk n cells slots (ringOf stores) ⌝ }
+{
+    let mut ok = true;
+    let mut i: usize = 0;
+    while i < 128 {
+        let c = cells[i];
+        let q = ring_of(c, stores);
+        let len = q.len;
+        let mut fit = true;
+        let mut j: u8 = 0;
+        while j < 8 {
+            let at = slot_place(i, q, j);
+            let s = slots[at];
+            fit = slot_ok(n, len, j, s) & fit;
+            j += 1;
+        }
+        ok = (len <= 8) & fit & ok;
+        i += 1;
+    }
+    ok
+}
+
+// The arrays of a state have the lengths of their types.
+fn sized(
+    cells: [Cell; 128],
+    reads: [Slot; 1024],
+    stores: [Slot; 1024],
+    locked: [u32; 8],
+    holds: [Hold; 8],
+    memory: [Main; 16],
+) -> bool
+    ensures { λ r. ⌜ (r ≡ true) × (length cells ≡ 128) × (length reads ≡ 1024) × (length stores ≡ 1024) × (length locked ≡ 8) × (length holds ≡ 8) × (length memory ≡ 16) ⌝ }
+{
+    true
+}
+
+// Refusal 8; and the lengths that the arrays have.
+pub fn in_range(s: State) -> bool
+    ensures { λ r. ⌜ (r ≡ inRange full s) × Shape s ⌝ }
+{
+    let h = s.counts;
+    let cells = s.cells;
+    let reads = s.reads;
+    let stores = s.stores;
+    let locked = s.locked;
+    let holds = s.holds;
+    let memory = s.memory;
+    sized(cells, reads, stores, locked, holds, memory)
+        & rules::is_allowed(h)
+        & (s.events <= 2000)
+        & holds_ok(s)
+        & cells_ok(s)
+        & queues_ok(s.events, cells, reads, false)
+        & queues_ok(s.events, cells, stores, true)
+}
