@@ -1,5 +1,5 @@
-/* A whole trace marked into lent memory, and one step over a state that the caller keeps. Link target/staticlib/libhost.a, which `rt staticlib host` writes.
-   Numbers are document 01's: a refusal's number, and a line of the trace. */
+/* A whole trace marked into lent memory, and one step over a state that the caller keeps. Link target/staticlib/libc_api.a, which
+   `rt staticlib c_api` writes. Numbers are document 01's: a refusal's number, and a line of the trace. */
 #ifndef DABZHONI_H
 #define DABZHONI_H
 
@@ -79,24 +79,39 @@ DABZHONI_ASSERT(offsetof(struct dabzhoni_state, holds) == 19520, "layout of the 
 DABZHONI_ASSERT(sizeof(struct dabzhoni_state) == 19712, "layout of the state");
 DABZHONI_ASSERT(sizeof(struct dabzhoni_reply) == 16, "layout of a reply");
 
-/* What is said of a trace: the number of a refusal and its line, both 0 where it is accepted; the events of an accepted trace; and
-   the length of the listing. */
-struct dabzhoni_sheet {
+/* What is said of a trace. number and line are those of its refusal, both 0 where it is accepted; events is the number of events of an
+   accepted trace, else 0; written is the length of the listing; sections is how many entries the order list has; denial and
+   denial_line are 20 to 22 and its line where these deny the order, both 0 otherwise. */
+struct dabzhoni_marked {
   size_t number;
   size_t line;
   size_t events;
   size_t written;
+  size_t sections;
+  size_t denial;
+  size_t denial_line;
 };
 
-DABZHONI_ASSERT(sizeof(struct dabzhoni_sheet) == 32, "layout of a sheet");
+DABZHONI_ASSERT(sizeof(struct dabzhoni_marked) == 56, "layout of what is said of a trace");
 
-/* Marks a whole trace: its listing to the front of out, the records of an accepted trace to the front of records (one number for
-   each event line: letter * 2^39 + thread * 2^36 + place * 2^32 + the 32 bits of the value), and where it has an order its
-   sections to the front of order (thread * 2^24 + last line * 2^12 + first line), with scratch all zeros then. Refusal 7, before
-   all: records under 2,000 places, out under 32,768 bytes, order under 1,000 places or scratch under 2,000; nothing is touched
-   after it. No pointer is null, each is aligned, and no two of these overlap. */
-struct dabzhoni_sheet dabzhoni_mark(const uint8_t *paper, size_t paper_length, uint64_t *records, size_t records_length, uint8_t *out,
-                                    size_t out_length, uint64_t *order, size_t order_length, uint64_t *scratch, size_t scratch_length);
+/* Marks a whole trace, its order included.
+   paper: the bytes.
+   what, values: two rows. The record of event line n, from 0, is at place n of both: letter * 65536 + thread * 256 + variable or lock
+   in what, and the value in values, 0 for K and N. Written for an accepted trace alone.
+   out: the listing goes to its front.
+   order: where there is an order, one entry for each section at the front, thread * 2^24 + last line * 2^12 + first line.
+   scratch: all zeros where there is an order.
+   All other places of these five stay as they were. Refusal 7, before all: what or values under 2,000 places, out under 32,768 bytes,
+   order under 1,000 places or scratch under 2,000; nothing is touched then. Lengths are numbers of places. No pointer is null, each is
+   aligned, and no two of these six overlap. */
+struct dabzhoni_marked dabzhoni_mark(const uint8_t *paper, size_t paper_len, uint32_t *what, size_t what_len, int32_t *values,
+                                     size_t values_len, uint8_t *out, size_t out_len, uint64_t *order, size_t order_len,
+                                     uint64_t *scratch, size_t scratch_len);
+
+/* The same where no order is wanted: refusal 7 asks the records and the output alone, the listing ends with the copies, and sections,
+   denial and denial_line are 0. */
+struct dabzhoni_marked dabzhoni_mark_unordered(const uint8_t *paper, size_t paper_len, uint32_t *what, size_t what_len,
+                                               int32_t *values, size_t values_len, uint8_t *out, size_t out_len);
 
 /* The state before the first event. The memory must be a state already, as zeros are: each bool in it is 0 or 1. Counts out of
    range are kept, and each step is then refused by 8. */

@@ -1,9 +1,8 @@
 //! Times the proved marker and marker B on the same papers, in one run: whole papers of several mixes, growing papers, short papers,
 //! and one process for one paper. Prints tables in markdown.
 
-use proved::host;
-use second::generate::{self, Rng};
-use second::incremental;
+use comparison::c_api;
+use papers::generate::{self, Rng};
 use std::hint::black_box;
 use std::process::{Command, Stdio};
 use std::time::Instant;
@@ -35,7 +34,11 @@ fn random(seed: u64, length: usize, number: usize, orderly: bool) -> Vec<Vec<u8>
 
 /// Empty sections, one after the other.
 fn sections() -> Vec<Vec<u8>> {
-    vec![paper("H 8 16 8", "G 0 0 0 0 0 0 0 0 0 0 0 0 0 0 0 0", (0..2000).map(|i| format!("{} {} 0", if i % 2 == 0 { 'K' } else { 'N' }, i / 2 % 8)))]
+    vec![paper(
+        "H 8 16 8",
+        "G 0 0 0 0 0 0 0 0 0 0 0 0 0 0 0 0",
+        (0..2000).map(|i| format!("{} {} 0", if i % 2 == 0 { 'K' } else { 'N' }, i / 2 % 8)),
+    )]
 }
 
 /// Uses of one variable in one section.
@@ -70,7 +73,7 @@ fn unguarded(p: &[u8]) -> Vec<u8> {
 
 /// Papers that have an order.
 fn ordered(seed: u64, length: usize, number: usize) -> Vec<Vec<u8>> {
-    let has_order = |p: &Vec<u8>| incremental::mark(p).contains("section ");
+    let has_order = |p: &Vec<u8>| marker_b::mark(p).contains("section ");
     random(seed, length, 4 * number, true).into_iter().filter(has_order).take(number).collect()
 }
 
@@ -82,7 +85,7 @@ struct Times {
 
 /// The least time of several rounds for all the papers, of each marker in turn.
 fn times(papers: &[Vec<u8>], repeats: usize) -> Times {
-    let (mut records, mut out) = (vec![0u64; 2000], vec![0u8; 32768]);
+    let (mut what, mut values, mut out) = (vec![0u32; 2000], vec![0i32; 2000], vec![0u8; 32768]);
     let (mut order, mut scratch) = (vec![0u64; 1000], vec![0u64; 2000]);
     let mut t = Times { proved: f64::MAX, b: f64::MAX, events: 0 };
     for _ in 0..ROUNDS {
@@ -90,14 +93,15 @@ fn times(papers: &[Vec<u8>], repeats: usize) -> Times {
         t.events = 0;
         for _ in 0..repeats {
             for p in papers {
-                t.events += black_box(host::mark(p, &mut records, &mut out, &mut order, &mut scratch)).events;
+                let marked = c_api::mark(p, &mut what, &mut values, &mut out, &mut order, &mut scratch);
+                t.events += black_box(marked).events;
             }
         }
         t.proved = t.proved.min(start.elapsed().as_nanos() as f64);
         let start = Instant::now();
         for _ in 0..repeats {
             for p in papers {
-                black_box(incremental::mark(p));
+                black_box(marker_b::mark(p));
             }
         }
         t.b = t.b.min(start.elapsed().as_nanos() as f64);
@@ -113,12 +117,12 @@ fn row(name: &str, papers: &[Vec<u8>]) {
 }
 
 /// The least time of a process that marks a paper, in microseconds.
-fn process(program: &str, args: &[&str], paper: &[u8]) -> f64 {
+fn process(program: &str, paper: &[u8]) -> f64 {
     use std::io::Write;
     let mut best = f64::MAX;
     for _ in 0..200 {
         let start = Instant::now();
-        let mut child = Command::new(program).args(args).stdin(Stdio::piped()).stdout(Stdio::piped()).spawn().expect(program);
+        let mut child = Command::new(program).stdin(Stdio::piped()).stdout(Stdio::piped()).spawn().expect(program);
         child.stdin.take().expect("its input").write_all(paper).expect("written");
         black_box(child.wait_with_output().expect("its output"));
         best = best.min(start.elapsed().as_nanos() as f64 / 1000.0);
@@ -128,7 +132,7 @@ fn process(program: &str, args: &[&str], paper: &[u8]) -> f64 {
 
 fn main() {
     let mut args = std::env::args().skip(1);
-    let (mark, second) = (args.next().expect("mark"), args.next().expect("second"));
+    let (mark, marker_b) = (args.next().expect("mark"), args.next().expect("marker_b"));
     println!("| papers of 2,000 events | proved, ns an event | B, ns an event | ratio |");
     println!("|---|---|---|---|");
     for seed in 1..=4 {
@@ -162,7 +166,7 @@ fn main() {
         println!("| about {n} events | {:.2} | {:.2} | {:.2} |", t.proved / k, t.b / k, t.proved / t.b);
     }
     let p = &random(2, 2000, 1, true)[0];
-    let (a, b) = (process(&mark, &[], p), process(&second, &["incremental"], p));
+    let (a, b) = (process(&mark, p), process(&marker_b, p));
     println!("\n| one process, one paper of 2,000 events | µs |");
     println!("|---|---|");
     println!("| `mark` | {a:.0} |");

@@ -1,0 +1,262 @@
+/* A caller of the C interface: steps over a state that it keeps, and whole papers into memory that it lends. */
+#include "dabzhoni.h"
+
+#include <stdio.h>
+#include <string.h>
+
+static int passed, failed;
+
+static void expect(const char *what, bool ok) {
+  ok ? passed++ : failed++;
+  if (!ok) printf("%s: FAILED\n", what);
+}
+
+/* ---- steps: the short traces of document 01, and refusals 4, 5, 8 and 9 */
+
+static struct dabzhoni_state state;
+
+/* One event from its text. A refusal must leave the state as it was. */
+static struct dabzhoni_reply event(const char *text) {
+  static struct dabzhoni_state before;
+  char letter;
+  size_t thread, place;
+  int value = 0;
+  sscanf(text, "%c %zu %zu %d", &letter, &thread, &place, &value);
+  memcpy(&before, &state, sizeof state);
+  struct dabzhoni_reply r = dabzhoni_step(&state, (uint8_t)letter, thread, place, value);
+  bool same = memcmp(&before, &state, sizeof state) == 0;
+  expect(text, r.number == 0 ? state.events == before.events + 1 : same);
+  return r;
+}
+
+/* The events of a trace, apart by semicolons; the last is answered number, in its own line. */
+static void trace(const char *text, size_t number) {
+  char all[400], *each;
+  size_t n = 0;
+  struct dabzhoni_reply r = {0, 0};
+  dabzhoni_initial(&state, 2, 2, 2);
+  strcpy(all, text);
+  for (each = strtok(all, ";"); each; each = strtok(NULL, ";")) {
+    if (n) expect(text, r.number == 0 && r.line == 0);
+    r = event(each);
+    n++;
+  }
+  expect(text, r.number == number && r.line == (number ? n + 2 : 0));
+}
+
+static void reply(const char *what, const char *text, size_t number, size_t line) {
+  struct dabzhoni_reply r = event(text);
+  if (r.number != number || r.line != line) printf("%s: %zu %zu\n", what, r.number, r.line);
+  expect(what, r.number == number && r.line == line);
+}
+
+static void steps(void) {
+  trace("U 0 0 0", 17);
+  trace("R 0 0 0;L 0 0 0;U 0 0 0", 0);
+  trace("R 0 0 0;K 0 0;L 0 0 0;U 0 0 0", 17);
+  trace("R 0 0 0;A 0 0 5;L 0 0 0", 15);
+  trace("R 0 0 0;A 0 0 5;S 0 0 5;W 0 0 5;L 0 0 0", 16);
+  trace("A 0 0 5;S 0 0 5;S 0 0 5", 14);
+  trace("A 0 0 5;K 0 0;S 0 0 5", 17);
+  trace("K 0 0;A 0 0 5;S 0 0 5;N 0 0", 16);
+  trace("P 0 0 5;W 0 0 5;B 0 0 5", 0);
+  expect("main memory", state.memory[0] == 5);
+  trace("P 0 0 5;K 0 0", 13);
+  trace("K 0 0;K 0 0;N 0 0;K 1 0", 11);
+  trace("K 0 0;P 0 0 5;N 0 0", 16);
+  trace("R 0 0 0;R 0 0 0;R 0 0 0;R 0 0 0;R 0 0 0;R 0 0 0;R 0 0 0;R 0 0 0;R 0 0 0", 19);
+  trace("A 1 1 -2147483648;S 1 1 -2147483648;W 1 1 -2147483648;R 0 1 -2147483648;L 0 1 -2147483648;U 0 1 2147483647", 18);
+
+  dabzhoni_initial(&state, 2, 2, 2);
+  reply("no letter", "X 0 0 0", 4, 3);
+  reply("thread", "A 2 0 0", 5, 3);
+  reply("variable", "A 0 2 0", 5, 3);
+  reply("lock", "K 0 2", 5, 3);
+  for (int i = 0; i < 2000; i++) dabzhoni_step(&state, 'A', 1, 1, i);
+  expect("2,000 events", state.events == 2000);
+  reply("one event more", "A 0 0 0", 9, 2003);
+  state.events = 2001;
+  reply("events out of range", "A 0 0 0", 8, 0);
+  reply("no letter, state out of range", "z 0 0 0", 4, 2004);
+  dabzhoni_initial(&state, 9, 2, 2);
+  reply("counts out of range", "A 0 0 0", 8, 0);
+  dabzhoni_initial(&state, 2, 2, 2);
+  state.holds[0].depth = 1;
+  reply("depth without holder", "A 0 0 0", 8, 0);
+}
+
+/* ---- whole papers */
+
+/* What must be lent; each array has one place more. */
+enum { RECORDS = 2000, OUT = 32768, ORDER = 1000, SCRATCH = 2000, FILL = 0xa5 };
+
+static uint32_t what[RECORDS + 1];
+static int32_t values[RECORDS + 1];
+static uint8_t out[OUT + 1];
+static uint64_t order[ORDER + 1];
+static uint64_t scratch[SCRATCH + 1];
+
+static void fill(void) {
+  memset(what, FILL, sizeof what);
+  memset(values, FILL, sizeof values);
+  memset(out, FILL, sizeof out);
+  memset(order, FILL, sizeof order);
+  memset(scratch, FILL, sizeof scratch);
+}
+
+/* Whether the bytes from p to the end are as they were filled. */
+static bool untouched(const void *p, const void *end) {
+  const uint8_t *at = p;
+  while (at < (const uint8_t *)end && *at == FILL) at++;
+  return at == end;
+}
+
+/* A paper, what is said of it, and its listing: `memories` up to the copies, or the refusal; `ordering` the lines after these. */
+struct paper {
+  const char *name, *text, *memories, *ordering;
+  size_t number, line, sections, denial, denial_line;
+  uint64_t entries[2];
+};
+
+static const struct paper PAPERS[] = {
+    {.name = "one paper whole",
+     .text = "H 2 1 1\nG 0\nK 0 0\nA 0 0 5\nS 0 0 5\nW 0 0 5\nN 0 0\nK 1 0\nR 1 0 5\nL 1 0 5\nU 1 0 5\nN 1 0\nZ 84\n",
+     .memories = "accepted 10\nmain 0 5\ncopy 0 0 5\ncopy 1 0 5\n",
+     .ordering = "section 0 3 7\nsection 1 8 12\n",
+     .sections = 2,
+     .entries = {7 << 12 | 3, 1 << 24 | 12 << 12 | 8}},
+    {.name = "not by the first lock",
+     .text = "H 2 1 2\nG 1\nK 0 0\nK 1 1\nA 1 0 -5\nS 1 0 -5\nW 1 0 -5\nN 1 1\nK 0 1\nR 0 0 -5\nL 0 0 -5\nU 0 0 -5\nN 0 1\nN 0 0\nZ 102\n",
+     .memories = "accepted 12\nmain 0 -5\ncopy 0 0 -5\ncopy 1 0 -5\n",
+     .ordering = "section 1 4 8\nsection 0 3 14\n",
+     .sections = 2,
+     .entries = {1 << 24 | 8 << 12 | 4, 14 << 12 | 3}},
+    {.name = "an empty order", .text = "H 8 1 8\nG 7\nZ 12\n", .memories = "accepted 0\nmain 0 0\n", .ordering = ""},
+    {.name = "no guards",
+     .text = "H 2 2 2\nG -\nA 1 1 -2147483648\nA 0 0 2147483647\nZ 47\n",
+     .memories = "accepted 2\nmain 0 0\nmain 1 0\ncopy 0 0 2147483647\ncopy 1 1 -2147483648\n"},
+    {.name = "20",
+     .text = "H 1 1 1\nG 0\nR 0 0 0\nL 0 0 0\nU 0 0 0\nZ 36\n",
+     .memories = "accepted 3\nmain 0 0\ncopy 0 0 0\n",
+     .ordering = "unordered 5 20\n",
+     .denial = 20,
+     .denial_line = 5},
+    {.name = "21",
+     .text = "H 1 1 2\nG 0\nK 0 0\nK 0 1\nN 0 1\nK 0 1\nN 0 1\nN 0 0\nZ 48\n",
+     .memories = "accepted 6\nmain 0 0\n",
+     .ordering = "unordered 6 21\n",
+     .denial = 21,
+     .denial_line = 6},
+    {.name = "22, a lock held",
+     .text = "H 1 1 1\nG 0\nK 0 0\nZ 18\n",
+     .memories = "accepted 1\nmain 0 0\n",
+     .ordering = "unordered 4 22\n",
+     .denial = 22,
+     .denial_line = 4},
+    {.name = "22, an assign owed",
+     .text = "H 1 1 1\nG 0\nP 0 0 5\nW 0 0 5\nZ 28\n",
+     .memories = "accepted 2\nmain 0 5\n",
+     .ordering = "unordered 5 22\n",
+     .denial = 22,
+     .denial_line = 5},
+    {.name = "2", .text = "", .memories = "refused 0 2\n", .number = 2},
+    {.name = "3", .text = "H 9 1 0\nG -\nZ 12\n", .memories = "refused 1 3\n", .number = 3, .line = 1},
+    {.name = "6", .text = "H 1 1 0\nG 0\nZ 12\n", .memories = "refused 2 6\n", .number = 6, .line = 2},
+    {.name = "4", .text = "H 1 1 0\nG -\nA 0 0 5\nX\nZ 22\n", .memories = "refused 4 4\n", .number = 4, .line = 4},
+    {.name = "5", .text = "H 1 1 1\nG 0\nK 0 1\nZ 18\n", .memories = "refused 3 5\n", .number = 5, .line = 3},
+    {.name = "17", .text = "H 2 1 1\nG 0\nK 0 0\nU 0 0 0\nZ 26\n", .memories = "refused 4 17\n", .number = 17, .line = 4},
+};
+
+static void part(const struct paper *p, const char *what, bool ok) {
+  if (!ok) printf("%s, ", p->name);
+  expect(what, ok);
+}
+
+/* Whether the rows hold the records of n event lines, from line 3 of the text on, and nothing else is touched. */
+static bool recorded(const char *text, size_t n) {
+  bool ok = true;
+  text = strchr(text, 10);
+  for (size_t i = 0; i < n; i++) {
+    char letter;
+    unsigned thread, place;
+    int value = 0;
+    text = strchr(text + 1, 10);
+    sscanf(text + 1, "%c %u %u %d", &letter, &thread, &place, &value);
+    ok = ok && what[i] == (uint32_t)letter * 65536 + thread * 256 + place && values[i] == (letter == 'K' || letter == 'N' ? 0 : value);
+  }
+  return ok && untouched(what + n, what + RECORDS + 1) && untouched(values + n, values + RECORDS + 1);
+}
+
+/* Whether out begins with these two texts, and nothing else is touched. */
+static bool listed(const char *first, const char *then) {
+  size_t a = strlen(first), b = strlen(then);
+  return !memcmp(out, first, a) && !memcmp(out + a, then, b) && untouched(out + a + b, out + OUT + 1);
+}
+
+static void said(const char *name, struct dabzhoni_marked m, struct dabzhoni_marked w) {
+  if (memcmp(&m, &w, sizeof m))
+    printf("%s: number %zu, line %zu, events %zu, written %zu, sections %zu, denial %zu, its line %zu\n", name, m.number, m.line, m.events,
+           m.written, m.sections, m.denial, m.denial_line);
+  expect(name, !memcmp(&m, &w, sizeof m));
+}
+
+static void mark(const struct paper *p) {
+  const uint8_t *bytes = (const uint8_t *)p->text;
+  size_t length = strlen(p->text), events = 0;
+  const char *ordering = p->ordering ? p->ordering : "";
+  sscanf(p->memories, "accepted %zu", &events);
+  struct dabzhoni_marked w = {p->number, p->line, events, strlen(p->memories) + strlen(ordering), p->sections, p->denial, p->denial_line};
+
+  fill();
+  said(p->name, dabzhoni_mark(bytes, length, what, RECORDS, values, RECORDS, out, OUT, order, ORDER, scratch, SCRATCH), w);
+  part(p, "records", recorded(p->text, events));
+  part(p, "listing", listed(p->memories, ordering));
+  bool entries = true, zeros = true;
+  for (size_t i = 0; i < p->sections; i++) entries = entries && order[i] == p->entries[i];
+  part(p, "order list", entries && untouched(order + p->sections, order + ORDER + 1));
+  /* `ordering` is given and nothing denies it: there is an order */
+  size_t cleared = p->ordering && !p->denial ? SCRATCH : 0;
+  for (size_t i = 0; i < cleared; i++) zeros = zeros && scratch[i] == 0;
+  part(p, "scratch", zeros && untouched(scratch + cleared, scratch + SCRATCH + 1));
+
+  fill();
+  w = (struct dabzhoni_marked){.number = p->number, .line = p->line, .events = events, .written = strlen(p->memories)};
+  said(p->name, dabzhoni_mark_unordered(bytes, length, what, RECORDS, values, RECORDS, out, OUT), w);
+  part(p, "records, no order wanted", recorded(p->text, events));
+  part(p, "listing, no order wanted", listed(p->memories, ""));
+}
+
+/* Each buffer one place too short, and empty: 7, and nothing is touched. */
+static void lent_too_little(const struct paper *p) {
+  static const size_t FULL[5] = {RECORDS, RECORDS, OUT, ORDER, SCRATCH};
+  const uint8_t *bytes = (const uint8_t *)p->text;
+  const struct dabzhoni_marked seven = {.number = 7};
+  size_t length = strlen(p->text), n[5];
+  fill();
+  for (int i = 0; i < 10; i++) {
+    memcpy(n, FULL, sizeof n);
+    n[i / 2] = i % 2 ? 0 : n[i / 2] - 1;
+    said("7", dabzhoni_mark(bytes, length, what, n[0], values, n[1], out, n[2], order, n[3], scratch, n[4]), seven);
+    if (i < 6) said("7, no order wanted", dabzhoni_mark_unordered(bytes, length, what, n[0], values, n[1], out, n[2]), seven);
+  }
+  expect("nothing touched after 7", recorded(p->text, 0) && listed("", "") && untouched(order, order + ORDER + 1) &&
+                                        untouched(scratch, scratch + SCRATCH + 1));
+}
+
+/* 65,537 bytes: 1. */
+static void too_long(void) {
+  static char text[65538];
+  memset(text, 10, 65537);
+  mark(&(struct paper){.name = "1", .text = text, .memories = "refused 0 1\n", .number = 1});
+}
+
+int main(void) {
+  steps();
+  for (size_t i = 0; i < sizeof PAPERS / sizeof *PAPERS; i++) {
+    mark(&PAPERS[i]);
+    lent_too_little(&PAPERS[i]);
+  }
+  too_long();
+  printf("%d passed, %d failed\n", passed, failed);
+  return failed != 0;
+}

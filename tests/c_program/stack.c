@@ -1,0 +1,132 @@
+/* Runs one entry of the C interface on a thread with a stack of SIZE KB, on the paper that it reads from standard input, and writes the answer:
+     stack mark SIZE          the listing
+     stack mark_unordered SIZE
+     stack step SIZE          `accepted n` or `refused line number`: the paper's events one by one, each of the form of an event
+     stack out_of_range SIZE  number and line of a step of each kind from a state that refusal 8 refuses
+   and to standard error the entry's name and how many bytes of stack it touched, those of a thread that does nothing left aside. A guard
+   page lies below the stack: an entry that needs more ends the program with signal 11. */
+#define _GNU_SOURCE
+#include "dabzhoni.h"
+
+#include <pthread.h>
+#include <stdio.h>
+#include <stdlib.h>
+#include <string.h>
+#include <sys/mman.h>
+
+enum { PAGE = 4096, PAINT = 0xa5, MOST = 65537 };
+
+static uint8_t paper[MOST + 1];
+static size_t length;
+static uint32_t what[2000];
+static int32_t values[2000];
+static uint8_t out[32768];
+static uint64_t order[1000], scratch[2000];
+static struct dabzhoni_marked marked;
+
+static struct dabzhoni_state state;
+static size_t threads, variables, locks;
+static size_t events, taken;
+static struct event {
+  char letter;
+  size_t thread, place;
+  int value;
+} list[2001];
+static struct dabzhoni_reply reply;
+
+static void *nothing(void *p) { return p; }
+
+static void *mark(void *p) {
+  marked = dabzhoni_mark(paper, length, what, 2000, values, 2000, out, sizeof out, order, 1000, scratch, 2000);
+  return p;
+}
+
+static void *mark_unordered(void *p) {
+  marked = dabzhoni_mark_unordered(paper, length, what, 2000, values, 2000, out, sizeof out);
+  return p;
+}
+
+static void *initial(void *p) {
+  dabzhoni_initial(&state, threads, variables, locks);
+  return p;
+}
+
+/* The events of the list, up to the first that is refused. */
+static void *steps(void *p) {
+  for (taken = 0; taken < events; taken++) {
+    const struct event *e = &list[taken];
+    reply = dabzhoni_step(&state, (uint8_t)e->letter, e->thread, e->place, e->value);
+    if (reply.number) break;
+  }
+  return p;
+}
+
+/* Runs f on a thread with so many bytes of stack. How many it touched. */
+static size_t touched(void *(*f)(void *), size_t size) {
+  static uint8_t *stack;
+  pthread_attr_t attributes;
+  pthread_t id;
+  if (!stack) {
+    stack = mmap(NULL, PAGE + size, PROT_READ | PROT_WRITE, MAP_PRIVATE | MAP_ANONYMOUS, -1, 0);
+    if (stack == MAP_FAILED || mprotect(stack, PAGE, PROT_NONE)) exit(2);
+    stack += PAGE;
+  }
+  memset(stack, PAINT, size);
+  if (pthread_attr_init(&attributes) || pthread_attr_setstack(&attributes, stack, size)) exit(2);
+  if (pthread_create(&id, &attributes, f, NULL) || pthread_join(id, NULL)) exit(2);
+  pthread_attr_destroy(&attributes);
+  size_t at = 0;
+  while (at < size && stack[at] == PAINT) at++;
+  return size - at;
+}
+
+static void need(const char *entry, void *(*f)(void *), size_t size) {
+  size_t used = touched(f, size);
+  fprintf(stderr, "dabzhoni_%s %zu\n", entry, used - touched(nothing, size));
+}
+
+/* Counts and events of the paper, each line of the form of an event. */
+static void read_events(void) {
+  const char *at = (const char *)paper;
+  if (sscanf(at, "H %zu %zu %zu", &threads, &variables, &locks) != 3) exit(2);
+  at = strchr(at, 10) + 1;
+  for (at = strchr(at, 10) + 1; *at != 'Z' && events < 2001; at = strchr(at, 10) + 1) {
+    struct event *e = &list[events++];
+    if (sscanf(at, "%c %zu %zu %d", &e->letter, &e->thread, &e->place, &e->value) < 3) exit(2);
+  }
+}
+
+int main(int count, char **args) {
+  const char *entry = count > 2 ? args[1] : "";
+  size_t size = count > 2 ? strtoul(args[2], NULL, 10) * 1024 : 0;
+  if (size < 16384) return 2;
+  length = fread(paper, 1, MOST, stdin);
+  if (!strcmp(entry, "mark")) {
+    need(entry, mark, size);
+    fwrite(out, 1, marked.written, stdout);
+  } else if (!strcmp(entry, "mark_unordered")) {
+    need(entry, mark_unordered, size);
+    fwrite(out, 1, marked.written, stdout);
+  } else if (!strcmp(entry, "step")) {
+    read_events();
+    need("initial", initial, size);
+    need(entry, steps, size);
+    if (reply.number) {
+      printf("refused %zu %zu\n", reply.line, reply.number);
+    } else {
+      printf("accepted %zu\n", taken);
+    }
+  } else if (!strcmp(entry, "out_of_range")) {
+    dabzhoni_initial(&state, 8, 16, 8);
+    state.holds[7].depth = 1;
+    events = 1;
+    for (const char *k = "UALSRWKNPB"; *k; k++) {
+      list[0].letter = *k;
+      need("step", steps, size);
+      printf("%zu %zu\n", reply.number, reply.line);
+    }
+  } else {
+    return 2;
+  }
+  return 0;
+}

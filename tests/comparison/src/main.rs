@@ -1,0 +1,51 @@
+//! The proved marker against markers A and B: `comparison [TIMES [SEED]]`, TIMES as many papers and steps as in the gate, from this seed.
+//! The last line is `N passed, M failed`.
+
+use comparison::steps::{self, Tally};
+use comparison::whole::Papers;
+use papers::compare::{close, run, Size};
+use papers::generate::Rng;
+use std::rc::Rc;
+use std::time::Instant;
+
+fn main() {
+    let args: Vec<u64> = std::env::args().skip(1).map(|a| a.parse().expect("a number")).collect();
+    let (times, seed) = (args.first().copied().unwrap_or(1), args.get(1).copied().unwrap_or(1));
+    let size = Size {
+        seed,
+        random: 200_000 * times,
+        damaged: 100_000 * times,
+        large: 300 * times,
+        large_by_a: 300 * times,
+        aimed: 40 * times as usize,
+        short: 5,
+    };
+    let papers = Rc::new(Papers::new());
+    let same = Rc::clone(&papers);
+    let (passed, failed) = run(Box::new(move |paper, with_a| same.check(paper, with_a)), size);
+    println!("{}", papers.orders());
+    let tally = all_steps(times as usize, seed);
+    close((passed + tally.passed, failed + tally.failed))
+}
+
+fn all_steps(times: usize, seed: u64) -> Tally {
+    let mut rng = Rng::new(seed);
+    let mut tally = Tally::default();
+    let mut part = |name: &str, count: usize, one: &mut dyn FnMut(&mut Tally, &mut Rng)| {
+        let start = Instant::now();
+        let (passed, accepted) = (tally.passed + tally.failed, tally.accepted);
+        for _ in 0..count * times {
+            one(&mut tally, &mut rng);
+        }
+        let (passed, accepted) = (tally.passed + tally.failed - passed, tally.accepted - accepted);
+        println!("{name}: {passed} in {:.1} s, {accepted} accepted", start.elapsed().as_secs_f64());
+    };
+    part("steps along traces", 600, &mut |tally, rng| {
+        let length = rng.between(0, 80);
+        steps::walk(tally, rng, length, 6, 20)
+    });
+    part("steps along long traces", 4, &mut |tally, rng| steps::walk(tally, rng, 2_000, 2, 40));
+    part("steps from states in range", 2_000, &mut |tally, rng| steps::in_range(tally, rng, 40));
+    part("steps from states out of range", 20, &mut steps::out_of_range);
+    tally
+}

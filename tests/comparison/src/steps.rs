@@ -1,0 +1,349 @@
+//! Single steps of the proved marker: from states that events reach, against marker A; from other states in range, and from states
+//! out of range, against the model.
+
+use crate::c_api::{Cell, Counts, Hold, Kept, Reply, Ring, Slot, State};
+use crate::model;
+use marker_a::paper;
+use papers::generate::{self, Rng, LETTERS};
+use papers::shrink::shrink;
+use papers::{by_a, Event};
+
+const PRINTED_FAILURES: usize = 20;
+
+#[derive(Default)]
+pub struct Tally {
+    pub passed: usize,
+    pub failed: usize,
+    pub accepted: usize,
+    pub refused: usize,
+}
+
+impl Tally {
+    /// Whether failures are still printed.
+    fn prints(&self) -> bool {
+        self.failed < PRINTED_FAILURES
+    }
+
+    /// The report of a failure in the last step of these events, with the smallest paper that shows it.
+    fn smaller(&self, said: Result<(), String>, counts: papers::Counts, events: &[Event]) -> Result<(), String> {
+        said.map_err(|report| if self.prints() { smallest(counts, events, report) } else { report })
+    }
+
+    fn count(&mut self, reply: (usize, usize), said: Result<(), String>) {
+        if reply.0 == 0 {
+            self.accepted += 1;
+        } else {
+            self.refused += 1;
+        }
+        match said {
+            Ok(()) => self.passed += 1,
+            Err(report) => {
+                if self.prints() {
+                    println!("FAILED {report}");
+                }
+                self.failed += 1;
+            }
+        }
+    }
+}
+
+fn kept_counts(c: papers::Counts) -> Counts {
+    Counts { threads: c.threads, variables: c.variables, locks: c.locks }
+}
+
+/// One step: the reply that is wanted, and the state byte for byte as it was after a refusal.
+fn stepped(before: &Kept, e: &Event, wanted: (usize, usize)) -> Result<Kept, String> {
+    let mut after = before.clone();
+    let Reply { number, line } = after.step(e);
+    if (number, line) != wanted {
+        return Err(format!("{}: number and line {number} {line}, wanted {} {}", e.line(), wanted.0, wanted.1));
+    }
+    if number != 0 && after != *before {
+        return Err(format!("{}: refused, and the state is changed", e.line()));
+    }
+    Ok(after)
+}
+
+// ---- states that events reach
+
+/// One step after these accepted events: marker A's verdict; and after an accepted one the state that replaying gives, which has
+/// marker A's words.
+fn after_events(
+    before: &Kept,
+    counts: papers::Counts,
+    earlier: &[Event],
+    list: &[marker_a::Event],
+    e: &Event,
+) -> ((usize, usize), Result<(), String>) {
+    let number = marker_a::judge(list, by_a::counts(counts), &by_a::event(e)) as usize;
+    let reply = if number == 0 { (0, 0) } else { (number, earlier.len() + 3) };
+    let said = stepped(before, e, reply).and_then(|after| {
+        if number != 0 {
+            return Ok(());
+        }
+        let mut again = Kept::initial(kept_counts(counts));
+        for e in earlier.iter().chain([e]) {
+            again.step(e);
+        }
+        if *after != *again {
+            return Err(format!("{}: replaying gives another state", e.line()));
+        }
+        let longer: Vec<marker_a::Event> = list.iter().copied().chain([by_a::event(e)]).collect();
+        model::differs(&after, &longer).map_or(Ok(()), |word| Err(format!("{}: {word} in the state", e.line())))
+    });
+    (reply, said)
+}
+
+/// The events of a paper, one step after the other, up to the first that is refused or answered wrongly.
+fn steps_of(bytes: &[u8]) -> Result<(), String> {
+    let Ok(parts) = paper::find(bytes) else { return Ok(()) };
+    let c = parts.counts;
+    let counts = papers::Counts { threads: c.threads as usize, variables: c.variables as usize, locks: c.locks as usize };
+    let mut state = Kept::initial(kept_counts(counts));
+    let (mut earlier, mut list) = (Vec::new(), Vec::new());
+    for line in parts.body.split(|&b| b == 10) {
+        let Some(event) = paper::event(line) else { return Ok(()) };
+        let (thread, place) = (event.thread as usize, event.target as usize);
+        let e = Event { letter: line[0], thread, place, value: event.value };
+        let (reply, said) = after_events(&state, counts, &earlier, &list, &e);
+        said?;
+        if reply.0 != 0 {
+            return Ok(());
+        }
+        state.step(&e);
+        earlier.push(e);
+        list.push(event);
+    }
+    Ok(())
+}
+
+/// The smallest paper of these events whose last step is answered wrongly.
+fn smallest(counts: papers::Counts, events: &[Event], report: String) -> String {
+    let whole = generate::paper(counts, None, events);
+    let small = shrink(&whole, &|p| steps_of(p).is_err());
+    let report = steps_of(&small).err().unwrap_or(report);
+    format!("step, the smallest paper:\n{}{report}", String::from_utf8_lossy(&small))
+}
+
+/// An event, often one that some state accepts: declared in most cases, with a value that the state has.
+fn any_event(rng: &mut Rng, s: &State) -> Event {
+    let letter = rng.pick(LETTERS);
+    let lock = matches!(letter, b'K' | b'N');
+    let Counts { threads, variables, locks } = s.counts;
+    let mut number = |n: usize, usual: usize| match rng.below(40) {
+        0 => usual,
+        1 => usize::MAX,
+        _ => rng.below(n.clamp(1, usual)),
+    };
+    let thread = number(threads, 8);
+    let place = if lock { number(locks, 8) } else { number(variables, 16) };
+    let c = &s.cells[(16 * (thread % 8)) + place % 16];
+    let oldest = |slots: &[Slot], q: Ring| slots[8 * (16 * (thread % 8) + place % 16) + usize::from(q.first) % 8].value;
+    let value = match (rng.below(8), letter) {
+        (0, _) => rng.next() as i32,
+        (_, b'U' | b'S') => c.copy,
+        (_, b'L') => oldest(&s.reads, c.reads),
+        (_, b'W') => oldest(&s.stores, c.stores),
+        (_, b'R') => s.memory[place % 16],
+        (_, b'B') => c.announced,
+        _ => rng.pick(&[0, 1, 5, -7, i32::MAX, i32::MIN]),
+    };
+    Event { letter, thread, place, value }
+}
+
+/// Along one trace of about `length` events: each event, and at `stops` places of it `each` other events.
+pub fn walk(tally: &mut Tally, rng: &mut Rng, length: usize, stops: usize, each: usize) {
+    let (counts, _, events) = generate::long(rng, length, 0, false);
+    let list: Vec<marker_a::Event> = events.iter().map(by_a::event).collect();
+    let mut state = Kept::initial(kept_counts(counts));
+    let share = events.len() / stops.max(1) + 1;
+    for (i, next) in events.iter().map(Some).chain([None]).enumerate() {
+        if i % share == 0 || next.is_none() {
+            for _ in 0..each {
+                let e = any_event(rng, &state);
+                let (reply, said) = after_events(&state, counts, &events[..i], &list[..i], &e);
+                let said = tally.smaller(said, counts, &[&events[..i], &[e]].concat());
+                tally.count(reply, said);
+            }
+        }
+        if let Some(e) = next {
+            let said = stepped(&state, e, (0, 0)).map(|after| state = after);
+            let said = tally.smaller(said, counts, &events[..=i]);
+            tally.count((0, 0), said);
+        }
+    }
+}
+
+// ---- states that events need not reach
+
+/// A number up to n: 0 and n more often than others.
+fn position(rng: &mut Rng, n: u32) -> u32 {
+    let any = rng.below(n as usize + 1) as u32;
+    rng.pick(&[0, n, any])
+}
+
+/// A state in range, with anything in the places past a queue's count.
+pub fn state_in_range(rng: &mut Rng) -> Kept {
+    let counts = Counts { threads: rng.between(1, 8), variables: rng.between(1, 16), locks: rng.between(0, 8) };
+    let mut s = Kept::initial(counts);
+    let any = position(rng, 2_000);
+    let n = rng.pick(&[1, 50, 1_999, any, any, any]);
+    s.events = n;
+    let few = rng.chance(50);
+    let value = |rng: &mut Rng| if few { rng.pick(&[0, 1]) } else { rng.next() as i32 };
+    let ring = |rng: &mut Rng| Ring { first: rng.next() as u8, len: position(rng, 8) as u8 };
+    for i in 0..128 {
+        s.cells[i] = Cell {
+            copy: value(rng),
+            announced: value(rng),
+            source: position(rng, n),
+            written: position(rng, n),
+            reads: ring(rng),
+            stores: ring(rng),
+            fresh: rng.chance(30),
+            pending: rng.chance(10),
+        };
+        for k in 0..8 {
+            s.reads[8 * i + k] = Slot { value: value(rng), position: rng.next() as u32 };
+            s.stores[8 * i + k] = Slot { value: value(rng), position: rng.next() as u32 };
+        }
+        let c = s.cells[i];
+        for k in 0..usize::from(c.reads.len) {
+            s.reads[8 * i + (usize::from(c.reads.first) + k) % 8].position = position(rng, n);
+        }
+        for k in 0..usize::from(c.stores.len) {
+            s.stores[8 * i + (usize::from(c.stores.first) + k) % 8].position = position(rng, n);
+        }
+    }
+    // half of the states have no thread that bars a lock or an unlock
+    if rng.chance(50) {
+        for c in s.cells.iter_mut() {
+            c.pending = false;
+            c.fresh = false;
+            c.stores.len = 0;
+        }
+    }
+    for i in 0..8 {
+        s.locked[i] = position(rng, n);
+        if n > 0 && rng.chance(50) {
+            s.holds[i] = Hold { holder: rng.between(1, counts.threads), depth: position(rng, n).max(1) };
+        }
+    }
+    for x in s.memory.iter_mut() {
+        *x = value(rng);
+    }
+    s
+}
+
+/// One step against the model, the state after it included.
+fn against_model(tally: &mut Tally, before: &Kept, e: &Event) {
+    let reply = model::reply(before, e);
+    let said = stepped(before, e, reply).and_then(|after| {
+        let mut wanted = before.clone();
+        if reply.0 == 0 {
+            model::take(&mut wanted, e);
+        }
+        if *after == *wanted {
+            Ok(())
+        } else {
+            Err(format!("{}: another state after it", e.line()))
+        }
+    });
+    let shown = |report| format!("{report}; {:?}, {} events, {:?}", before.counts, before.events, before.holds);
+    tally.count(reply, said.map_err(shown));
+}
+
+pub fn in_range(tally: &mut Tally, rng: &mut Rng, each: usize) {
+    let s = state_in_range(rng);
+    assert!(!model::out_of_range(&s));
+    for _ in 0..each {
+        let e = any_event(rng, &s);
+        against_model(tally, &s, &e);
+    }
+}
+
+/// The numbers of refusal 8: how many places each has, and what puts the one at a place out of range and no other number.
+type Spoil = fn(&mut State, usize, &mut Rng);
+const SPOILS: [(&str, usize, Spoil); 17] = [
+    ("no thread", 1, |s, _, _| {
+        s.counts.threads = 0;
+        s.holds = [Hold { holder: 0, depth: 0 }; 8];
+    }),
+    ("threads", 1, |s, _, r| s.counts.threads = r.pick(&[9, 256, usize::MAX])),
+    ("no variable", 1, |s, _, _| s.counts.variables = 0),
+    ("variables", 1, |s, _, r| s.counts.variables = r.pick(&[17, 256, usize::MAX])),
+    ("locks", 1, |s, _, r| s.counts.locks = r.pick(&[9, 256, usize::MAX])),
+    ("events", 1, |s, _, r| s.events = r.pick(&[2_001, 65_536, u32::MAX])),
+    ("reads", 128, |s, i, r| spoil_count(s.events, &mut s.cells[i].reads, &mut s.reads, i, r)),
+    ("stores", 128, |s, i, r| spoil_count(s.events, &mut s.cells[i].stores, &mut s.stores, i, r)),
+    ("position of a read", 1_024, |s, i, r| spoil_queue(s.events, &mut s.cells[i / 8].reads, &mut s.reads, i, r)),
+    ("position of a store", 1_024, |s, i, r| spoil_queue(s.events, &mut s.cells[i / 8].stores, &mut s.stores, i, r)),
+    ("source", 128, |s, i, r| s.cells[i].source = above(s.events, r)),
+    ("last write", 128, |s, i, r| s.cells[i].written = above(s.events, r)),
+    ("last lock", 8, |s, i, r| s.locked[i] = above(s.events, r)),
+    ("depth", 8, |s, i, r| s.holds[i] = Hold { holder: 1, depth: above(s.events, r) }),
+    ("holder", 8, |s, i, r| s.holds[i] = Hold { holder: s.counts.threads + r.pick(&[1, 2, 8, 1 << 40]), depth: 1 }),
+    ("holder without depth", 8, |s, i, r| s.holds[i] = Hold { holder: r.between(1, s.counts.threads), depth: 0 }),
+    ("depth without holder", 8, |s, i, r| s.holds[i] = Hold { holder: 0, depth: r.pick(&[1, s.events]) }),
+];
+
+fn above(n: u32, rng: &mut Rng) -> u32 {
+    rng.pick(&[n + 1, 2_001, u32::MAX])
+}
+
+/// The count of cell i is above eight, and no position above the events.
+fn spoil_count(n: u32, q: &mut Ring, slots: &mut [Slot], i: usize, rng: &mut Rng) {
+    q.len = rng.pick(&[9, 16, 255]);
+    for slot in &mut slots[8 * i..8 * i + 8] {
+        slot.position = slot.position.min(n);
+    }
+}
+
+/// The position at place i, that of an outstanding one, is above the events.
+fn spoil_queue(n: u32, q: &mut Ring, slots: &mut [Slot], i: usize, rng: &mut Rng) {
+    let place = i % 8;
+    let back = rng.below(8);
+    *q = Ring { first: ((place + 8 - back) % 8) as u8, len: (back + 1) as u8 };
+    for slot in &mut slots[i - place..i - place + 8] {
+        slot.position = slot.position.min(n);
+    }
+    slots[i].position = above(n, rng);
+}
+
+/// A state that events reach.
+fn reached(rng: &mut Rng) -> Kept {
+    let length = rng.between(1, 60);
+    let (counts, _, events) = generate::long(rng, length, 0, false);
+    let mut state = Kept::initial(kept_counts(counts));
+    for e in &events {
+        state.step(e);
+    }
+    state
+}
+
+/// From a state in range: each number of refusal 8 out of range in turn, at every place.
+pub fn out_of_range(tally: &mut Tally, rng: &mut Rng) {
+    let mut s = if rng.chance(50) { reached(rng) } else { state_in_range(rng) };
+    s.events = s.events.max(1);
+    assert!(!model::out_of_range(&s));
+    for (name, places, spoil) in SPOILS {
+        for i in 0..places {
+            let mut bad = s.clone();
+            spoil(&mut bad, i, rng);
+            assert!(model::out_of_range(&bad), "{name} {i}");
+            let e = any_event(rng, &s);
+            let said = stepped(&bad, &e, (8, 0)).map(|_| ()).map_err(|report| format!("{name} {i} out of range: {report}"));
+            tally.count((8, 0), said);
+        }
+    }
+    // a letter that is none of the ten: 4 before all others
+    let mut bad = s.clone();
+    bad.counts.threads = 9;
+    for kept in [&s, &bad] {
+        for letter in (0..=255).filter(|letter| !LETTERS.contains(letter)) {
+            let e = Event { letter, ..any_event(rng, &s) };
+            let wanted = (4, kept.events as usize + 3);
+            tally.count(wanted, stepped(kept, &e, wanted).map(|_| ()));
+        }
+    }
+}

@@ -1,0 +1,330 @@
+//! One paper by marker A, marker B and the proved marker; and what the proved marker leaves in the lent memory.
+
+use crate::c_api::{self, Marked};
+use marker_a::order::Section;
+use marker_a::{listing, paper, rules, Kind, Outcome, Verdict};
+use papers::generate::Rng;
+use std::cell::{Cell, RefCell};
+
+/// Places that must be lent.
+const RECORDS: usize = 2_000;
+const OUT: usize = 32_768;
+const ORDER: usize = 1_000;
+const SCRATCH: usize = 2_000;
+/// At most so many more places are lent, and so many lie behind the lent ones.
+const MORE: usize = 16;
+
+/// Memory with a pattern in it; a part of it is lent.
+struct Memory<T> {
+    pattern: Vec<T>,
+    places: Vec<T>,
+}
+
+impl<T: Copy + PartialEq> Memory<T> {
+    fn new(size: usize, item: impl FnMut() -> T) -> Memory<T> {
+        let pattern: Vec<T> = std::iter::repeat_with(item).take(size + 2 * MORE).collect();
+        Memory { places: pattern.clone(), pattern }
+    }
+
+    /// Whether it begins with these, and the rest is as it was; or all of it.
+    fn is(&self, front: &[T]) -> bool {
+        let n = front.len();
+        self.places[..n] == *front && self.places[n..] == self.pattern[n..]
+    }
+
+    fn renew(&mut self) {
+        self.places.copy_from_slice(&self.pattern);
+    }
+
+    fn renew_front(&mut self, n: usize) {
+        self.places[..n].copy_from_slice(&self.pattern[..n]);
+    }
+}
+
+/// How much is lent of each.
+#[derive(Clone, Copy, Debug)]
+struct Lengths {
+    what: usize,
+    values: usize,
+    out: usize,
+    order: usize,
+    scratch: usize,
+}
+
+impl Lengths {
+    /// So many more places than must be lent, of each.
+    fn with(more: usize) -> Lengths {
+        Lengths { what: RECORDS + more, values: RECORDS + more, out: OUT + more, order: ORDER + more, scratch: SCRATCH + more }
+    }
+}
+
+struct Lent {
+    what: Memory<u32>,
+    values: Memory<i32>,
+    out: Memory<u8>,
+    order: Memory<u64>,
+    scratch: Memory<u64>,
+}
+
+impl Lent {
+    fn mark(&mut self, paper: &[u8], n: Lengths) -> Marked {
+        c_api::mark(
+            paper,
+            &mut self.what.places[..n.what],
+            &mut self.values.places[..n.values],
+            &mut self.out.places[..n.out],
+            &mut self.order.places[..n.order],
+            &mut self.scratch.places[..n.scratch],
+        )
+    }
+
+    fn mark_unordered(&mut self, paper: &[u8], n: Lengths) -> Marked {
+        c_api::mark_unordered(
+            paper,
+            &mut self.what.places[..n.what],
+            &mut self.values.places[..n.values],
+            &mut self.out.places[..n.out],
+        )
+    }
+
+    fn renew(&mut self) {
+        self.what.renew();
+        self.values.renew();
+        self.out.renew();
+        self.order.renew();
+        self.scratch.renew();
+    }
+
+    /// What is said, the listing and the records are as wanted, and no other place of output and records is touched. These have their
+    /// pattern again then.
+    fn told(&mut self, marked: Marked, wanted: Marked, listing: &str, records: &[Record]) -> Result<(), String> {
+        let got = String::from_utf8_lossy(&self.out.places[..marked.written.min(OUT)]).into_owned();
+        ensure(got == listing, || format!("markers A, B:\n{listing}proved marker:\n{got}"))?;
+        ensure(marked == wanted, || format!("{marked:?}, wanted {wanted:?}"))?;
+        ensure(self.out.is(listing.as_bytes()), || "output past the listing is touched".into())?;
+        let (what, values): (Vec<u32>, Vec<i32>) = records.iter().copied().unzip();
+        ensure(self.what.is(&what), || format!("records, wanted {what:x?}"))?;
+        ensure(self.values.is(&values), || format!("values of the records, wanted {values:?}"))?;
+        self.out.renew_front(listing.len());
+        self.what.renew_front(what.len());
+        self.values.renew_front(values.len());
+        Ok(())
+    }
+}
+
+/// The orders on which demand 3 was asked.
+#[derive(Clone, Copy, Default)]
+struct Orders {
+    number: usize,
+    uses: usize,
+    /// those whose sections are not in order of their first locks
+    other: usize,
+}
+
+/// Checks papers.
+pub struct Papers {
+    lent: RefCell<Lent>,
+    /// the lent memory has its pattern, as it has after each paper that passed
+    clean: Cell<bool>,
+    orders: Cell<Orders>,
+}
+
+/// The record of an event, one number in each row: letter * 65536 + thread * 256 + variable or lock, and the value.
+type Record = (u32, i32);
+
+fn record(e: &marker_a::Event) -> Record {
+    let letter = match e.kind {
+        Kind::U => b'U',
+        Kind::A => b'A',
+        Kind::L => b'L',
+        Kind::S => b'S',
+        Kind::R => b'R',
+        Kind::W => b'W',
+        Kind::K => b'K',
+        Kind::N => b'N',
+        Kind::P => b'P',
+        Kind::B => b'B',
+    };
+    (u32::from(letter) * 65_536 + e.thread * 256 + e.target, e.value)
+}
+
+fn entry(thread: u64, first: u64, last: u64) -> u64 {
+    thread * (1 << 24) + last * (1 << 12) + first
+}
+
+/// The section of an entry. The line of its last lock is not in it, and demand 3 does not look at it.
+fn section(entry: u64) -> Section {
+    let line = |shift: u32| (entry >> shift & 0xfff) as usize;
+    Section { thread: (entry >> 24) as u32, first: line(0), last: line(12), last_lock: 0 }
+}
+
+/// The numbers after the first word of a line.
+fn numbers(line: &str) -> Vec<u64> {
+    line.split(' ').skip(1).map(|n| n.parse().expect("a number of a listing")).collect()
+}
+
+/// What a listing says must be said and be in the lent memory.
+struct Wanted {
+    marked: Marked,
+    records: Vec<Record>,
+    /// the entries, where there is an order
+    order: Option<Vec<u64>>,
+    events: Vec<marker_a::Event>,
+}
+
+fn wanted(bytes: &[u8], listing: &str) -> Wanted {
+    let first = numbers(listing.lines().next().expect("a line"));
+    let written = listing.len();
+    if listing.starts_with("refused") {
+        let marked = Marked { number: first[1] as usize, line: first[0] as usize, written, ..Marked::default() };
+        return Wanted { marked, records: Vec::new(), order: None, events: Vec::new() };
+    }
+    let parts = paper::find(bytes).expect("an accepted paper");
+    let lines = parts.body.split_inclusive(|&b| b == 10);
+    let events: Vec<marker_a::Event> = lines.map(|line| paper::event(&line[..line.len() - 1]).expect("an event")).collect();
+    let denied = listing.lines().last().filter(|line| line.starts_with("unordered")).map(numbers);
+    let ordered = parts.guards.is_some() && denied.is_none();
+    let sections = listing.lines().filter(|line| line.starts_with("section")).map(numbers);
+    let entries: Vec<u64> = sections.map(|n| entry(n[0], n[1], n[2])).collect();
+    Wanted {
+        marked: Marked {
+            events: first[0] as usize,
+            written,
+            sections: entries.len(),
+            denial: denied.as_ref().map_or(0, |n| n[1] as usize),
+            denial_line: denied.as_ref().map_or(0, |n| n[0] as usize),
+            ..Marked::default()
+        },
+        records: events.iter().map(record).collect(),
+        order: ordered.then_some(entries),
+        events,
+    }
+}
+
+/// The listing without the lines about the order.
+fn unordered(listing: &str) -> &str {
+    let starts = ["\nsection", "\nunordered"].into_iter().filter_map(|line| listing.find(line));
+    &listing[..starts.min().map_or(listing.len(), |at| at + 1)]
+}
+
+/// Demand 3, by marker A, of the proved marker's own order.
+fn demand3(bytes: &[u8], events: Vec<marker_a::Event>, order: &[u64]) -> Result<usize, String> {
+    let counts = paper::find(bytes).expect("an accepted paper").counts;
+    let uses = events.iter().filter(|e| e.kind == Kind::U).count();
+    let outcome = Outcome {
+        verdict: Verdict::Accepted(events.len()),
+        counts: Some(counts),
+        guards: None,
+        main: (0..counts.variables).map(|v| rules::main_memory(&events, v)).collect(),
+        copies: Vec::new(),
+        order: marker_a::Order::Sections(order.iter().copied().map(section).collect()),
+        events,
+    };
+    marker_a::demand3(&outcome).map(|()| uses)
+}
+
+fn ensure(right: bool, what: impl FnOnce() -> String) -> Result<(), String> {
+    if right {
+        Ok(())
+    } else {
+        Err(what() + "\n")
+    }
+}
+
+impl Papers {
+    pub fn new() -> Papers {
+        let mut rng = Rng::new(0);
+        // no byte of a listing, no record, no entry and no zero is in a pattern; a value may be any number
+        let lent = Lent {
+            what: Memory::new(RECORDS, || rng.next() as u32 | 1 << 31),
+            values: Memory::new(RECORDS, || rng.next() as i32 | 1 << 30),
+            out: Memory::new(OUT, || rng.next() as u8 | 0x80),
+            order: Memory::new(ORDER, || rng.next() | 1 << 63),
+            scratch: Memory::new(SCRATCH, || rng.next() | 1 << 63),
+        };
+        Papers { lent: RefCell::new(lent), clean: Cell::new(true), orders: Cell::default() }
+    }
+
+    /// The listing that all markers agree on, or what differs.
+    pub fn check(&self, bytes: &[u8], with_a: bool) -> Result<String, String> {
+        let b = marker_b::mark(bytes);
+        if with_a {
+            let a = marker_a::outcome(bytes);
+            let text = String::from_utf8(listing::listing(&a)).expect("a listing is ASCII");
+            ensure(text == b, || format!("marker A:\n{text}marker B:\n{b}"))?;
+        }
+        let mut lent = self.lent.borrow_mut();
+        if !self.clean.replace(false) {
+            lent.renew();
+        }
+        self.proved(&mut lent, bytes, &b)?;
+        lent_too_little(&mut lent, bytes)?;
+        self.clean.set(true);
+        Ok(b)
+    }
+
+    /// On how many orders demand 3 was asked.
+    pub fn orders(&self) -> String {
+        let Orders { number, uses, other } = self.orders.get();
+        format!("demand 3: {number} orders with {uses} uses; {other} orders are not that of the first locks")
+    }
+
+    fn count(&self, uses: usize, order: &[u64]) {
+        let mut all = self.orders.get();
+        all.number += 1;
+        all.uses += uses;
+        all.other += usize::from(!order.is_sorted_by_key(|&entry| section(entry).first));
+        self.orders.set(all);
+    }
+
+    /// The proved marker, with an order and where none is wanted.
+    fn proved(&self, lent: &mut Lent, bytes: &[u8], listing: &str) -> Result<(), String> {
+        let n = Lengths::with(bytes.len() % (MORE + 1));
+        let wanted = wanted(bytes, listing);
+        let marked = lent.mark(bytes, n);
+        lent.told(marked, wanted.marked, listing, &wanted.records)?;
+        match wanted.order {
+            None => {
+                ensure(lent.order.is(&[]) && lent.scratch.is(&[]), || "order list or scratch touched without an order".into())?
+            }
+            Some(entries) => {
+                ensure(lent.order.is(&entries), || format!("order list, wanted {entries:x?}"))?;
+                ensure(lent.scratch.is(&vec![0; n.scratch]), || "the scratch after an order".into())?;
+                let order = &lent.order.places[..entries.len()];
+                let uses = demand3(bytes, wanted.events, order).map_err(|e| format!("demand 3: {e}\n"))?;
+                self.count(uses, order);
+                lent.order.renew_front(entries.len());
+                lent.scratch.renew();
+            }
+        }
+        let memories = unordered(listing);
+        let brief = Marked { written: memories.len(), sections: 0, denial: 0, denial_line: 0, ..wanted.marked };
+        let marked = lent.mark_unordered(bytes, n);
+        lent.told(marked, brief, memories, &wanted.records).map_err(|e| format!("no order wanted: {e}"))
+    }
+}
+
+impl Default for Papers {
+    fn default() -> Papers {
+        Papers::new()
+    }
+}
+
+/// Each of the five one place too short, and of the three where no order is wanted: 7, line 0, and nothing is touched.
+fn lent_too_little(lent: &mut Lent, bytes: &[u8]) -> Result<(), String> {
+    let full = Lengths::with(0);
+    let seven = Marked { number: 7, ..Marked::default() };
+    let records =
+        [Lengths { what: RECORDS - 1, ..full }, Lengths { values: RECORDS - 1, ..full }, Lengths { out: OUT - 1, ..full }];
+    let order = [Lengths { order: ORDER - 1, ..full }, Lengths { scratch: SCRATCH - 1, ..full }];
+    for n in records.into_iter().chain(order) {
+        let marked = lent.mark(bytes, n);
+        ensure(marked == seven, || format!("{n:?}: {marked:?}"))?;
+    }
+    for n in records {
+        let marked = lent.mark_unordered(bytes, n);
+        ensure(marked == seven, || format!("{n:?}, no order wanted: {marked:?}"))?;
+    }
+    let records = lent.what.is(&[]) && lent.values.is(&[]);
+    ensure(records && lent.out.is(&[]) && lent.order.is(&[]) && lent.scratch.is(&[]), || "memory is touched with 7".into())
+}

@@ -1,0 +1,537 @@
+//! Marker B: one pass over the bytes and a state that each event changes.
+
+/// What the head declares.
+#[derive(Clone, Copy, Debug, PartialEq, Eq)]
+pub struct Counts {
+    pub threads: usize,
+    pub variables: usize,
+    pub locks: usize,
+}
+
+/// An event: its letter, thread, variable (or lock) and value. A lock event has no value: 0 stands there.
+#[derive(Clone, Copy, Debug, PartialEq, Eq)]
+pub struct Event {
+    pub letter: u8,
+    pub thread: usize,
+    pub place: usize,
+    pub value: i32,
+}
+
+impl Event {
+    pub fn is_lock(&self) -> bool {
+        matches!(self.letter, b'K' | b'N')
+    }
+
+    /// The event's line, without byte 10.
+    pub fn line(&self) -> String {
+        let letter = self.letter as char;
+        if self.is_lock() {
+            format!("{letter} {} {}", self.thread, self.place)
+        } else {
+            format!("{letter} {} {} {}", self.thread, self.place, self.value)
+        }
+    }
+}
+
+const THREADS: usize = 8;
+const VARIABLES: usize = 16;
+const LOCKS: usize = 8;
+const EVENTS: u32 = 2000;
+const ROOM: usize = 8;
+const BYTES: usize = 65_536;
+const FIRST_LINE: u32 = 3;
+
+/// The outstanding reads or stores of a cell, in a ring: value and position.
+#[derive(Clone, Copy, Default)]
+struct Ring {
+    slots: [(i32, u32); ROOM],
+    start: usize,
+    len: usize,
+}
+
+impl Ring {
+    fn front(&self) -> Option<(i32, u32)> {
+        (self.len > 0).then(|| self.slots[self.start])
+    }
+
+    fn full(&self) -> bool {
+        self.len == ROOM
+    }
+
+    fn push(&mut self, value: i32, position: u32) {
+        self.slots[(self.start + self.len) % ROOM] = (value, position);
+        self.len += 1;
+    }
+
+    fn pop(&mut self) {
+        self.start = (self.start + 1) % ROOM;
+        self.len -= 1;
+    }
+}
+
+/// What is kept for a thread and a variable. Positions count from 1; 0 is none.
+#[derive(Clone, Copy, Default)]
+struct Cell {
+    reads: Ring,
+    stores: Ring,
+    copy: i32,
+    /// the latest position among its assigns and the reads of its loads: usable when after the thread's last lock
+    source: u32,
+    last_write: u32,
+    announced: i32,
+    fresh: bool,
+    owed: bool,
+}
+
+/// What is kept for a thread: how many of its cells bar a lock or an unlock, and the section it is in.
+#[derive(Clone, Copy, Default)]
+struct Thread {
+    last_lock: u32,
+    fresh: u32,
+    owed: u32,
+    outstanding_stores: u32,
+    depth: u32,
+    section: u32,
+    unlocked: bool,
+}
+
+#[derive(Clone, Copy, Default)]
+struct Lock {
+    holder: usize,
+    depth: u32,
+}
+
+#[derive(Clone, Copy)]
+struct Section {
+    last_lock: u32,
+    thread: usize,
+    first: u32,
+    last: u32,
+}
+
+/// The state after some accepted events.
+#[derive(Clone)]
+pub struct State {
+    counts: Counts,
+    guards: Option<[usize; VARIABLES]>,
+    events: u32,
+    cells: [[Cell; VARIABLES]; THREADS],
+    threads: [Thread; THREADS],
+    locks: [Lock; LOCKS],
+    main: [i32; VARIABLES],
+    sections: Vec<Section>,
+    denied: Option<(u32, u32)>,
+}
+
+impl State {
+    pub fn new(counts: Counts, guards: Option<&[usize]>) -> State {
+        State {
+            counts,
+            guards: guards.map(|list| {
+                let mut all = [0; VARIABLES];
+                all[..list.len()].copy_from_slice(list);
+                all
+            }),
+            events: 0,
+            cells: Default::default(),
+            threads: Default::default(),
+            locks: Default::default(),
+            main: [0; VARIABLES],
+            sections: Vec::new(),
+            denied: None,
+        }
+    }
+
+    fn holds(&self, t: usize, l: usize) -> bool {
+        self.locks[l].depth > 0 && self.locks[l].holder == t
+    }
+
+    fn usable(&self, t: usize, v: usize) -> bool {
+        self.cells[t][v].source > self.threads[t].last_lock
+    }
+
+    /// The refusal of the next event; 0 when it is accepted.
+    pub fn judge(&self, e: Event) -> u32 {
+        let Event { letter, thread: t, place: p, value: x } = e;
+        if self.events >= EVENTS {
+            return 9;
+        }
+        let lock_event = letter == b'K' || letter == b'N';
+        if t >= self.counts.threads || p >= (if lock_event { self.counts.locks } else { self.counts.variables }) {
+            return 5;
+        }
+        let thread = &self.threads[t];
+        if lock_event {
+            let lock = self.locks[p];
+            return if letter == b'K' {
+                if lock.depth > 0 && lock.holder != t {
+                    11
+                } else if thread.owed > 0 {
+                    13
+                } else {
+                    0
+                }
+            } else if !self.holds(t, p) {
+                12
+            } else if thread.fresh > 0 {
+                15
+            } else if thread.outstanding_stores > 0 {
+                16
+            } else {
+                0
+            };
+        }
+        let cell = &self.cells[t][p];
+        match letter {
+            b'U' if !self.usable(t, p) => 17,
+            b'U' if cell.copy != x => 18,
+            b'U' | b'A' => 0,
+            b'L' => match cell.reads.front() {
+                None => 10,
+                Some(_) if cell.owed => 13,
+                Some(_) if cell.fresh => 15,
+                Some((_, position)) if cell.stores.len > 0 || position < cell.last_write => 16,
+                Some((value, _)) if value != x => 18,
+                Some(_) => 0,
+            },
+            b'S' if cell.owed => 13,
+            b'S' if !cell.fresh => 14,
+            b'S' if !self.usable(t, p) => 17,
+            b'S' if cell.copy != x => 18,
+            b'S' if cell.stores.full() => 19,
+            b'S' => 0,
+            b'R' if self.main[p] != x => 18,
+            b'R' if cell.reads.full() => 19,
+            b'R' => 0,
+            b'W' => match cell.stores.front() {
+                None => 10,
+                Some((value, _)) if value != x => 18,
+                Some(_) => 0,
+            },
+            b'P' if cell.owed => 13,
+            b'P' if cell.stores.full() => 19,
+            b'P' => 0,
+            b'B' if !cell.owed => 10,
+            b'B' if cell.announced != x => 18,
+            b'B' => 0,
+            _ => unreachable!("no such letter"),
+        }
+    }
+
+    /// The next event broke a rule of the order: only the first one counts.
+    fn deny(&mut self, number: u32) {
+        if self.denied.is_none() {
+            self.denied = Some((self.events + FIRST_LINE, number));
+        }
+    }
+
+    /// Takes in an accepted event.
+    fn take(&mut self, e: Event) {
+        let Event { letter, thread: t, place: p, value: x } = e;
+        let line = self.events + FIRST_LINE;
+        if let (b'U' | b'A' | b'B', Some(guards)) = (letter, self.guards) {
+            if !self.holds(t, guards[p]) {
+                self.deny(20);
+            }
+        }
+        if letter == b'K' && self.threads[t].unlocked {
+            self.deny(21);
+        }
+        self.events += 1;
+        let now = self.events;
+        let thread = &mut self.threads[t];
+        match letter {
+            b'K' => {
+                if thread.depth == 0 {
+                    thread.section = line;
+                }
+                thread.depth += 1;
+                thread.last_lock = now;
+                self.locks[p].holder = t;
+                self.locks[p].depth += 1;
+            }
+            b'N' => {
+                thread.depth -= 1;
+                thread.unlocked = thread.depth > 0;
+                if thread.depth == 0 {
+                    self.sections.push(Section { last_lock: thread.last_lock, thread: t, first: thread.section, last: line });
+                }
+                self.locks[p].depth -= 1;
+            }
+            _ => {
+                let cell = &mut self.cells[t][p];
+                match letter {
+                    b'A' => {
+                        thread.fresh += u32::from(!cell.fresh);
+                        cell.fresh = true;
+                        cell.copy = x;
+                        cell.source = now;
+                    }
+                    b'L' => {
+                        let (_, position) = cell.reads.front().unwrap();
+                        cell.reads.pop();
+                        cell.copy = x;
+                        cell.source = cell.source.max(position);
+                    }
+                    b'S' => {
+                        thread.fresh -= 1;
+                        thread.outstanding_stores += 1;
+                        cell.fresh = false;
+                        cell.stores.push(x, now);
+                    }
+                    b'R' => cell.reads.push(x, now),
+                    b'W' => {
+                        thread.outstanding_stores -= 1;
+                        cell.stores.pop();
+                        cell.last_write = now;
+                        self.main[p] = x;
+                    }
+                    b'P' => {
+                        thread.owed += 1;
+                        thread.outstanding_stores += 1;
+                        cell.owed = true;
+                        cell.announced = x;
+                        cell.stores.push(x, now);
+                    }
+                    b'B' => {
+                        thread.owed -= 1;
+                        thread.fresh -= u32::from(cell.fresh);
+                        cell.owed = false;
+                        cell.fresh = false;
+                        cell.copy = x;
+                        cell.source = now;
+                    }
+                    _ => {}
+                }
+            }
+        }
+    }
+
+    /// One event: its refusal, and the state unchanged; or 0, and the state after it.
+    pub fn step(&mut self, e: Event) -> u32 {
+        let number = self.judge(e);
+        if number == 0 {
+            self.take(e);
+        }
+        number
+    }
+
+    /// Why the events have no order, after the last one.
+    fn denial(&self) -> Option<(u32, u32)> {
+        let open = self.threads.iter().any(|thread| thread.depth > 0 || thread.owed > 0);
+        self.denied.or(open.then_some((self.events + FIRST_LINE, 22)))
+    }
+
+    /// The listing of an accepted paper.
+    pub fn listing(&self) -> String {
+        use std::fmt::Write;
+        let mut out = String::new();
+        writeln!(out, "accepted {}", self.events).unwrap();
+        for (v, x) in self.main[..self.counts.variables].iter().enumerate() {
+            writeln!(out, "main {v} {x}").unwrap();
+        }
+        for t in 0..self.counts.threads {
+            for v in 0..self.counts.variables {
+                if self.usable(t, v) {
+                    writeln!(out, "copy {t} {v} {}", self.cells[t][v].copy).unwrap();
+                }
+            }
+        }
+        if self.guards.is_some() {
+            if let Some((line, number)) = self.denial() {
+                writeln!(out, "unordered {line} {number}").unwrap();
+            } else {
+                let mut sections = self.sections.clone();
+                sections.sort_unstable_by_key(|s| s.last_lock);
+                for s in sections {
+                    writeln!(out, "section {} {} {}", s.thread, s.first, s.last).unwrap();
+                }
+            }
+        }
+        out
+    }
+
+    // ---- what a generator of papers looks at
+
+    pub fn counts(&self) -> Counts {
+        self.counts
+    }
+
+    pub fn len(&self) -> usize {
+        self.events as usize
+    }
+
+    pub fn is_empty(&self) -> bool {
+        self.events == 0
+    }
+
+    /// The value that an event of this letter must bear, where something fixes it.
+    pub fn due(&self, letter: u8, t: usize, v: usize) -> Option<i32> {
+        let cell = &self.cells[t][v];
+        match letter {
+            b'U' | b'S' => Some(cell.copy),
+            b'L' => cell.reads.front().map(|s| s.0),
+            b'W' => cell.stores.front().map(|s| s.0),
+            b'R' => Some(self.main[v]),
+            b'B' => Some(cell.announced),
+            _ => None,
+        }
+    }
+
+    /// An event that would deny the order.
+    pub fn denies(&self, e: Event) -> bool {
+        match (e.letter, self.guards) {
+            (b'U' | b'A' | b'B' | b'P', Some(guards)) => !self.holds(e.thread, guards[e.place]),
+            (b'K', _) => self.threads[e.thread].unlocked,
+            (b'N', _) => self.threads[e.thread].owed > 0,
+            _ => false,
+        }
+    }
+
+    pub fn busy(&self, t: usize) -> bool {
+        let thread = &self.threads[t];
+        thread.depth > 0 || thread.owed > 0 || thread.fresh > 0 || thread.outstanding_stores > 0
+    }
+}
+
+// ---- bytes
+
+/// Reads a line from the left. Each reader is none where the line has another form.
+struct Cursor<'a> {
+    line: &'a [u8],
+    at: usize,
+}
+
+impl<'a> Cursor<'a> {
+    fn new(line: &'a [u8]) -> Cursor<'a> {
+        Cursor { line, at: 0 }
+    }
+
+    fn byte(&mut self, b: u8) -> Option<()> {
+        (self.line.get(self.at) == Some(&b)).then(|| self.at += 1)
+    }
+
+    fn end(&self) -> Option<()> {
+        (self.at == self.line.len()).then_some(())
+    }
+
+    /// Digits without a leading zero. Stops growing at ten digits and more, past every limit of the paper.
+    fn digits(&mut self) -> Option<i64> {
+        let first = self.at;
+        let mut n = 0i64;
+        while let Some(d @ b'0'..=b'9') = self.line.get(self.at) {
+            n = (n * 10 + i64::from(d - b'0')).min(1 << 40);
+            self.at += 1;
+        }
+        match self.at - first {
+            0 => None,
+            1 => Some(n),
+            _ if self.line[first] == b'0' => None,
+            _ => Some(n),
+        }
+    }
+
+    fn spaced(&mut self) -> Option<i64> {
+        self.byte(b' ')?;
+        self.digits()
+    }
+
+    fn spaced_value(&mut self) -> Option<i32> {
+        self.byte(b' ')?;
+        let n = if self.byte(b'-').is_some() {
+            match self.digits()? {
+                0 => return None,
+                n => -n,
+            }
+        } else {
+            self.digits()?
+        };
+        i32::try_from(n).ok()
+    }
+}
+
+fn read_head(line: &[u8]) -> Option<Counts> {
+    let mut c = Cursor::new(line);
+    c.byte(b'H')?;
+    let (t, v, l) = (c.spaced()?, c.spaced()?, c.spaced()?);
+    c.end()?;
+    if t < 1 || t > THREADS as i64 || v < 1 || v > VARIABLES as i64 || l > LOCKS as i64 {
+        return None;
+    }
+    Some(Counts { threads: t as usize, variables: v as usize, locks: l as usize })
+}
+
+/// The locks of a `G` line; an empty list for `G -`.
+fn read_guards(line: &[u8], counts: Counts) -> Option<Vec<usize>> {
+    let mut c = Cursor::new(line);
+    c.byte(b'G')?;
+    let mut guards = Vec::new();
+    if line != b"G -" {
+        for _ in 0..counts.variables {
+            let l = c.spaced()?;
+            if l >= counts.locks as i64 {
+                return None;
+            }
+            guards.push(l as usize);
+        }
+        c.end()?;
+    }
+    Some(guards)
+}
+
+fn read_event(line: &[u8]) -> Option<Event> {
+    let letter = *line.first()?;
+    let mut c = Cursor { line, at: 1 };
+    let thread = match letter {
+        b'U' | b'A' | b'L' | b'S' | b'R' | b'W' | b'K' | b'N' | b'P' | b'B' => c.spaced()? as usize,
+        _ => return None,
+    };
+    let place = c.spaced()? as usize;
+    let value = if letter == b'K' || letter == b'N' { 0 } else { c.spaced_value()? };
+    c.end()?;
+    Some(Event { letter, thread, place, value })
+}
+
+/// The offset of the trailer, where the last line is one and counts right.
+fn find_trailer(paper: &[u8]) -> Option<usize> {
+    let (&last, rest) = paper.split_last()?;
+    let start = rest.iter().rposition(|&b| b == 10).map_or(0, |i| i + 1);
+    let mut c = Cursor::new(&rest[start..]);
+    c.byte(b'Z')?;
+    let n = c.spaced()?;
+    c.end()?;
+    (last == 10 && n == start as i64).then_some(start)
+}
+
+/// The state after the paper's events, or line and number of the refusal.
+fn run(paper: &[u8]) -> Result<State, (u32, u32)> {
+    if paper.len() > BYTES {
+        return Err((0, 1));
+    }
+    let mut rest = &paper[..find_trailer(paper).ok_or((0, 2))?];
+    let mut next_line = || {
+        let end = rest.iter().position(|&b| b == 10)?;
+        let line = &rest[..end];
+        rest = &rest[end + 1..];
+        Some(line)
+    };
+    let counts = next_line().and_then(read_head).ok_or((1, 3))?;
+    let guards = next_line().and_then(|line| read_guards(line, counts)).ok_or((2, 6))?;
+    let mut state = State::new(counts, if guards.is_empty() { None } else { Some(&guards) });
+    while let Some(line) = next_line() {
+        let at = state.events + FIRST_LINE;
+        let number = read_event(line).map_or(4, |e| state.step(e));
+        if number != 0 {
+            return Err((at, number));
+        }
+    }
+    Ok(state)
+}
+
+/// What the program `mark` prints for a paper.
+pub fn mark(paper: &[u8]) -> String {
+    match run(paper) {
+        Ok(state) => state.listing(),
+        Err((line, number)) => format!("refused {line} {number}\n"),
+    }
+}

@@ -1,0 +1,213 @@
+//! Short traces with marker A's answers as a file of definitions, to be compared by one `refl`.
+
+use crate::by_a::After;
+use crate::generate::{candidates, short, Aim, Rng, Short, DOUBLES, PAIRS};
+use crate::{Counts, Event};
+
+fn value(x: i32) -> String {
+    if x >= 0 {
+        format!("(pos {x})")
+    } else {
+        format!("(negsuc {})", -(i64::from(x)) - 1)
+    }
+}
+
+fn event(e: &Event) -> String {
+    let name = match e.letter {
+        b'U' => "Use",
+        b'A' => "Assign",
+        b'L' => "Load",
+        b'S' => "Store",
+        b'R' => "Read",
+        b'W' => "Write",
+        b'K' => "Lock",
+        b'N' => "Unlock",
+        b'P' => "PrescientStore",
+        b'B' => "PrescientAssign",
+        _ => unreachable!(),
+    };
+    if e.is_lock() {
+        format!("ev {} ({name} {})", e.thread, e.place)
+    } else {
+        format!("ev {} ({name} {} {})", e.thread, e.place, value(e.value))
+    }
+}
+
+fn list(items: impl Iterator<Item = String>) -> String {
+    let mut out = String::new();
+    for item in items {
+        out += &item;
+        out += " ∷ ";
+    }
+    out + "[]"
+}
+
+fn case(s: &Short) -> String {
+    let marked = match s.bad {
+        None => "accepted".to_string(),
+        Some((_, number)) => format!("(refused {number} {})", s.good.len() + 3),
+    };
+    let after = After::new(s.counts, &s.good);
+    format!(
+        "case {} {} {} ({}) ({}) {marked} ({}) ({})",
+        s.counts.threads,
+        s.counts.variables,
+        s.counts.locks,
+        list(s.good.iter().map(event)),
+        list(s.bad.iter().map(|(e, _)| event(e))),
+        list(after.main().into_iter().map(value)),
+        list(after.copies().into_iter().map(|(t, v, x)| format!("cp {t} {v} {}", value(x)))),
+    )
+}
+
+const USES: &str = "use Prim.Native.Nat.{ℕ}
+use mathlib.Core.Path.{_≡_, refl}
+use mathlib.Core.List.{List, [], _∷_, _++_, map, reverse}
+use lib.IntN.{ℤ, pos, negsuc}
+use Rattle.rules.specs.declared.Kind.{Kind}
+use Rattle.rules.specs.declared.Kind.the-variants.{Use, Assign, Load, Store, Read, Write, Lock, Unlock, PrescientStore, PrescientAssign}
+use Rattle.rules.specs.declared.Event.{Event}
+use Rattle.rules.specs.declared.Counts.{Counts}
+use Rattle.rules.specs.Events.{is, of, on, onLock, locks, unlocks, eqZ}
+use Rattle.rules.specs.Limits.{full, firstLine, declared}
+use Rattle.rules.specs.Words.{latest, valueIn, letterIn, lastAt, count, inOrder, by, locksBy, acquires, releases, reads, stores, copy, fresh, pending, announced, lastLock, lastWrite, usable, depth, main}
+use Rattle.rules.specs.Rules.{wordsOf, some, noPartner, lockTaken, notHeld, pendingBars, notFresh, notStored, readBeforeWrite, unwritten, notWritten, notUsable, differs, eightAlready, breaks, rows, rowIn, firstBroken, judge, answer, verdict, Marked, accepted, refused, markFrom, mark}
+use Rattle.rules.specs.Memories.{Copy, below, each, memory, copies}
+use Rattle.rules.specs.Traces.{ev}
+
+unfoldable pub cp : ℕ → ℕ → ℤ → Copy
+cp t v x = record { thread = t; variable = v; value = x }
+
+";
+
+const UNFOLDING: &str = "ev cp is of on onLock locks unlocks eqZ firstLine declared latest valueIn letterIn lastAt count inOrder by locksBy acquires releases reads stores copy fresh pending announced lastLock lastWrite usable depth main wordsOf some noPartner lockTaken notHeld pendingBars notFresh notStored readBeforeWrite unwritten notWritten notUsable differs eightAlready breaks rows rowIn firstBroken judge answer verdict markFrom mark below each memory copies";
+
+const CASES: &str = "pub record Case : Type 0 where
+  pub head : Counts
+  pub good : List Event
+  pub bad : List Event
+  pub marked : Marked
+  pub memory0 : List ℤ
+  pub copies0 : List Copy
+
+unfoldable pub case : ℕ → ℕ → ℕ → List Event → List Event → Marked → List ℤ → List Copy → Case
+case t v l es bs m xs cs = record { head = record { threads = t; variables = v; locks = l }; good = es; bad = bs; marked = m; memory0 = xs; copies0 = cs }
+
+unfoldable pub again : Case → Case
+again r = record {
+  head = r .head;
+  good = r .good;
+  bad = r .bad;
+  marked = mark full (r .head) (r .good ++ r .bad);
+  memory0 = memory (r .head) (wordsOf (reverse (r .good)));
+  copies0 = copies (r .head) (wordsOf (reverse (r .good)));
+}
+
+unfoldable pub random : List Case
+random =
+    ";
+
+/// The traces of one batch: some accepted, some undeclared, `each` for every pair of a letter and a refusal, and for every two
+/// refusals that one event can break at once.
+pub fn batch(seed: u64, each: usize, most: usize) -> Vec<Short> {
+    let mut rng = Rng::new(seed);
+    let mut aims = vec![Aim::Accepted; 8 * each];
+    aims.extend(vec![Aim::Undeclared; 3 * each]);
+    for (letter, number) in PAIRS {
+        aims.extend(vec![Aim::Refused(letter, number); each]);
+    }
+    for (letter, number, later) in DOUBLES {
+        aims.extend(vec![Aim::Both(letter, number, later); each]);
+    }
+    aims.extend(vec![Aim::FreshAndOwed; each]);
+    aims.into_iter().map(|aim| short(&mut rng, aim, most)).collect()
+}
+
+/// Each trace: verdict, main memory and usable copies after the accepted events.
+pub fn file(traces: &[Short]) -> String {
+    let cases = list(traces.iter().map(|s| case(s) + "\n   "));
+    format!(
+        "-- Random traces, and what marker A says of them.
+{USES}{CASES}{cases}
+
+pub random-agree : map again random ≡ random
+unfolding random case again {UNFOLDING}
+random-agree = refl
+"
+    )
+}
+
+const NODES: &str = "pub record Node : Type 0 where
+  pub events : List Event
+  pub verdicts : List ℕ
+  pub memory0 : List ℤ
+  pub copies0 : List Copy
+
+unfoldable pub node : List Event → List ℕ → List ℤ → List Copy → Node
+node es ns xs cs = record { events = es; verdicts = ns; memory0 = xs; copies0 = cs }
+
+";
+
+/// Every accepted trace of fewer than `most` events, with two threads, one variable, one lock and two values.
+pub fn accepted(most: usize) -> Vec<Vec<Event>> {
+    let all = candidates(FEW, &VALUES);
+    let mut found = vec![Vec::new()];
+    let mut at = 0;
+    while at < found.len() {
+        let events: Vec<Event> = found[at].clone();
+        at += 1;
+        if events.len() + 1 < most {
+            let after = After::new(FEW, &events);
+            for &e in &all {
+                if after.refusal(&e).is_none() {
+                    found.push([&events[..], &[e]].concat());
+                }
+            }
+        }
+    }
+    found
+}
+
+const FEW: Counts = Counts { threads: 2, variables: 1, locks: 1 };
+const VALUES: [i32; 2] = [0, 1];
+
+/// Each accepted trace: the verdict on every next event, main memory and usable copies.
+pub fn every_file(traces: &[Vec<Event>]) -> String {
+    let all = candidates(FEW, &VALUES);
+    let next = list(all.iter().map(event));
+    let nodes = list(traces.iter().map(|es| {
+        let after = After::new(FEW, es);
+        format!(
+            "node ({}) ({}) ({}) ({})\n   ",
+            list(es.iter().map(event)),
+            list(all.iter().map(|e| after.refusal(e).unwrap_or(0).to_string())),
+            list(after.main().into_iter().map(value)),
+            list(after.copies().into_iter().map(|(t, v, x)| format!("cp {t} {v} {}", value(x)))),
+        )
+    }));
+    format!(
+        "-- Short traces, and what marker A says of every next event.
+{USES}{NODES}abbrev pub few : Counts
+few = record {{ threads = 2; variables = 1; locks = 1 }}
+
+unfoldable pub next : List Event
+next = {next}
+
+unfoldable pub again : Node → Node
+again r = record {{
+  events = r .events;
+  verdicts = map (verdict full few (reverse (r .events))) next;
+  memory0 = memory few (wordsOf (reverse (r .events)));
+  copies0 = copies few (wordsOf (reverse (r .events)));
+}}
+
+unfoldable pub nodes : List Node
+nodes =
+    {nodes}
+
+pub every-agree : map again nodes ≡ nodes
+unfolding nodes node next again {UNFOLDING}
+every-agree = refl
+"
+    )
+}

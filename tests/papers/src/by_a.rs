@@ -1,0 +1,81 @@
+//! Marker A over marker B's events: its words and verdicts after a list of them.
+
+use crate::{Counts, Event};
+use marker_a::{rules, Kind};
+
+pub fn counts(c: Counts) -> marker_a::Counts {
+    marker_a::Counts { threads: c.threads as u32, variables: c.variables as u32, locks: c.locks as u32 }
+}
+
+pub fn event(e: &Event) -> marker_a::Event {
+    let kind = match e.letter {
+        b'U' => Kind::U,
+        b'A' => Kind::A,
+        b'L' => Kind::L,
+        b'S' => Kind::S,
+        b'R' => Kind::R,
+        b'W' => Kind::W,
+        b'K' => Kind::K,
+        b'N' => Kind::N,
+        b'P' => Kind::P,
+        b'B' => Kind::B,
+        _ => unreachable!("no such letter"),
+    };
+    let number = |n: usize| u32::try_from(n).unwrap_or(u32::MAX);
+    marker_a::Event { kind, thread: number(e.thread), target: number(e.place), value: e.value }
+}
+
+fn events(es: &[Event]) -> Vec<marker_a::Event> {
+    es.iter().map(event).collect()
+}
+
+/// The words and verdicts after these events.
+pub struct After {
+    counts: marker_a::Counts,
+    earlier: Vec<marker_a::Event>,
+}
+
+impl After {
+    pub fn new(c: Counts, es: &[Event]) -> After {
+        After { counts: counts(c), earlier: events(es) }
+    }
+
+    /// The refusal of the next event; none when it is accepted.
+    pub fn refusal(&self, e: &Event) -> Option<u32> {
+        Some(marker_a::judge(&self.earlier, self.counts, &event(e))).filter(|&number| number != 0)
+    }
+
+    /// Every rule of its row that the declared event breaks, in the row's order.
+    pub fn broken(&self, e: &Event) -> Vec<u32> {
+        let e = event(e);
+        let (_, row) = rules::ROWS.iter().find(|(kind, _)| *kind == e.kind).expect("a row for each kind");
+        row.iter().copied().filter(|&number| rules::breaks(number, &self.earlier, self.counts, &e)).collect()
+    }
+
+    pub fn fresh(&self, t: usize, v: usize) -> bool {
+        rules::fresh(&self.earlier, t as u32, v as u32)
+    }
+
+    pub fn owed(&self, t: usize, v: usize) -> bool {
+        rules::owed(&self.earlier, t as u32, v as u32)
+    }
+
+    /// Main memory, by variable.
+    pub fn main(&self) -> Vec<i32> {
+        (0..self.counts.variables).map(|v| rules::main_memory(&self.earlier, v)).collect()
+    }
+
+    /// Thread, variable and value of each usable copy.
+    pub fn copies(&self) -> Vec<(u32, u32, i32)> {
+        let cells = (0..self.counts.threads).flat_map(|t| (0..self.counts.variables).map(move |v| (t, v)));
+        cells
+            .filter(|&(t, v)| rules::usable(&self.earlier, t, v))
+            .filter_map(|(t, v)| rules::copy(&self.earlier, t, v).map(|x| (t, v, x)))
+            .collect()
+    }
+}
+
+/// What the program `mark` prints for a paper.
+pub fn mark(paper: &[u8]) -> String {
+    String::from_utf8(marker_a::mark(paper)).expect("a listing is ASCII")
+}

@@ -1,0 +1,234 @@
+//! Marker A against other markers, over generated papers.
+
+use crate::by_a::{self, After};
+use crate::generate::{self, candidates, Aim, Rng, DOUBLES, PAIRS};
+use crate::shrink::shrink;
+use crate::{expected, Counts, Event};
+use marker_b::State;
+use std::collections::BTreeMap;
+use std::panic::{catch_unwind, AssertUnwindSafe};
+
+/// Marks a paper by all markers, by marker A only where that is asked for: the listing that they agree on, or what differs.
+pub type Check = Box<dyn Fn(&[u8], bool) -> Result<String, String>>;
+
+/// Marker A against one other marker.
+pub fn against_a(other: impl Fn(&[u8]) -> String + 'static) -> Check {
+    Box::new(move |paper, _| {
+        let (a, b) = (by_a::mark(paper), other(paper));
+        if a == b {
+            Ok(a)
+        } else {
+            Err(format!("marker A:\n{a}other:\n{b}"))
+        }
+    })
+}
+
+/// Checks papers, and counts.
+pub struct Comparison {
+    check: Check,
+    pub passed: usize,
+    pub failed: usize,
+    /// how often each kind of answer occurred
+    pub answers: BTreeMap<String, usize>,
+}
+
+const PRINTED_FAILURES: usize = 20;
+const FEW: Counts = Counts { threads: 2, variables: 1, locks: 1 };
+
+/// The kind of a listing: the refusal, or what became of the order.
+fn kind(listing: &str) -> String {
+    let last = listing.lines().last().unwrap_or("");
+    let number = last.rsplit(' ').next().unwrap_or("");
+    match last.split(' ').next().unwrap_or("") {
+        "refused" => format!("refused {number:0>2}"),
+        "unordered" => format!("unordered {number}"),
+        "section" => match listing.lines().filter(|l| l.starts_with("section")).count() {
+            1 => "ordered, 1 section".to_string(),
+            2..=9 => "ordered, 2 to 9 sections".to_string(),
+            _ => "ordered, 10 sections and more".to_string(),
+        },
+        _ => "accepted, no section".to_string(),
+    }
+}
+
+/// Bytes as text, a line to a line; a long one is cut.
+fn shown(paper: &[u8]) -> String {
+    let mut text = paper.escape_ascii().to_string().replace("\\n", "\n");
+    if text.len() > 2_000 {
+        text.truncate(2_000);
+        text += "..\n";
+    }
+    text
+}
+
+impl Comparison {
+    pub fn with(check: Check) -> Comparison {
+        Comparison { check, passed: 0, failed: 0, answers: BTreeMap::new() }
+    }
+
+    fn checked(&self, paper: &[u8], with_a: bool) -> Result<String, String> {
+        catch_unwind(AssertUnwindSafe(|| (self.check)(paper, with_a))).unwrap_or_else(|_| Err("panic\n".to_string()))
+    }
+
+    fn count(&mut self, failure: Option<String>) {
+        match failure {
+            None => self.passed += 1,
+            Some(report) => {
+                self.failed += 1;
+                if self.failed <= PRINTED_FAILURES {
+                    println!("{report}");
+                }
+            }
+        }
+    }
+
+    /// One paper. A failure prints the smallest paper found that still fails.
+    pub fn paper(&mut self, name: &str, paper: &[u8], with_a: bool) {
+        let failure = match self.checked(paper, with_a) {
+            Ok(listing) => {
+                *self.answers.entry(kind(&listing)).or_insert(0) += 1;
+                None
+            }
+            Err(first) if self.failed < PRINTED_FAILURES => {
+                let small = shrink(paper, &|p| self.checked(p, with_a).is_err());
+                let differs = self.checked(&small, with_a).err().unwrap_or(first);
+                Some(format!("FAILED {name}, the smallest paper:\n{}{differs}", shown(&small)))
+            }
+            Err(_) => Some(String::new()),
+        };
+        self.count(failure);
+    }
+
+    /// The papers with known listings.
+    pub fn known(&mut self) {
+        for e in expected::papers() {
+            self.paper(&e.name, &e.paper, true);
+            let failure = match self.checked(&e.paper, true) {
+                Ok(listing) if listing == e.listing => None,
+                Ok(listing) => Some(format!("FAILED {}\n{}expected:\n{}got:\n{listing}", e.name, shown(&e.paper), e.listing)),
+                Err(_) => Some(format!("FAILED {}: the markers differ", e.name)),
+            };
+            self.count(failure);
+        }
+    }
+
+    /// Every trace of up to `most` events with two threads, one variable, one lock and two values, with its guard and without.
+    /// Nothing is looked at after a refused event, so a trace ends with its first one.
+    pub fn every_short_trace(&mut self, most: usize) {
+        let all = candidates(FEW, &[0, 1]);
+        for guards in [Some(&[0][..]), None] {
+            self.extend(guards, &all, most, &mut Vec::new(), &State::new(FEW, guards));
+        }
+    }
+
+    fn extend(&mut self, guards: Option<&[usize]>, all: &[Event], most: usize, events: &mut Vec<Event>, state: &State) {
+        self.paper("short trace", &generate::paper(FEW, guards, events), true);
+        if events.len() == most {
+            return;
+        }
+        let after = After::new(FEW, events);
+        for &e in all {
+            let refused = after.refusal(&e).is_some();
+            let mut next = state.clone();
+            let refused_too = next.step(e) != 0;
+            events.push(e);
+            if refused || refused_too {
+                self.paper("short trace", &generate::paper(FEW, guards, events), true);
+            } else {
+                self.extend(guards, all, most, events, &next);
+            }
+            events.pop();
+        }
+    }
+
+    /// The same, and a trace goes on after a refused event.
+    pub fn every_trace(&mut self, most: usize) {
+        let all = candidates(FEW, &[0, 1]);
+        let mut traces: Vec<Vec<Event>> = vec![Vec::new()];
+        for _ in 0..most {
+            traces = traces.iter().flat_map(|es| all.iter().map(|&e| [&es[..], &[e]].concat())).collect();
+            for events in &traces {
+                self.paper("trace", &generate::paper(FEW, Some(&[0]), events), true);
+            }
+        }
+    }
+
+    /// Short traces with one bad event, `each` for every letter and refusal, and for every two that one event can break at once;
+    /// guarded in half of the papers.
+    pub fn aimed(&mut self, seed: u64, each: usize) {
+        let mut rng = Rng::new(seed);
+        let mut aims = vec![Aim::Accepted, Aim::Undeclared, Aim::FreshAndOwed];
+        aims.extend(PAIRS.map(|(letter, number)| Aim::Refused(letter, number)));
+        aims.extend(DOUBLES.map(|(letter, number, later)| Aim::Both(letter, number, later)));
+        for aim in aims {
+            for _ in 0..each {
+                let s = generate::short(&mut rng, aim, 20);
+                let guards: Vec<usize> = (0..s.counts.variables).map(|_| rng.below(s.counts.locks)).collect();
+                let guards = rng.chance(50).then_some(&guards[..]);
+                let events: Vec<Event> = s.good.iter().copied().chain(s.bad.map(|(e, _)| e)).collect();
+                self.paper("aimed", &generate::paper(s.counts, guards, &events), true);
+            }
+        }
+    }
+
+    /// The papers of `number` seeds, marker A on the first `by_a` of them.
+    fn seeds(&mut self, name: &str, make: fn(u64) -> Vec<u8>, first: u64, number: u64, by_a: u64) {
+        for seed in first..first + number {
+            match catch_unwind(|| make(seed)) {
+                Ok(paper) => self.paper(&format!("{name} {seed}"), &paper, seed - first < by_a),
+                Err(_) => self.count(Some(format!("FAILED {name} {seed}: marker B panics while the paper is made"))),
+            }
+        }
+    }
+}
+
+/// How much is compared.
+#[derive(Clone, Copy)]
+pub struct Size {
+    /// the first seed
+    pub seed: u64,
+    /// accepted papers and papers with a bad event
+    pub random: u64,
+    /// papers with damaged bytes
+    pub damaged: u64,
+    /// papers near the limits, and on how many of them marker A is asked
+    pub large: u64,
+    pub large_by_a: u64,
+    /// papers for each aim
+    pub aimed: usize,
+    /// the length up to which every trace is compared
+    pub short: usize,
+}
+
+/// Compares all of it, prints each part and its answers. The numbers of papers that passed and failed.
+pub fn run(check: Check, size: Size) -> (usize, usize) {
+    std::panic::set_hook(Box::new(|_| {}));
+    let mut comparison = Comparison::with(check);
+    let mut before = 0;
+    let mut part = |name: &str, run: &dyn Fn(&mut Comparison)| {
+        let start = std::time::Instant::now();
+        run(&mut comparison);
+        let all = comparison.passed + comparison.failed;
+        println!("{name}: {} in {:.1} s", all - before, start.elapsed().as_secs_f64());
+        let answers: Vec<String> =
+            std::mem::take(&mut comparison.answers).into_iter().map(|(answer, n)| format!("{answer}: {n}")).collect();
+        println!("    {}", answers.join("; "));
+        before = all;
+    };
+    let Size { seed, random, damaged, large, large_by_a, aimed, short } = size;
+    part("known listings", &|c| c.known());
+    part("every short trace", &|c| c.every_short_trace(short));
+    part("every trace, past refused events too", &|c| c.every_trace(short.saturating_sub(2)));
+    part("aimed papers", &|c| c.aimed(seed, aimed));
+    part("random papers", &|c| c.seeds("seed", generate::random_paper, seed, random, random));
+    part("damaged papers", &|c| c.seeds("damaged seed", generate::damaged_paper, seed, damaged, damaged));
+    part("large papers", &|c| c.seeds("large seed", generate::large_paper, seed, large, large_by_a));
+    let _ = std::panic::take_hook();
+    (comparison.passed, comparison.failed)
+}
+
+/// The closing line, and the exit status.
+pub fn close((passed, failed): (usize, usize)) -> ! {
+    println!("{passed} passed, {failed} failed");
+    std::process::exit(i32::from(failed > 0))
+}

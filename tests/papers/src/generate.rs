@@ -1,0 +1,551 @@
+//! Papers and traces to mark.
+
+use crate::by_a::After;
+use crate::{Counts, Event};
+use marker_b::State;
+
+/// SplitMix64: the same seed gives the same papers.
+pub struct Rng(u64);
+
+impl Rng {
+    pub fn new(seed: u64) -> Rng {
+        Rng(seed)
+    }
+
+    pub fn next(&mut self) -> u64 {
+        self.0 = self.0.wrapping_add(0x9E37_79B9_7F4A_7C15);
+        let mut z = self.0;
+        z = (z ^ (z >> 30)).wrapping_mul(0xBF58_476D_1CE4_E5B9);
+        z = (z ^ (z >> 27)).wrapping_mul(0x94D0_49BB_1331_11EB);
+        z ^ (z >> 31)
+    }
+
+    /// A number below n.
+    pub fn below(&mut self, n: usize) -> usize {
+        (self.next() % n as u64) as usize
+    }
+
+    pub fn between(&mut self, a: usize, b: usize) -> usize {
+        a + self.below(b - a + 1)
+    }
+
+    /// True in `percent` of a hundred cases.
+    pub fn chance(&mut self, percent: usize) -> bool {
+        self.below(100) < percent
+    }
+
+    pub fn pick<T: Copy>(&mut self, list: &[T]) -> T {
+        list[self.below(list.len())]
+    }
+
+    /// An index, by weight.
+    pub fn weighted(&mut self, weights: &[usize]) -> usize {
+        let mut n = self.below(weights.iter().sum());
+        for (i, &w) in weights.iter().enumerate() {
+            if n < w {
+                return i;
+            }
+            n -= w;
+        }
+        unreachable!()
+    }
+}
+
+pub const LETTERS: &[u8; 10] = b"UALSRWKNPB";
+
+/// Every pair of a letter and a refusal of its row.
+pub const PAIRS: [(u8, u32); 25] = [
+    (b'U', 17),
+    (b'U', 18),
+    (b'L', 10),
+    (b'L', 13),
+    (b'L', 15),
+    (b'L', 16),
+    (b'L', 18),
+    (b'S', 13),
+    (b'S', 14),
+    (b'S', 17),
+    (b'S', 18),
+    (b'S', 19),
+    (b'R', 18),
+    (b'R', 19),
+    (b'W', 10),
+    (b'W', 18),
+    (b'K', 11),
+    (b'K', 13),
+    (b'N', 12),
+    (b'N', 15),
+    (b'N', 16),
+    (b'P', 13),
+    (b'P', 19),
+    (b'B', 10),
+    (b'B', 18),
+];
+
+/// Every letter and two refusals of its row that one event can break at once; the first is the answer.
+pub const DOUBLES: [(u8, u32, u32); 27] = [
+    (b'U', 17, 18),
+    (b'L', 10, 13),
+    (b'L', 10, 15),
+    (b'L', 10, 16),
+    (b'L', 13, 15),
+    (b'L', 13, 16),
+    (b'L', 13, 18),
+    (b'L', 15, 16),
+    (b'L', 15, 18),
+    (b'L', 16, 18),
+    (b'S', 13, 14),
+    (b'S', 13, 17),
+    (b'S', 13, 18),
+    (b'S', 13, 19),
+    (b'S', 14, 17),
+    (b'S', 14, 18),
+    (b'S', 14, 19),
+    (b'S', 17, 18),
+    (b'S', 17, 19),
+    (b'S', 18, 19),
+    (b'R', 18, 19),
+    (b'K', 11, 13),
+    (b'N', 12, 15),
+    (b'N', 12, 16),
+    (b'N', 15, 16),
+    (b'P', 13, 19),
+    (b'B', 10, 18),
+];
+
+/// Every event with these numbers and values.
+pub fn candidates(c: Counts, values: &[i32]) -> Vec<Event> {
+    let mut list = Vec::new();
+    for thread in 0..c.threads {
+        for &letter in LETTERS {
+            let lock = matches!(letter, b'K' | b'N');
+            for place in 0..if lock { c.locks } else { c.variables } {
+                for &value in if lock { &[0][..] } else { values } {
+                    list.push(Event { letter, thread, place, value });
+                }
+            }
+        }
+    }
+    list
+}
+
+/// A short trace: accepted events, and at most one after them that is refused with this number.
+pub struct Short {
+    pub counts: Counts,
+    pub good: Vec<Event>,
+    pub bad: Option<(Event, u32)>,
+}
+
+/// What the bad event of a short trace is to be.
+#[derive(Clone, Copy)]
+pub enum Aim {
+    Accepted,
+    Undeclared,
+    /// An event of this letter, refused with this number.
+    Refused(u8, u32),
+    /// The same, and it breaks this later rule of its row too.
+    Both(u8, u32, u32),
+    /// N while T has a fresh assign and owes on the same variable, the early store written.
+    FreshAndOwed,
+}
+
+/// A short trace of at most `most` events, by marker A.
+pub fn short(rng: &mut Rng, aim: Aim, most: usize) -> Short {
+    loop {
+        let counts = Counts { threads: rng.between(2, 3), variables: rng.between(2, 3), locks: rng.between(2, 3) };
+        let mut values = vec![0];
+        while values.len() < 3 {
+            let x = rng.pick(&[1, 5, -1, -7, 100, i32::MAX, i32::MIN]);
+            if !values.contains(&x) {
+                values.push(x);
+            }
+        }
+        let all = candidates(counts, &values);
+        let mut weights: Vec<usize> = (0..10).map(|_| rng.pick(&[1, 2, 2, 3, 6])).collect();
+        let mut focus_percent = rng.pick(&[0, 50, 80]);
+        let focus = (rng.below(counts.threads), rng.below(counts.variables));
+        if let Aim::Refused(letter, 19) | Aim::Both(letter, _, 19) = aim {
+            focus_percent = 97;
+            weights = LETTERS.iter().map(|l| if b"ASPRBWK".contains(l) { 1 } else { 0 }).collect();
+            let heavy: &[(u8, usize)] = match letter {
+                b'R' => &[(b'R', 40)],
+                _ => rng.pick(&[[(b'A', 4), (b'S', 60)].as_slice(), &[(b'P', 40), (b'B', 40)]]),
+            };
+            for (i, l) in LETTERS.iter().enumerate() {
+                if let Some((_, w)) = heavy.iter().find(|(h, _)| h == l) {
+                    weights[i] = *w;
+                }
+            }
+        }
+        let wanted = rng.between(0, most - 1);
+        let mut good: Vec<Event> = Vec::new();
+        loop {
+            let near = |e: &Event| e.thread == focus.0 && (e.is_lock() || e.place == focus.1);
+            let after = After::new(counts, &good);
+            let verdicts: Vec<Option<u32>> = all.iter().map(|e| after.refusal(e)).collect();
+            if good.len() >= wanted {
+                let fit: Vec<(Event, u32)> = match aim {
+                    Aim::Accepted if good.len() == most => return Short { counts, good, bad: None },
+                    Aim::Accepted => Vec::new(),
+                    Aim::Undeclared => {
+                        let mut e = rng.pick(&all);
+                        match rng.below(3) {
+                            0 => e.thread = counts.threads + rng.below(3),
+                            1 => e.place = if e.is_lock() { counts.locks } else { counts.variables },
+                            _ => (e.thread, e.place) = (7, 15),
+                        }
+                        vec![(e, 5)]
+                    }
+                    Aim::Refused(letter, number) => all
+                        .iter()
+                        .zip(&verdicts)
+                        .filter(|(e, &r)| e.letter == letter && r == Some(number))
+                        .map(|(&e, _)| (e, number))
+                        .collect(),
+                    Aim::Both(letter, number, later) => all
+                        .iter()
+                        .zip(&verdicts)
+                        .filter(|(e, &r)| e.letter == letter && r == Some(number))
+                        .filter(|(e, _)| after.broken(e).contains(&later))
+                        .map(|(&e, _)| (e, number))
+                        .collect(),
+                    Aim::FreshAndOwed => all
+                        .iter()
+                        .zip(&verdicts)
+                        .filter(|(e, &r)| e.letter == b'N' && r == Some(15))
+                        .filter(|(e, _)| after.broken(e) == [15])
+                        .filter(|(e, _)| (0..counts.variables).all(|v| !after.fresh(e.thread, v) || after.owed(e.thread, v)))
+                        .map(|(&e, _)| (e, 15))
+                        .collect(),
+                };
+                if !fit.is_empty() {
+                    let bad = rng.pick(&fit);
+                    return Short { counts, good, bad: Some(bad) };
+                }
+            }
+            if good.len() + 1 >= most && !matches!(aim, Aim::Accepted) {
+                break;
+            }
+            let focused = rng.chance(focus_percent);
+            let open: Vec<Event> =
+                all.iter().zip(&verdicts).filter(|(e, r)| r.is_none() && (!focused || near(e))).map(|(&e, _)| e).collect();
+            // by letter first, so that kinds with many events do not crowd out the others
+            let shares: Vec<usize> =
+                (0..10).map(|i| if open.iter().any(|e| e.letter == LETTERS[i]) { weights[i] } else { 0 }).collect();
+            if shares.iter().sum::<usize>() == 0 {
+                continue;
+            }
+            let letter = LETTERS[rng.weighted(&shares)];
+            let of_letter: Vec<Event> = open.into_iter().filter(|e| e.letter == letter).collect();
+            good.push(rng.pick(&of_letter));
+        }
+    }
+}
+
+// ---- papers
+
+/// The bytes of a paper: head, `G` line and body with the trailer that counts right.
+pub fn close(mut body: Vec<u8>) -> Vec<u8> {
+    let n = body.len();
+    body.extend(format!("Z {n}\n").bytes());
+    body
+}
+
+pub fn paper(counts: Counts, guards: Option<&[usize]>, events: &[Event]) -> Vec<u8> {
+    let mut text = format!("H {} {} {}\nG", counts.threads, counts.variables, counts.locks);
+    match guards {
+        None => text += " -",
+        Some(list) => list.iter().for_each(|l| text += &format!(" {l}")),
+    }
+    text += "\n";
+    for e in events {
+        text += &e.line();
+        text += "\n";
+    }
+    close(text.into_bytes())
+}
+
+/// How a long trace is made.
+struct Style {
+    /// weights of the letters, as in `LETTERS`
+    weights: [usize; 10],
+    /// in how many of a hundred events the order's rules are kept
+    discipline: usize,
+    /// in how many of a hundred events the thread stays the same as before
+    stay: usize,
+    values: Vec<i32>,
+}
+
+fn style(rng: &mut Rng) -> Style {
+    let weights = match rng.below(8) {
+        // U A L S R W K N P B
+        0 | 1 => [6, 5, 6, 6, 6, 6, 2, 2, 3, 5],
+        // early stores, with assigns and uses between P and B
+        2 => [6, 5, 3, 3, 4, 5, 1, 1, 8, 2],
+        // stores outstanding
+        3 => [3, 8, 2, 12, 2, 2, 1, 1, 4, 6],
+        // reads outstanding over locks
+        4 => [3, 2, 2, 2, 12, 4, 4, 4, 1, 2],
+        // locks, nested and repeated
+        5 => [3, 3, 3, 4, 3, 6, 8, 6, 1, 3],
+        // loads
+        6 => [6, 2, 10, 4, 10, 6, 2, 3, 1, 3],
+        _ => std::array::from_fn(|_| rng.pick(&[1, 2, 4, 8])),
+    };
+    let mut values = vec![0];
+    for _ in 0..rng.between(1, 4) {
+        values.push(rng.pick(&[1, 2, 5, -1, -7, 100, 65_536, 123_456_789, i32::MAX, i32::MIN]));
+    }
+    Style { weights, discipline: rng.pick(&[100, 100, 100, 98, 60, 0]), stay: rng.pick(&[0, 50, 90]), values }
+}
+
+fn any_event(rng: &mut Rng, counts: Counts, values: &[i32]) -> Event {
+    let letter = rng.pick(LETTERS);
+    let lock = matches!(letter, b'K' | b'N');
+    Event {
+        letter,
+        thread: rng.below(counts.threads),
+        place: if lock { rng.below(counts.locks.max(1)) } else { rng.below(counts.variables) },
+        value: if lock { 0 } else { rng.pick(values) },
+    }
+}
+
+/// An accepted event of thread t, by the style; none where there is none.
+fn open_event(rng: &mut Rng, state: &State, style: &Style, t: usize, closing: bool) -> Option<Event> {
+    let counts = state.counts();
+    let keep = closing || rng.chance(style.discipline);
+    let mut open: [Vec<Event>; 10] = Default::default();
+    for (i, &letter) in LETTERS.iter().enumerate() {
+        if closing && !b"SWNB".contains(&letter) {
+            continue;
+        }
+        let lock = matches!(letter, b'K' | b'N');
+        for place in 0..if lock { counts.locks } else { counts.variables } {
+            let value = if lock { 0 } else { state.due(letter, t, place).unwrap_or_else(|| rng.pick(&style.values)) };
+            let e = Event { letter, thread: t, place, value };
+            if state.judge(e) == 0 && !(keep && state.denies(e)) {
+                open[i].push(e);
+            }
+        }
+    }
+    let shares: Vec<usize> = (0..10).map(|i| if open[i].is_empty() { 0 } else { style.weights[i] }).collect();
+    if shares.iter().sum::<usize>() == 0 {
+        return None;
+    }
+    let i = rng.weighted(&shares);
+    Some(rng.pick(&open[i]))
+}
+
+/// Counts, guards and events of a paper; accepted but for the bad events that are put in, so many in a hundred. An orderly paper
+/// has guards, keeps the order's rules, and ends with nothing held, owed or outstanding.
+pub fn long(rng: &mut Rng, length: usize, bad_percent: usize, orderly: bool) -> (Counts, Option<Vec<usize>>, Vec<Event>) {
+    let mut counts = match rng.below(10) {
+        0 => Counts { threads: 8, variables: 16, locks: 8 },
+        1 => Counts { threads: rng.between(1, 8), variables: rng.between(1, 16), locks: rng.between(0, 8) },
+        2 => Counts { threads: 1, variables: 1, locks: rng.between(0, 2) },
+        _ => Counts { threads: rng.between(1, 3), variables: rng.between(1, 3), locks: rng.between(1, 3) },
+    };
+    if orderly {
+        counts.locks = counts.locks.max(1);
+    }
+    let guarded = counts.locks > 0 && (orderly || rng.chance(65));
+    let guards: Option<Vec<usize>> = guarded.then(|| (0..counts.variables).map(|_| rng.below(counts.locks)).collect());
+    let mut style = style(rng);
+    if orderly {
+        style.discipline = 100;
+    }
+    let mut state = State::new(counts, guards.as_deref());
+    let mut events = Vec::new();
+    let mut t = 0;
+    let mut tries = 0;
+    while events.len() < length && tries < 4 * length + 100 {
+        tries += 1;
+        if bad_percent > 0 && rng.chance(bad_percent) {
+            let mut e = any_event(rng, counts, &style.values);
+            if rng.chance(10) {
+                e.thread = rng.below(9);
+            }
+            if rng.chance(10) {
+                e.place = rng.below(17);
+            }
+            state.step(e);
+            events.push(e);
+        }
+        if !rng.chance(style.stay) {
+            t = rng.below(counts.threads);
+        }
+        if let Some(e) = open_event(rng, &state, &style, t, false) {
+            assert_eq!(state.step(e), 0);
+            events.push(e);
+        }
+    }
+    // most papers end with nothing held, owed or outstanding
+    if orderly || rng.chance(80) {
+        for t in 0..counts.threads {
+            while state.busy(t) {
+                let Some(e) = open_event(rng, &state, &style, t, true) else { break };
+                assert_eq!(state.step(e), 0);
+                events.push(e);
+            }
+        }
+    }
+    (counts, guards, events)
+}
+
+const FIELDS: [&[u8]; 24] = [
+    b"0",
+    b"1",
+    b"7",
+    b"8",
+    b"9",
+    b"15",
+    b"16",
+    b"17",
+    b"00",
+    b"01",
+    b"-0",
+    b"-1",
+    b"+1",
+    b"",
+    b"-",
+    b"2147483647",
+    b"2147483648",
+    b"-2147483648",
+    b"-2147483649",
+    b"4294967296",
+    b"18446744073709551616",
+    b"99999999999999999999999999999999999999999999",
+    b"x",
+    b" ",
+];
+
+/// Changes some bytes of a paper; the trailer then counts right in half of the papers.
+pub fn damage(rng: &mut Rng, paper: &[u8]) -> Vec<u8> {
+    let before = paper[..paper.len() - 1].iter().rposition(|&b| b == 10).map_or(0, |i| i + 1);
+    let mut body = paper[..before].to_vec();
+    let mut whole = rng.chance(30);
+    if whole {
+        body = paper.to_vec();
+    }
+    for _ in 0..rng.between(1, 2) {
+        let at = rng.below(body.len().max(1)).min(body.len());
+        let starts: Vec<usize> =
+            std::iter::once(0).chain(body.iter().enumerate().filter(|(_, &b)| b == 10).map(|(i, _)| i + 1)).collect();
+        match rng.below(12) {
+            0 if at < body.len() => {
+                body.remove(at);
+            }
+            1 => body.insert(at, rng.pick(b"0123456789 -+UALSRWKNPBHGZz\n\r\t\0")),
+            2 if at < body.len() => body[at] = rng.pick(b"0123456789 -+UALSRWKNPBHGZz\n\r\t\0\xff"),
+            3 if at < body.len() => body[at] = rng.next() as u8,
+            // a field that is another
+            4..=7 => {
+                let end = (at..body.len()).find(|&i| matches!(body[i], b' ' | 10)).unwrap_or(body.len());
+                let start = (0..end).rev().find(|&i| matches!(body[i], b' ' | 10)).map_or(0, |i| i + 1);
+                let field = rng.pick(&FIELDS);
+                body.splice(start..end, field.iter().copied());
+            }
+            // a line twice, away, or one that is no event
+            8 => {
+                let s = rng.pick(&starts);
+                let e = (s..body.len()).find(|&i| body[i] == 10).map_or(body.len(), |i| i + 1);
+                let line = body[s..e].to_vec();
+                body.splice(s..s, line);
+            }
+            9 => {
+                let s = rng.pick(&starts);
+                let e = (s..body.len()).find(|&i| body[i] == 10).map_or(body.len(), |i| i + 1);
+                body.drain(s..e);
+            }
+            10 => {
+                let s = rng.pick(&starts);
+                let line: &[u8] = rng.pick(&[
+                    b"\n".as_slice(),
+                    b"Z 0\n",
+                    b"G -\n",
+                    b"H 1 1 1\n",
+                    b"K 0\n",
+                    b"K 0 0 0\n",
+                    b"U 0 0\n",
+                    b"U 0 0 0 0\n",
+                    b"A 0 0 0 \n",
+                    b" A 0 0 0\n",
+                    b"A  0 0 0\n",
+                    b"A 0 0 0\r\n",
+                    b"a 0 0 0\n",
+                    b"AA 0 0 0\n",
+                    b"A 9 99 0\n",
+                    b"A 0 0 -0\n",
+                    b"N 0 -1\n",
+                ]);
+                body.splice(s..s, line.iter().copied());
+            }
+            _ => {
+                body.truncate(at);
+                whole = whole || rng.chance(50);
+            }
+        }
+    }
+    if whole {
+        body
+    } else {
+        close(body)
+    }
+}
+
+/// A short paper of this seed: accepted, or with bad events.
+pub fn random_paper(seed: u64) -> Vec<u8> {
+    short_paper(&mut Rng::new(seed))
+}
+
+fn short_paper(rng: &mut Rng) -> Vec<u8> {
+    let length = match rng.below(100) {
+        0..=4 => rng.between(0, 3),
+        5..=79 => rng.between(4, 40),
+        80..=98 => rng.between(40, 120),
+        _ => rng.between(120, 400),
+    };
+    let bad_percent = rng.pick(&[0, 0, 0, 2, 5]);
+    let (counts, guards, events) = long(rng, length, bad_percent, false);
+    paper(counts, guards.as_deref(), &events)
+}
+
+/// A short paper with damaged bytes.
+pub fn damaged_paper(seed: u64) -> Vec<u8> {
+    let mut rng = Rng::new(seed ^ 0x5555_0000_0000_0000);
+    let whole = short_paper(&mut rng);
+    damage(&mut rng, &whole)
+}
+
+/// A paper near the limits: about 2,000 events, or about 65,536 bytes.
+pub fn large_paper(seed: u64) -> Vec<u8> {
+    let mut rng = Rng::new(seed);
+    if rng.chance(25) {
+        let mut body = b"H 1 1 1\nG 0\n".to_vec();
+        let field = vec![b'9'; 60_000 + rng.below(6_000)];
+        body.extend(rng.pick(&[b"A ".as_slice(), b"A 0 ", b"A 0 0 ", b"A 0 0 -", b"K ", b"N 0 "]));
+        body.extend(field);
+        body.extend(rng.pick(&[b" 0 0\n".as_slice(), b" 0\n", b"\n"]));
+        return close(body);
+    }
+    // half of these papers have an order
+    if rng.chance(50) {
+        let length = 1_600 + rng.below(350);
+        let (counts, guards, events) = long(&mut rng, length, 0, true);
+        return paper(counts, guards.as_deref(), &events);
+    }
+    let length = 1_900 + rng.below(140);
+    let (counts, guards, mut events) = long(&mut rng, length, 0, false);
+    // in half of the others one event of the last hundred is another
+    if rng.chance(50) {
+        let at = events.len().saturating_sub(1 + rng.below(100));
+        if let Some(e) = events.get_mut(at) {
+            *e = any_event(&mut rng, counts, &[0, 1, 5]);
+        }
+    }
+    // and some go on past 2,000 events
+    while events.len() < length {
+        events.push(any_event(&mut rng, counts, &[0, 1, 5]));
+    }
+    paper(counts, guards.as_deref(), &events)
+}

@@ -1,0 +1,10 @@
+//! Papers to mark, and what compares markers on them.
+
+pub mod antt;
+pub mod by_a;
+pub mod compare;
+pub mod expected;
+pub mod generate;
+pub mod shrink;
+
+pub use marker_b::{Counts, Event};

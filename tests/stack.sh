@@ -1,0 +1,138 @@
+#!/usr/bin/env bash
+# Every program and every C entry on a stack of 512 KB, or of another size: each must answer, and as marker A does.
+#   tests/stack.sh [KB]
+# The papers are long in each part that is read. Prints how much stack each needs. The last line is 'N passed, M failed'.
+set -u
+export LC_ALL=C
+cd "$(dirname "$0")/.." || exit 2
+KB=${1:-512}
+work=$(mktemp -d) || exit 2
+trap 'rm -rf "$work"' EXIT
+passed=0
+failed=0
+A=tests/marker_a/target/release/marker_a
+stack=target/c_program/stack
+
+mkdir -p target/c_program
+tests/library &&
+    cc -std=c11 -O1 -Wall -Wextra -Werror -Iinclude -o $stack tests/c_program/stack.c target/staticlib/libc_api.a -pthread &&
+    cargo build --release --offline --quiet --manifest-path tests/marker_a/Cargo.toml || exit 2
+[ -x target/bin/mark ] || rt check mark > /dev/null || exit 2
+
+# ---- the papers
+
+# so many times this byte
+times() { printf '%*s' "$1" '' | tr ' ' "$2"; }
+# the lines on standard input, with their trailer
+closed() { cat > "$work/body" && cat "$work/body" && printf 'Z %d\n' "$(wc -c < "$work/body")"; }
+paper() { cat > "$work/$1.paper"; }
+many=65000
+digits() { times $many 9; }
+
+printf '' | paper empty
+{ times 65535 ' '; echo; } | paper spaces
+{ times 65535 ' '; } | paper spaces-without-end
+{ printf H; times $many ' '; } | paper head-without-end
+{ printf H; times $many ' '; printf '\nG -\n'; } | closed | paper head-of-spaces
+{ printf 'H 2 2 2\nG'; times $many ' '; echo; } | closed | paper guards-of-spaces
+{ printf 'H 2 2 2\nG -\n'; times $many ' '; echo; } | closed | paper event-of-spaces
+{ printf 'H 2 2 2\nG -\nA'; times $many ' '; echo; } | closed | paper event-of-a-letter-and-spaces
+{ printf 'H 2 2 2\nG -\nZ'; times $many ' '; echo; } | paper trailer-of-spaces
+{ printf 'H '; digits; printf ' 1 1\nG -\n'; } | closed | paper digits-in-the-head
+{ printf 'H 1 1 1\nG '; digits; echo; } | closed | paper digits-in-a-guard
+{ printf 'H 1 1 1\nG -\nA '; digits; printf ' 0 0\n'; } | closed | paper digits-in-a-thread
+{ printf 'H 1 1 1\nG -\nA 0 '; digits; printf ' 0\n'; } | closed | paper digits-in-a-variable
+{ printf 'H 1 1 1\nG -\nK 0 '; digits; echo; } | closed | paper digits-in-a-lock
+{ printf 'H 1 1 1\nG -\nA 0 0 -'; digits; echo; } | closed | paper digits-in-a-value
+{ printf 'H 1 1 1\nG -\nA 0 0 '; times $many 0; echo; } | closed | paper zeros-in-a-value
+{ printf 'H 1 1 1\nG -\nZ '; digits; echo; } | paper digits-in-the-trailer
+{ printf 'H 1 1 1\nG -\nZ '; times $many 0; echo; } | paper zeros-in-the-trailer
+{ times 65536 '\n'; } | paper lines
+{ printf 'H 1 1 1\nG -\n'; times $many '\n'; } | closed | paper empty-event-lines
+{ times 65537 ' '; } | paper 65537-bytes
+{ printf 'H 1 1 1\nG -\nA '; times 65512 9; printf ' 0 0\n'; } | closed | paper 65537-bytes-closed
+awk 'BEGIN { print "H 8 16 8\nG -"; for (i = 0; i < 2000; i++) print "A", i % 8, i % 16, "-21474" (80000 + i) }' | closed | paper 2000-events
+awk 'BEGIN { print "H 8 16 8\nG -"; for (i = 0; i < 2001; i++) print "K", 0, i % 8 }' | closed | paper 2001-events
+awk 'BEGIN { print "H 1 1 1\nG 0\nK 0 0\nR 0 0 0\nL 0 0 0"; for (i = 0; i < 1996; i++) print "U 0 0 0"; print "U 0 0 1" }' |
+    closed | paper last-event-refused
+# 808 sections and 128 copies of long values
+awk 'BEGIN {
+    printf "H 8 16 8\nG"; for (v = 0; v < 16; v++) printf " 0"; print ""
+    for (i = 0; i < 800; i++) print "K 0 0\nN 0 0"
+    for (t = 0; t < 8; t++) {
+        print "K", t, 0
+        for (v = 0; v < 16; v++) { x = "-21474" (80000 + 16 * t + v); print "A", t, v, x; print "S", t, v, x; print "W", t, v, x }
+        print "N", t, 0
+    }
+}' | closed | paper long-listing
+# an order that is denied at the trailer
+awk 'BEGIN { print "H 8 1 8\nG 0"; for (i = 0; i < 2000; i++) print "K", i % 8, i % 8 }' | closed | paper locks-held-at-the-end
+
+# ---- who answers what
+
+# check NAME PAPER WANTED: the command's answer stands in $work/got, its status in $status
+check() {
+    if [ "$status" -eq 0 ] && cmp -s "$3" "$work/got"; then
+        passed=$((passed + 1))
+        return 0
+    fi
+    failed=$((failed + 1))
+    echo "$1, $2: status $status"
+    [ "$status" -eq 0 ] && diff "$3" "$work/got" | sed -n '1,5p'
+    return 1
+}
+
+# entry NAME PAPER WANTED: an entry of the C interface
+entry() {
+    { (ulimit -c 0; exec $stack "$1" "$KB" < "$2" > "$work/got" 2> "$work/need"); status=$?; } 2> /dev/null
+    check "dabzhoni_$1" "$(basename "$2" .paper)" "$3"
+    grep '^dabzhoni_' "$work/need" >> "$work/needs"
+}
+
+# on KB PROGRAM: a program on a stack of so many KB
+on() { (ulimit -c 0; ulimit -s "$1" && exec "$2"); }
+
+touch "$work/needs"
+for p in "$work"/*.paper; do
+    $A < "$p" > "$work/a"
+    sed '/^section /d;/^unordered /d' "$work/a" > "$work/a-unordered"
+    on "$KB" target/bin/mark < "$p" > "$work/got" 2> /dev/null
+    status=$?
+    check mark "$(basename "$p" .paper)" "$work/a"
+    entry mark "$p" "$work/a"
+    entry mark_unordered "$p" "$work/a-unordered"
+done
+for name in 2000-events 2001-events last-event-refused long-listing locks-held-at-the-end; do
+    $A < "$work/$name.paper" | head -n 1 > "$work/a"
+    entry step "$work/$name.paper" "$work/a"
+done
+for kind in 1 2 3 4 5 6 7 8 9 10; do echo 8 0; done > "$work/a"
+entry out_of_range /dev/null "$work/a"
+# every other program that has an output to be held to
+for stdout in crates/*/stdout; do
+    program=$(basename "$(dirname "$stdout")")
+    [ -x "target/bin/$program" ] || continue
+    input=crates/$program/stdin
+    [ -f "$input" ] || input=/dev/null
+    on "$KB" "target/bin/$program" < "$input" > "$work/got" 2> /dev/null
+    status=$?
+    check "$program" "its own input" "$stdout"
+done
+
+# ---- what each needs
+
+echo "bytes of stack touched at most:"
+sort "$work/needs" | awk '$2 > most[$1] { most[$1] = $2 } END { for (e in most) print "    " e ": " most[e] }' | sort
+# the least stack on which `mark` answers a paper
+least() {
+    local low=16 high=$((2 * KB)) middle
+    while [ $((high - low)) -gt 4 ]; do
+        middle=$(((low + high) / 2))
+        if on "$middle" target/bin/mark < "$1" 2> /dev/null | cmp -s - "$2"; then high=$middle; else low=$middle; fi
+    done
+    echo $high
+}
+$A < "$work/long-listing.paper" > "$work/a"
+echo "    mark, the whole program: $(least "$work/long-listing.paper" "$work/a") KB (ulimit -s)"
+echo "$passed passed, $failed failed"
+[ "$failed" -eq 0 ] && [ "$passed" -gt 0 ]
