@@ -187,6 +187,36 @@ fn traces() {
     marked(&TRACE, 2000, 32768, 1000, 1999);
 }
 
+// ---- Rows of numbers.
+
+fn rows() {
+    show(b"rows of numbers\n", 16);
+    let h = Counts {
+        threads: 1,
+        variables: 1,
+        locks: 1,
+    };
+    let none = Counts {
+        threads: 0,
+        variables: 1,
+        locks: 1,
+    };
+    let a = records::pack(made(0, Kind::Assign(0, 5)));
+    let l = records::pack(made(0, Kind::Load(0, 5)));
+    let values: [Value; 2] = [5, 5];
+    let r = machine::mark_row(h, &[a], &values[..1]);
+    said(r.verdict);
+    let memories = r.memories;
+    let copy = memories.copies[0];
+    numbers(copy.usable as usize, 0, 0);
+    value(copy.value);
+    said(machine::mark_row(h, &[a, l], &values).verdict);
+    said(machine::mark_row(h, &[a, 0], &values).verdict);
+    said(machine::mark_row(h, &[a, a + 1], &values).verdict);
+    said(machine::mark_row(h, &[a], &values).verdict);
+    said(machine::mark_row(none, &[a], &values[..1]).verdict);
+}
+
 // ---- Writers.
 
 fn canonical() {
@@ -277,6 +307,7 @@ fn main() {
     show(b"more than there are\n", 20);
     fill(9);
     traces();
+    rows();
     canonical();
     limits();
     part();
