@@ -3,7 +3,7 @@
 use Prim.Native.Nat.{ℕ, _+_, _*_, _%_, _≤_, _<_}
 use native.Mathlib.Omega.{arith}
 use mathlib.Core.Path.{_≡_, refl, sym, ap, _∙_, subst}
-use mathlib.Core.Bool.{Bool, true, false, not, cond, _&&_, or-false}
+use mathlib.Core.Bool.{Bool, true, false, not, cond, or-false}
 use mathlib.Core.List.{List, [], _∷_}
 use lib.Dec.{T, eqb}
 use lib.IntN.{ℤ}
@@ -23,18 +23,17 @@ use Rattle.rules.specs.declared.Main.{Main}
 use Rattle.state.specs.declared.State.{State}
 use Rattle.state.specs.State.{noSlot, noHold, noMain, blank, queued, cellAt, readsAt, storesAt, wordsIn}
 use Rattle.state.specs.Step.{nextCell, readAfter, storeAfter, holdAfter, mainAfter, lockedAfter, varOf, lockOf, Within, behind, stepState}
-use Rattle.state.specs.Computed.Places.{cellPlace, slotPlace, Shape}
-use Rattle.state.proofs.LeafLaws.{cond-same, place-is, slot-is, cell-same, cell-read}
+use Rattle.state.specs.Computed.Places.{cellPlace, slotPlace}
+use Rattle.state.proofs.LeafLaws.{place-is, slot-is, cell-same, cell-read}
 use Rattle.state.proofs.Letters.{by-letters, disjoint, none-of}
 use Rattle.state.proofs.Rings.{queued-length, queued-none, queued-first}
-use Rattle.state.proofs.StepWords.{cell-after}
 use Rattle.judging.specs.declared.OnSome.{OnSome}
 use Rattle.judging.specs.declared.CellTurn.{CellTurn}
 use Rattle.judging.specs.declared.ReadsTurn.{ReadsTurn}
 use Rattle.judging.specs.declared.StoresTurn.{StoresTurn}
 use Rattle.judging.specs.declared.LockTurn.{LockTurn}
 use Rattle.judging.specs.Computed.Checks.{oldestOf, rowOf}
-use Rattle.judging.specs.Computed.Turns.{holdFor, cellTurn, readsWith, readsTurn, storesWith, storesTurn, lockTurn, someOf}
+use Rattle.judging.specs.Computed.Turns.{holdFor, useRule, cellTurn, readsWith, readsTurn, storesWith, storesTurn, lockTurn, someOf}
 use Rattle.judging.proofs.Locks.{others-same}
 
 -- an event by its numbers
@@ -122,12 +121,12 @@ cell-off : (k : ℕ) → T (among (K ∷ N ∷ []) k) → (p : ℕ) (r : Slot) (
 unfolding nextCell
 cell-off k h p r x c = by-letters (λ k. nextCell p r k x c ≡ c) (K ∷ N ∷ []) (refl, (refl, tt)) k h
 
-hold-same : (a : Hold) (t k : ℕ) → t < 8 → a .depth < 2000 → holdFor a t k ≡ holdAfter a t k
+pub hold-same : (a : Hold) (t k : ℕ) → t < 8 → a .depth < 2000 → holdFor a t k ≡ holdAfter a t k
 unfolding holdFor
 hold-same a t k h l = rw (lt-ltb t 8 h, lt-ltb (a .depth) 2000 l) refl
 
 -- the oldest of a queue, read at its first place
-oldest-is : (ss : List Slot) (q : Ring) {i f : ℕ} → i < 128 → f ≡ slotPlace i q 0 → oldestOf q (getD ss f noSlot) ≡ first (queued ss i q)
+pub oldest-is : (ss : List Slot) (q : Ring) {i f : ℕ} → i < 128 → f ≡ slotPlace i q 0 → oldestOf q (getD ss f noSlot) ≡ first (queued ss i q)
 unfolding oldestOf
 oldest-is ss q {i} h e = rw (slot-is i q 0 h e, queued-first ss i q) (ap (λ (n : ℕ). cond (eqb (q .len) 0) noSlot (getD ss (8 * i + n % 8) noSlot)) (let z : q .first + 0 ≡ q .first = omega arith in z))
 
@@ -204,6 +203,26 @@ module _ (s : State) (e : Event) {t v k : ℕ} {x : ℤ} (n : By e t v k x) (w :
       holds = holds-off s e (off (U ∷ A ∷ B ∷ []) (K ∷ []) tt h) (off (U ∷ A ∷ B ∷ []) (N ∷ []) tt h) j;
       memory = memory-off s e (off (U ∷ A ∷ B ∷ []) (W ∷ []) tt h) j;
     }
+
+  -- a use, which leaves everything
+  module _ (h : k ≡ U) where
+    used : T (among (U ∷ A ∷ B ∷ []) k)
+    used = subst (λ (m : ℕ). T (among (U ∷ A ∷ B ∷ []) m)) (sym h) tt
+
+    pub use-rule : {i : ℕ} → i ≡ cellPlace t v → {r : ℕ} → r ≡ useRule (getD (s .cells) i blank) (getD (s .locked) t 0) x → r ≡ judge (s .counts) (wordsIn s) e
+    use-rule {i} ei er =
+        let c = getD (s .cells) i blank in
+        let q = getD (s .locked) t 0 in
+        let a : useRule c q x ≡ cellTurn c q U x p .rule = unfold useRule cellTurn in refl in
+        er ∙ a ∙ ap (λ (m : ℕ). cellTurn c q m x p .rule) (sym h) ∙ cell-rule used ei refl
+
+    pub use-put : _≡_ {A = State} (record { counts = s .counts; events = p; cells = s .cells; reads = s .reads; stores = s .stores; locked = s .locked; holds = s .holds; memory = s .memory }) (stepState s e)
+    use-put =
+        let c = getD (s .cells) (cellPlace t v) blank in
+        let q = getD (s .locked) t 0 in
+        let a : c ≡ cellTurn c q U x p .cell = unfold cellTurn in refl in
+        let b : s .cells ≡ set (s .cells) (cellPlace t v) (cellTurn c q k x p .cell) = sym (set-getD (s .cells) (cellPlace t v) blank) ∙ ap (set (s .cells) (cellPlace t v)) (a ∙ ap (λ (m : ℕ). cellTurn c q m x p .cell) (sym h)) in
+        (λ j. record { counts = s .counts; events = p; cells = b j; reads = s .reads; stores = s .stores; locked = s .locked; holds = s .holds; memory = s .memory }) ∙ cell-put used refl refl
 
   module _ (h : T (among (R ∷ L ∷ []) k)) {i : ℕ} (ei : i ≡ cellPlace t v)
       {f b : ℕ} (ef : f ≡ slotPlace i (getD (s .cells) i blank .reads) 0) (eb : b ≡ slotPlace i (getD (s .cells) i blank .reads) (getD (s .cells) i blank .reads .len))
@@ -319,10 +338,3 @@ pub reads-tally : (k : ℕ) → T (among (R ∷ L ∷ []) k) → (p : ℕ) (r : 
 unfolding nextCell
 reads-tally k h p r x c = by-letters (λ k. (nextCell p r k x c .pending ≡ c .pending) × (nextCell p r k x c .fresh ≡ c .fresh) × (nextCell p r k x c .stores ≡ c .stores)) (R ∷ L ∷ [])
     ((refl, refl, refl), ((refl, refl, refl), tt)) k h
-
--- an event on a lock leaves all cells
-pub cells-kept : (s : State) (e : Event) → Shape s → Within (e .thread) (e .kind) → T (among (K ∷ N ∷ []) (letter (e .kind))) → (t v : ℕ) → cellAt (stepState s e) t v ≡ cellAt s t v
-cells-kept s e h w a t v =
-    cell-after s e h w t v
-    ∙ ap (λ (c : Cell). cond (eqb (e .thread) t && eqb (varOf (e .kind)) v) c (cellAt s t v)) (cell-off (letter (e .kind)) a (s .events + 1) (first (readsAt s t v)) (value (e .kind)) (cellAt s t v))
-    ∙ cond-same (eqb (e .thread) t && eqb (varOf (e .kind)) v) (cellAt s t v)

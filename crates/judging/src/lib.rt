@@ -1,9 +1,7 @@
 // One event judged from the parts of a state that it looks at, and what it leaves of them. Nothing here sees a whole state; what a turn
 // answers is in specs/Computed/Turns.antt, and proofs/Turned.antt proves that it is the row of the rules and the state after the event.
 ghost use mathlib.Core.Path.{_≡_};
-ghost use mathlib.Core.List.{[]};
-ghost use Prim.Native.Nat.{_<_, max};
-ghost use lib.ListN.{getD};
+ghost use Prim.Native.Nat.{max};
 ghost use Rattle.rules.specs.Events.{A as Assign, B, K, L, N, P, R, S, W};
 ghost use Rattle.state.specs.State.{noSlot, depthOf};
 ghost use Rattle.state.specs.Step.{pushed, popped, nextCell};
@@ -19,11 +17,9 @@ ghost use Rattle.judging.specs.Computed.Checks.{
   unlockChecks,
   prescientStoreChecks,
   prescientAssignChecks,
-  rowOf,
-  table,
   firstOf,
 };
-ghost use Rattle.judging.specs.Computed.Turns.{holdFor, cellTurn, readsTurn, storesTurn, lockTurn};
+ghost use Rattle.judging.specs.Computed.Turns.{holdFor, useRule, cellTurn, readsTurn, storesTurn, lockTurn, eitherOf, turnOf};
 use rules::Main;
 use rules::Slot;
 use rules::Value;
@@ -269,25 +265,6 @@ const ROWS: [[u8; 5]; 10] = [
     [10, 18, 0, 0, 0],
 ];
 
-// The place of a letter's row; of an empty one where it has none.
-fn row_number(k: u8) -> usize
-    ensures { λ r. ⌜ (getD table r [] ≡ rowOf k) × (r < 10) ⌝ }
-{
-    match k {
-        b'U' => 0,
-        b'A' => 1,
-        b'L' => 2,
-        b'S' => 3,
-        b'R' => 4,
-        b'W' => 5,
-        b'K' => 6,
-        b'N' => 7,
-        b'P' => 8,
-        b'B' => 9,
-        _ => 1,
-    }
-}
-
 // The number of a row at its first broken check; 0 where none is.
 fn first_of(b: Checks, row: [u8; 5]) -> u8
     ensures { λ r. ⌜ r ≡ firstOf b row ⌝ }
@@ -306,18 +283,6 @@ fn first_of(b: Checks, row: [u8; 5]) -> u8
     }
     if b.fifth {
         return row[4];
-    }
-    0
-}
-
-// The same of a letter's row, which is looked up only to name a refusal.
-fn rule_of(k: u8, b: Checks) -> u8
-    ensures { λ r. ⌜ r ≡ firstOf b (rowOf k) ⌝ }
-{
-    if b.first | b.second | b.third | b.fourth | b.fifth {
-        let i = row_number(k);
-        let row = ROWS[i];
-        return first_of(b, row);
     }
     0
 }
@@ -446,13 +411,21 @@ fn left(a: Hold, t: usize) -> Hold
 
 // ---- The turns. A letter that is none of a turn's breaks nothing there and leaves everything.
 
+// U: what it breaks. It leaves everything.
+pub fn use_rule(c: Cell, locked: u32, x: Value) -> u8
+    ensures { λ r. ⌜ r ≡ useRule c locked x ⌝ }
+{
+    let b = use_checks(c, locked, x);
+    let row = ROWS[0];
+    first_of(b, row)
+}
+
 // U, A, B: the cell alone.
 pub fn cell_turn(c: Cell, locked: u32, k: u8, x: Value, p: u32) -> CellTurn
     ensures { λ r. ⌜ r ≡ cellTurn c locked k x p ⌝ }
 {
     if k == b'U' {
-        let b = use_checks(c, locked, x);
-        let rule = rule_of(k, b);
+        let rule = use_rule(c, locked, x);
         return CellTurn {
             rule: rule,
             cell: c,
@@ -464,7 +437,8 @@ pub fn cell_turn(c: Cell, locked: u32, k: u8, x: Value, p: u32) -> CellTurn
     }
     if k == b'B' {
         let b = prescient_assign_checks(c, x);
-        let rule = rule_of(k, b);
+        let row = ROWS[9];
+        let rule = first_of(b, row);
         let d = prescient_assigned(c, x, p);
         return CellTurn {
             rule: rule,
@@ -490,7 +464,8 @@ pub fn reads_turn(
     let s = oldest(q, front);
     if k == b'L' {
         let b = load_checks(c, s, x);
-        let rule = rule_of(k, b);
+        let row = ROWS[2];
+        let rule = first_of(b, row);
         let d = loaded(c, s, x, p);
         return ReadsTurn {
             rule: rule,
@@ -500,7 +475,8 @@ pub fn reads_turn(
     }
     if k == b'R' {
         let b = read_checks(c, main, x);
-        let rule = rule_of(k, b);
+        let row = ROWS[4];
+        let rule = first_of(b, row);
         let d = has_read(c, s, x, p);
         let new = Slot {
             value: x,
@@ -536,7 +512,8 @@ pub fn stores_turn(
         let q = c.stores;
         let s = oldest(q, front);
         let b = write_checks(c, s, x);
-        let rule = rule_of(k, b);
+        let row = ROWS[5];
+        let rule = first_of(b, row);
         let d = has_written(c, x, p);
         let m = Main { value: x };
         return StoresTurn {
@@ -552,7 +529,8 @@ pub fn stores_turn(
     };
     if k == b'S' {
         let b = store_checks(c, locked, x);
-        let rule = rule_of(k, b);
+        let row = ROWS[3];
+        let rule = first_of(b, row);
         let d = stored(c, x, p);
         return StoresTurn {
             rule: rule,
@@ -563,7 +541,8 @@ pub fn stores_turn(
     }
     if k == b'P' {
         let b = prescient_store_checks(c);
-        let rule = rule_of(k, b);
+        let row = ROWS[8];
+        let rule = first_of(b, row);
         let d = prescient_stored(c, x, p);
         return StoresTurn {
             rule: rule,
@@ -594,7 +573,8 @@ pub fn lock_turn(
 {
     if k == b'K' {
         let b = lock_checks(a, threads, any, t);
-        let rule = rule_of(k, b);
+        let row = ROWS[6];
+        let rule = first_of(b, row);
         let h = taken(a, t);
         return LockTurn {
             rule: rule,
@@ -604,7 +584,8 @@ pub fn lock_turn(
     }
     if k == b'N' {
         let b = unlock_checks(a, any, t);
-        let rule = rule_of(k, b);
+        let row = ROWS[7];
+        let rule = first_of(b, row);
         let h = left(a, t);
         return LockTurn {
             rule: rule,
@@ -616,5 +597,68 @@ pub fn lock_turn(
         rule: 0,
         hold: a,
         locked: locked,
+    }
+}
+
+// ---- An event of any letter.
+
+// The slots at the first place of a queue and behind its last.
+pub struct Ends {
+    pub front: Slot,
+    pub behind: Slot,
+}
+
+// The parts of a state that an event may look at.
+pub struct Parts {
+    pub cell: Cell,
+    pub reads: Ends,
+    pub stores: Ends,
+    pub main: Main,
+    pub hold: Hold,
+    pub locked: u32,
+}
+
+// 0 or the number of the first check of the event's row that is broken, and what the event leaves of each part.
+pub struct Turn {
+    pub rule: u8,
+    pub cell: Cell,
+    pub read: Slot,
+    pub store: Slot,
+    pub main: Main,
+    pub hold: Hold,
+    pub locked: u32,
+}
+
+// The first number that is not 0.
+fn either(a: u8, b: u8) -> u8
+    ensures { λ r. ⌜ r ≡ eitherOf a b ⌝ }
+{
+    if a == 0 { b } else { a }
+}
+
+// All turns: one of them is the letter's. `n` threads are declared, and `any` is what the variables of thread t have.
+pub fn any_turn(a: Parts, n: usize, any: OnSome, t: usize, k: u8, x: Value, p: u32) -> Turn
+    ensures { λ r. ⌜ r ≡ turnOf a n any t k x p ⌝ }
+{
+    let q = a.reads;
+    let o = a.stores;
+    let lock = lock_turn(a.hold, a.locked, n, any, t, k, p);
+    let alone = cell_turn(a.cell, a.locked, k, x, p);
+    let read = reads_turn(alone.cell, q.front, q.behind, a.main, k, x, p);
+    let store = stores_turn(read.cell, o.front, o.behind, a.main, a.locked, k, x, p);
+    let rule = either(either(lock.rule, alone.rule), either(read.rule, store.rule));
+    let cell = store.cell;
+    let slot = read.slot;
+    let sent = store.slot;
+    let main = store.main;
+    let hold = lock.hold;
+    Turn {
+        rule: rule,
+        cell: cell,
+        read: slot,
+        store: sent,
+        main: main,
+        hold: hold,
+        locked: lock.locked,
     }
 }

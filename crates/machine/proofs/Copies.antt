@@ -7,14 +7,16 @@ use lib.Dec.{ltb}
 use lib.IntN.{ℤ, pos}
 use lib.ListN.{length, getD}
 use Rattle.rules.specs.declared.Cached.{Cached}
-use Rattle.rules.specs.declared.Main.{Main}
-use Rattle.rules.specs.declared.Memories.{Memories}
-use Rattle.rules.specs.Memories.{from, mainIn, cachedIn, memoriesOf}
+use Rattle.rules.specs.Memories.{mainIn, cachedIn, memoriesOf}
 use Rattle.rules.proofs.From.{filled}
 use Rattle.state.specs.declared.Cell.{Cell}
 use Rattle.state.specs.declared.State.{State}
 use Rattle.state.specs.State.{blank, noMain, cellAt, wordsIn}
 use Rattle.state.proofs.LeafLaws.{cell-same}
+use Rattle.rules.specs.Rules.{accepted, said}
+use Rattle.machine.specs.declared.Outcome.{Outcome}
+use Rattle.machine.specs.Stepped.{unchanged}
+use Rattle.machine.specs.Computed.Walk.{stateOf, outcomeOf}
 
 abbrev pub noCopy : Cached
 noCopy = record { value = pos 0; usable = false }
@@ -31,3 +33,8 @@ copy-at s i h p q =
 pub mains-all : (s : State) → length (s .memory) ≡ 16 → s .memory ≡ memoriesOf (wordsIn s) .main
 unfolding memoriesOf wordsIn
 mains-all s n = filled (mainIn (wordsIn s)) noMain (s .memory) 16 n (λ j h. unfold wordsIn in refl)
+
+-- the memories hang on the cells, the last locks and main memory alone
+pub memories-in : (s : State) → _≡_ {A = Outcome} (record { verdict = said accepted; memories = memoriesOf (wordsIn (stateOf (s .cells) (s .locked) (s .memory))) }) (outcomeOf (unchanged s accepted))
+unfolding memoriesOf wordsIn cellAt
+memories-in s = refl

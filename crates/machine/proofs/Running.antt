@@ -5,25 +5,24 @@ use native.Mathlib.Numerals.{add-one}
 use mathlib.Core.Path.{_≡_, refl, sym, ap, _∙_, subst}
 use mathlib.Core.Bool.{Bool, true, false, cond, _&&_, _||_, or-false, or-assoc}
 use mathlib.Core.List.{List, [], _∷_}
-use mathlib.Core.Option.{Option, none, some}
-use lib.Dec.{T, eqb, ltb, leb}
+use mathlib.Core.Option.{Option}
+use lib.Dec.{T, eqb, ltb}
 use lib.IntN.{ℤ, pos}
 use lib.ListN.{length, getD}
 use borrow.Author.Tests.{lt-ltb, le-ltb, le-leb, lt-leb}
 use Rattle.rules.specs.declared.Event.{Event}
-use Rattle.rules.specs.declared.Counts.{Counts}
 use Rattle.rules.specs.Events.{A, B, K, L, N, P, R, S, U, W, letter, place, value, among, isLetter, isLockLetter}
-use Rattle.rules.specs.Limits.{full, lineAfter, allowed, declared}
+use Rattle.rules.specs.Limits.{full, lineAfter, declared}
 use Rattle.rules.specs.Rules.{judge, answer, accepted, refused}
 use Rattle.rules.specs.Memories.{from}
 use Rattle.rules.proofs.From.{from-step, from-end}
-use Rattle.rules.proofs.Laws.{is-true, or-false-left, or-false-right}
+use Rattle.rules.proofs.Laws.{or-false-left, or-false-right}
 use Rattle.rules.proofs.Letters.{eqb-turn, declared-by}
 use Rattle.rules.proofs.Bounds.{allowed-bounds}
 use Rattle.records.specs.Records.{letterIn, threadIn, placeIn, lineIn, rowLines, unpacked, eventAt}
 use Rattle.records.proofs.RecordLaws.{event-some, event-none, letter-is, place-is, value-is}
 use Rattle.state.specs.declared.State.{State}
-use Rattle.state.specs.State.{noHold, wordsIn}
+use Rattle.state.specs.State.{wordsIn}
 use Rattle.state.specs.Range.{inRange}
 use Rattle.state.specs.Step.{Within, stepState}
 use Rattle.state.specs.Computed.Places.{Shape}
@@ -32,7 +31,7 @@ use Rattle.state.proofs.Kept.{range, room, within, up-to-full}
 use Rattle.judging.proofs.Turned.{By}
 use Rattle.machine.specs.declared.Answer.{Answer}
 use Rattle.machine.specs.declared.Tally.{Tally}
-use Rattle.machine.specs.Stepped.{unchanged, stepWith, stepped, onwards}
+use Rattle.machine.specs.Stepped.{unchanged, stepWith, onwards}
 use Rattle.machine.specs.Computed.Walk.{walk}
 use Rattle.machine.specs.Computed.Tallies.{Ready}
 use Rattle.machine.proofs.Steps.{step-ranged, step-in-range}
@@ -197,10 +196,6 @@ module _ {s₀ : State} {ws : List ℕ} {xs : List ℤ} {s : State} {ts : List T
             tallied = f;
             same = rw (add-one i) (ap (λ (j : ℕ). onwards (stepWith s here j) (λ y. walk full y rest)) (sym a) ∙ stepping);
           }) t′
-
--- a lock's depth is at most the number of events
-pub shallow : (s : State) → inRange full s ≡ true → s .events < 2000 → (l : ℕ) → l < 8 → getD (s .holds) l noHold .depth < 2000
-shallow s r h l k = omega (arith, range full s r .hold l k .depth)
 
 -- ---- the letters of the arms
 

@@ -1,15 +1,15 @@
 -- Steps from the initial state report what the definitions over the list say: over lines, each an event or none, and over events.
-use Prim.Native.Nat.{ℕ, zero, suc, _<_}
+use Prim.Native.Nat.{ℕ, zero, suc}
 use mathlib.Core.Path.{_≡_, refl, sym, ap, _∙_, subst}
-use mathlib.Core.Bool.{Bool, true, false, cond}
-use mathlib.Core.List.{List, [], _∷_, map, reverse, reverseAux}
+use mathlib.Core.Bool.{true}
+use mathlib.Core.List.{List, [], _∷_, map, reverse}
 use mathlib.Core.Option.{Option, none, some}
-use lib.Dec.{T, leb}
+use lib.Dec.{T}
 use lib.ListN.{length}
 use Rattle.rules.specs.declared.Event.{Event}
 use Rattle.rules.specs.declared.Counts.{Counts}
-use Rattle.rules.specs.Limits.{Limits, UpToFull, lineAfter, allowed, declared}
-use Rattle.rules.specs.Rules.{Words, wordsOf, judge, answer, verdict, Marked, accepted, refused, told, said, unless, passing, markFrom, mark, markRead, pastRead, Accepted}
+use Rattle.rules.specs.Limits.{Limits, UpToFull, lineAfter, allowed}
+use Rattle.rules.specs.Rules.{Words, wordsOf, answer, verdict, Marked, accepted, refused, told, unless, markFrom, mark, markRead, pastRead, Accepted}
 use Rattle.rules.specs.Memories.{memory, copies}
 use Rattle.rules.proofs.Laws.{Passed, passed, accepted-cons}
 use Rattle.rules.proofs.Marking.{mark-accepts, accepts-mark, mark-refuses, refuses-mark}
@@ -22,7 +22,7 @@ use Rattle.state.proofs.Kept.{in-range, range, kept}
 use Rattle.state.specs.Computed.Places.{Shape}
 use Rattle.state.proofs.Stands.{Stands, stands-start, stands-next, stands, events-same}
 use Rattle.machine.specs.declared.Answer.{Answer}
-use Rattle.machine.specs.Stepped.{unchanged, stepWith, stepped, onwards, steps}
+use Rattle.machine.specs.Stepped.{stepWith, stepped, onwards, steps}
 use Rattle.machine.specs.Follows.{Follows}
 use Rattle.machine.specs.Computed.Walk.{walk}
 

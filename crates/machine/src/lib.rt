@@ -1,20 +1,24 @@
-// The marking of events one after the other: a row of records by index, with the state and what K and N ask for in locals; one step over a state
-// that the caller keeps; a whole row from the initial state.
+// The marking of events one after the other: a row of records by index, with the state and what K and N ask for in locals; and one step over a
+// state that the caller keeps, by value.
 ghost use mathlib.Core.Path.{_≡_};
 ghost use mathlib.Core.Bool.{cond};
 ghost use Prim.Native.Nat.{_≤_, _<_};
+ghost use mathlib.Core.List.{[]};
 ghost use lib.ListN.{length};
 ghost use Rattle.rules.specs.Limits.{full};
-ghost use Rattle.rules.specs.Rules.{refused};
-ghost use Rattle.rules.specs.Memories.{from, memoriesOf, noMemories};
+ghost use Rattle.rules.specs.Rules.{judge, accepted, refused, said};
+ghost use Rattle.rules.specs.Memories.{memoriesOf, noMemories};
 ghost use Rattle.state.specs.State.{wordsIn};
-ghost use Rattle.state.specs.Computed.Places.{Shape};
+ghost use Rattle.state.specs.Step.{stepState};
+ghost use Rattle.judging.specs.Computed.Turns.{partsAt};
 ghost use Rattle.records.specs.Records.{rowLines};
 ghost use Rattle.machine.specs.Stepped.{unchanged, stepped};
 ghost use Rattle.machine.specs.Rows.{MarksRow};
-ghost use Rattle.machine.specs.Computed.Walk.{walk};
+ghost use Rattle.machine.specs.Computed.Walk.{walk, stateOf, outcomeOf, Turnable};
 ghost use Rattle.machine.specs.Computed.Tallies.{noTally, moved, tallyAfter, tallyOf, Small, someIn, Ready};
+use judging::Ends;
 use judging::OnSome;
+use judging::Parts;
 use rules::Cached;
 use rules::Counts;
 use rules::Event;
@@ -25,7 +29,7 @@ use rules::Verdict;
 use state::Cell;
 use state::State;
 
-// What is said of an event or of a row of events, and the state that is left.
+// What is said of an event, and the state that is left.
 pub struct Answer {
     pub verdict: Verdict,
     pub state: State,
@@ -123,38 +127,71 @@ fn no_tally() -> Tally
     }
 }
 
-// The tallies of all threads.
-fn tallies_of(s: State) -> [Tally; 8]
-    requires { ⌜ s .counts .variables ≤ 16 ⌝ }
-    ensures { λ r. ⌜ r ≡ from (tallyOf s) 0 8 ⌝ }
+// ---- A row of events.
+
+// A refusal gives number and line and nothing else.
+fn refuse(number: u8, line: usize) -> Outcome
+    ensures { λ r. ⌜ r ≡ record { verdict = said (refused number line); memories = noMemories } ⌝ }
 {
-    let none = no_tally();
-    let mut r = [none; 8];
-    let mut t: usize = 0;
-    while t < 8 {
-        let tally = tally_of(s, t);
-        r[t] = tally;
-        t += 1;
+    let zero = Main { value: 0 };
+    let none = Cached {
+        value: 0,
+        usable: false,
+    };
+    let memories = Memories {
+        main: [zero; 16],
+        copies: [none; 128],
+    };
+    let refused = Verdict::Refused(number, line);
+    Outcome {
+        verdict: refused,
+        memories: memories,
+    }
+}
+
+// The copies in the cells of a state, where these are the positions of the threads' last locks.
+fn copies_of(cells: [Cell; 128], locked: [u32; 8]) -> [Cached; 128]
+    ensures { λ r. ⌜ r ≡ memoriesOf (wordsIn (stateOf cells locked [])) .copies ⌝ }
+{
+    let none = Cached {
+        value: 0,
+        usable: false,
+    };
+    let mut r = [none; 128];
+    let mut i: usize = 0;
+    while i < 128 {
+        let c = cells[i];
+        let last = locked[i / 16];
+        let copy = Cached {
+            value: c.copy,
+            usable: last < c.source,
+        };
+        r[i] = copy;
+        i += 1;
     }
     r
 }
 
-// ---- A row of events.
-
-fn refuse(s: State, number: u8, line: usize) -> Answer
-    ensures { λ r. ⌜ r ≡ unchanged s (refused number line) ⌝ }
+// All is accepted: the memories that these parts of a state give.
+fn accept(cells: [Cell; 128], locked: [u32; 8], main: [Main; 16]) -> Outcome
+    ensures { λ r. ⌜ r ≡ record { verdict = said accepted; memories = memoriesOf (wordsIn (stateOf cells locked main)) } ⌝ }
 {
-    let refused = Verdict::Refused(number, line);
-    Answer {
-        verdict: refused,
-        state: s,
+    let copies = copies_of(cells, locked);
+    let memories = Memories {
+        main: main,
+        copies: copies,
+    };
+    let all = Verdict::Accepted;
+    Outcome {
+        verdict: all,
+        memories: memories,
     }
 }
 
 // The records of two rows, one after the other, from a state in range: line by line 4, 9, 5 and the row of its letter.
-fn run(start: State, counted: [Tally; 8], what: &[u32], value: &[Value]) -> Answer
+fn run(start: State, counted: [Tally; 8], what: &[u32], value: &[Value]) -> Outcome
     requires { ⌜ Ready start counted ⌝ ∗ ⌜ length (now value) ≡ length (now what) ⌝ }
-    ensures { λ r. ⌜ r ≡ walk full start (rowLines (start .counts) (now (what .entry)) (now (value .entry))) ⌝ }
+    ensures { λ r. ⌜ r ≡ outcomeOf (walk full start (rowLines (start .counts) (now (what .entry)) (now (value .entry)))) ⌝ }
 {
     let mut s = start;
     let mut tallies = counted;
@@ -169,19 +206,19 @@ fn run(start: State, counted: [Tally; 8], what: &[u32], value: &[Value]) -> Answ
         let n = s.events;
         let line = rules::line_after(h, n);
         if !rules::is_letter(k) {
-            return refuse(s, 4, line);
+            return refuse(4, line);
         }
         if 2000 <= n {
-            return refuse(s, 9, line);
+            return refuse(9, line);
         }
         if h.threads <= t {
-            return refuse(s, 5, line);
+            return refuse(5, line);
         }
         let p = n + 1;
         if rules::is_lock_letter(k) {
             // A lock, and what the variables of the thread have.
             if h.locks <= v {
-                return refuse(s, 5, line);
+                return refuse(5, line);
             }
             let tally = tallies[t];
             let any = some_in(tally);
@@ -189,7 +226,7 @@ fn run(start: State, counted: [Tally; 8], what: &[u32], value: &[Value]) -> Answ
             let last = s.locked[t];
             let lock = judging::lock_turn(hold, last, h.threads, any, t, k, p);
             if lock.rule != 0 {
-                return refuse(s, lock.rule, line);
+                return refuse(lock.rule, line);
             }
             let held = lock.hold;
             s.events = p;
@@ -198,11 +235,20 @@ fn run(start: State, counted: [Tally; 8], what: &[u32], value: &[Value]) -> Answ
             i += 1;
         } else {
             if h.variables <= v {
-                return refuse(s, 5, line);
+                return refuse(5, line);
             }
             let at = state::cell_place(t, v);
             let c = s.cells[at];
-            if (k == b'R') | (k == b'L') {
+            if k == b'U' {
+                // Nothing changes.
+                let last = s.locked[t];
+                let rule = judging::use_rule(c, last, x);
+                if rule != 0 {
+                    return refuse(rule, line);
+                }
+                s.events = p;
+                i += 1;
+            } else if (k == b'R') | (k == b'L') {
                 // The reads of the cell.
                 let q = c.reads;
                 let first = state::slot_place(at, q, 0);
@@ -212,7 +258,7 @@ fn run(start: State, counted: [Tally; 8], what: &[u32], value: &[Value]) -> Answ
                 let main = s.memory[v];
                 let read = judging::reads_turn(c, front, behind, main, k, x, p);
                 if read.rule != 0 {
-                    return refuse(s, read.rule, line);
+                    return refuse(read.rule, line);
                 }
                 let cell = read.cell;
                 let slot = read.slot;
@@ -231,7 +277,7 @@ fn run(start: State, counted: [Tally; 8], what: &[u32], value: &[Value]) -> Answ
                 let last = s.locked[t];
                 let store = judging::stores_turn(c, front, behind, main, last, k, x, p);
                 if store.rule != 0 {
-                    return refuse(s, store.rule, line);
+                    return refuse(store.rule, line);
                 }
                 let cell = store.cell;
                 let slot = store.slot;
@@ -249,7 +295,7 @@ fn run(start: State, counted: [Tally; 8], what: &[u32], value: &[Value]) -> Answ
                 let last = s.locked[t];
                 let alone = judging::cell_turn(c, last, k, x, p);
                 if alone.rule != 0 {
-                    return refuse(s, alone.rule, line);
+                    return refuse(alone.rule, line);
                 }
                 let cell = alone.cell;
                 let tally = tallies[t];
@@ -261,10 +307,125 @@ fn run(start: State, counted: [Tally; 8], what: &[u32], value: &[Value]) -> Answ
             }
         }
     }
-    let all = Verdict::Accepted;
+    let cells = s.cells;
+    let locked = s.locked;
+    let main = s.memory;
+    accept(cells, locked, main)
+}
+
+// Marks two rows of records, with these counts declared.
+pub fn mark_row(h: Counts, what: &[u32], value: &[Value]) -> Outcome
+    ensures { λ r. ⌜ MarksRow h (now (what .entry)) (now (value .entry)) r ⌝ }
+{
+    if value.len() != what.len() {
+        return refuse(7, 0);
+    }
+    if !rules::is_allowed(h) {
+        return refuse(3, 1);
+    }
+    let s = state::initial(h);
+    let none = no_tally();
+    run(s, [none; 8], what, value)
+}
+
+// ---- One step.
+
+fn unchanged(s: State, number: u8, line: usize) -> Answer
+    ensures { λ r. ⌜ r ≡ unchanged s (refused number line) ⌝ }
+{
+    let refused = Verdict::Refused(number, line);
     Answer {
-        verdict: all,
+        verdict: refused,
         state: s,
+    }
+}
+
+// n, where it is asked for.
+fn asked(b: bool, n: usize) -> usize
+    ensures { λ r. ⌜ r ≡ cond b n 0 ⌝ }
+{
+    if b { n } else { 0 }
+}
+
+// The parts of a state that an event of thread t on variable v or lock l looks at.
+fn parts_of(s: State, t: usize, v: usize, l: usize) -> Parts
+    requires { ⌜ t < 8 ⌝ ∗ ⌜ v < 16 ⌝ ∗ ⌜ l < 8 ⌝ }
+    ensures { λ r. ⌜ r ≡ partsAt s t v l ⌝ }
+{
+    let at = state::cell_place(t, v);
+    let c = s.cells[at];
+    let q = c.reads;
+    let o = c.stores;
+    let read_first = state::slot_place(at, q, 0);
+    let read_end = state::slot_place(at, q, q.len);
+    let store_first = state::slot_place(at, o, 0);
+    let store_end = state::slot_place(at, o, o.len);
+    let read_front = s.reads[read_first];
+    let read_behind = s.reads[read_end];
+    let store_front = s.stores[store_first];
+    let store_behind = s.stores[store_end];
+    let main = s.memory[v];
+    let hold = s.holds[l];
+    Parts {
+        cell: c,
+        reads: Ends {
+            front: read_front,
+            behind: read_behind,
+        },
+        stores: Ends {
+            front: store_front,
+            behind: store_behind,
+        },
+        main: main,
+        hold: hold,
+        locked: s.locked[t],
+    }
+}
+
+// What an event breaks, and the state after it.
+struct Judged {
+    rule: u8,
+    state: State,
+}
+
+fn take_turn(s: State, e: Event) -> Judged
+    requires { ⌜ Turnable s e ⌝ }
+    ensures { λ r. ⌜ r ≡ record { rule = judge (s .counts) (wordsIn s) e; state = stepState s e } ⌝ }
+{
+    let kind = e.kind;
+    let k = rules::letter_of(kind);
+    let place = rules::place_of(kind);
+    let on_lock = rules::is_lock_letter(k);
+    let v = asked(!on_lock, place);
+    let l = asked(on_lock, place);
+    let t = e.thread;
+    let h = s.counts;
+    let p = s.events + 1;
+    let parts = parts_of(s, t, v, l);
+    let any = some_in(tally_of(s, t));
+    let turn = judging::any_turn(parts, h.threads, any, t, k, rules::value_of(kind), p);
+    let c = parts.cell;
+    let q = c.reads;
+    let o = c.stores;
+    let at = state::cell_place(t, v);
+    let read_end = state::slot_place(at, q, q.len);
+    let store_end = state::slot_place(at, o, o.len);
+    let cell = turn.cell;
+    let read = turn.read;
+    let store = turn.store;
+    let hold = turn.hold;
+    let main = turn.main;
+    let mut next = s;
+    next.events = p;
+    next.cells[at] = cell;
+    next.reads[read_end] = read;
+    next.stores[store_end] = store;
+    next.locked[t] = turn.locked;
+    next.holds[l] = hold;
+    next.memory[v] = main;
+    Judged {
+        rule: turn.rule,
+        state: next,
     }
 }
 
@@ -273,90 +434,25 @@ pub fn step(s: State, e: Event) -> Answer
     ensures { λ r. ⌜ r ≡ stepped full s e ⌝ }
 {
     if !state::in_range(s) {
-        return refuse(s, 8, 0);
+        return unchanged(s, 8, 0);
     }
-    let tallies = tallies_of(s);
-    let w = records::pack(e);
-    let k = e.kind;
-    let x = rules::value_of(k);
-    run(s, tallies, &[w], &[x])
-}
-
-// The copies in a state.
-fn copies_of(s: State) -> [Cached; 128]
-    ensures { λ r. ⌜ r ≡ memoriesOf (wordsIn s) .copies ⌝ }
-{
-    let none = Cached {
-        value: 0,
-        usable: false,
-    };
-    let mut r = [none; 128];
-    let mut i: usize = 0;
-    while i < 128 {
-        let c = s.cells[i];
-        let last = s.locked[i / 16];
-        let copy = Cached {
-            value: c.copy,
-            usable: last < c.source,
-        };
-        r[i] = copy;
-        i += 1;
+    let h = s.counts;
+    let n = s.events;
+    let line = rules::line_after(h, n);
+    if 2000 <= n {
+        return unchanged(s, 9, line);
     }
-    r
-}
-
-fn memories_of(s: State) -> Memories
-    requires { ⌜ Shape s ⌝ }
-    ensures { λ r. ⌜ r ≡ memoriesOf (wordsIn s) ⌝ }
-{
-    let main = s.memory;
-    let copies = copies_of(s);
-    Memories {
-        main: main,
-        copies: copies,
+    if !rules::is_declared(h, e) {
+        return unchanged(s, 5, line);
     }
-}
-
-// A refusal gives number and line and nothing else.
-fn without(v: Verdict) -> Outcome
-    ensures { λ r. ⌜ r ≡ record { verdict = v; memories = noMemories } ⌝ }
-{
-    let zero = Main { value: 0 };
-    let none = Cached {
-        value: 0,
-        usable: false,
-    };
-    let memories = Memories {
-        main: [zero; 16],
-        copies: [none; 128],
-    };
-    Outcome {
-        verdict: v,
-        memories: memories,
+    let turn = take_turn(s, e);
+    if turn.rule != 0 {
+        return unchanged(s, turn.rule, line);
     }
-}
-
-// Marks two rows of records, with these counts declared.
-pub fn mark_row(h: Counts, what: &[u32], value: &[Value]) -> Outcome
-    ensures { λ r. ⌜ MarksRow h (now (what .entry)) (now (value .entry)) r ⌝ }
-{
-    if value.len() != what.len() {
-        return without(Verdict::Refused(7, 0));
-    }
-    if !rules::is_allowed(h) {
-        return without(Verdict::Refused(3, 1));
-    }
-    let s = state::initial(h);
-    let none = no_tally();
-    let r = run(s, [none; 8], what, value);
-    let v = r.verdict;
-    let left = r.state;
-    if let Verdict::Refused(number, line) = v {
-        return without(Verdict::Refused(number, line));
-    }
-    let memories = memories_of(left);
-    Outcome {
-        verdict: Verdict::Accepted,
-        memories: memories,
+    let next = turn.state;
+    let all = Verdict::Accepted;
+    Answer {
+        verdict: all,
+        state: next,
     }
 }

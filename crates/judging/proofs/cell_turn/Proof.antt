@@ -2,58 +2,60 @@
 use mir.ValLaws.{toZ-ofZ}
 use Rattle.rules.specs.Limits.{valueWidth}
 use Rattle.state.specs.Step.{nextCell}
-use Rattle.judging.specs.Computed.Turns.{cellTurn}
+use Rattle.judging.specs.Computed.Turns.{useRule, cellTurn}
 use Rattle.state.proofs.Letters.{not-letter}
 use borrow.Author.Needs.{needs}
 use mathlib.Core.Path.{refl}
+use Rattle.rules.specs.Rules.{rows, rowIn}
+use Rattle.judging.specs.Computed.Checks.{rowOf}
 use Rattle.judging.proofs.cell_turn.Statement.{statement}
 use Rattle.judging.proofs.cell_turn.Tie as tie
 
-use-checks-requires : tie.Need-use-checks-requires
-use-checks-requires c κs = search needs
-
-rule-of-requires : tie.Need-rule-of-requires
-rule-of-requires c κs = search needs
+use-rule-requires : tie.Need-use-rule-requires
+use-rule-requires c κs = search needs
 
 returns : tie.Need-returns
-unfolding cellTurn nextCell
-returns c = rw (c .rule-of .ensures, c .before .use-checks .ensures, c .before .before .if1 .taken, toZ-ofZ valueWidth (c .before .before .before .args .x) (c .before .before .before .fits .x)) refl
+unfolding useRule cellTurn nextCell rowOf rows rowIn
+returns c = rw (c .use-rule .ensures, c .before .if1 .taken, toZ-ofZ valueWidth (c .before .before .args .x) (c .before .before .fits .x)) refl
 
 assigned-requires : tie.Need-assigned-requires
 assigned-requires c κs = search needs
 
 returns-2 : tie.Need-returns-2
-unfolding cellTurn nextCell
+unfolding useRule cellTurn nextCell rowOf rows rowIn
 returns-2 c = rw (c .assigned .ensures, c .before .if2 .taken, toZ-ofZ valueWidth (c .before .before .before .args .x) (c .before .before .before .fits .x)) refl
 
 prescient-assign-checks-requires : tie.Need-prescient-assign-checks-requires
 prescient-assign-checks-requires c κs = search needs
 
-rule-of-requires-2 : tie.Need-rule-of-requires-2
-rule-of-requires-2 c κs = search needs
+array-copy-out-row : tie.Need-array-copy-out-row
+array-copy-out-row c = search needs
+
+first-of-requires : tie.Need-first-of-requires
+first-of-requires c κs = search needs
 
 prescient-assigned-requires : tie.Need-prescient-assigned-requires
 prescient-assigned-requires c κs = search needs
 
 returns-3 : tie.Need-returns-3
-unfolding cellTurn nextCell
-returns-3 c = rw (c .prescient-assigned .ensures, c .before .rule-of2 .ensures, c .before .before .prescient-assign-checks .ensures, c .before .before .before .if3 .taken, toZ-ofZ valueWidth (c .before .before .before .before .before .before .args .x) (c .before .before .before .before .before .before .fits .x)) refl
+unfolding useRule cellTurn nextCell rowOf rows rowIn
+returns-3 c = rw (c .prescient-assigned .ensures, c .before .first-of .ensures, c .before .before .before .prescient-assign-checks .ensures, c .before .before .before .before .if3 .taken, toZ-ofZ valueWidth (c .before .before .before .before .before .before .before .args .x) (c .before .before .before .before .before .before .before .fits .x)) refl
 
 returns-4 : tie.Need-returns-4
-unfolding cellTurn nextCell
+unfolding useRule cellTurn nextCell rowOf rows rowIn
 returns-4 c = simp (not-letter (c .before .before .if1 .left), not-letter (c .before .if2 .left), not-letter (c .if3 .left)) refl
 
 pub cell-turn-spec : {M : Type 1} → statement M
 cell-turn-spec =
     tie.close
     (tie.spec
-    use-checks-requires
-    rule-of-requires
+    use-rule-requires
     returns
     assigned-requires
     returns-2
     prescient-assign-checks-requires
-    rule-of-requires-2
+    array-copy-out-row
+    first-of-requires
     prescient-assigned-requires
     returns-3
     returns-4)

@@ -6,6 +6,8 @@ use Rattle.judging.specs.Computed.Turns.{storesWith, storesTurn}
 use Rattle.state.proofs.Letters.{not-letter}
 use borrow.Author.Needs.{needs}
 use mathlib.Core.Path.{refl}
+use Rattle.rules.specs.Rules.{rows, rowIn}
+use Rattle.judging.specs.Computed.Checks.{rowOf}
 use Rattle.judging.proofs.stores_turn.Statement.{statement}
 use Rattle.judging.proofs.stores_turn.Tie as tie
 
@@ -15,44 +17,53 @@ oldest-requires c κs = search needs
 write-checks-requires : tie.Need-write-checks-requires
 write-checks-requires c κs = search needs
 
-rule-of-requires : tie.Need-rule-of-requires
-rule-of-requires c κs = search needs
+array-copy-out-row : tie.Need-array-copy-out-row
+array-copy-out-row c = search needs
+
+first-of-requires : tie.Need-first-of-requires
+first-of-requires c κs = search needs
 
 has-written-requires : tie.Need-has-written-requires
 has-written-requires c κs = search needs
 
 returns : tie.Need-returns
-unfolding storesTurn storesWith nextCell storeAfter mainAfter
-returns c = rw (c .has-written .ensures, c .before .rule-of .ensures, c .before .before .write-checks .ensures, c .before .before .before .oldest .ensures, c .before .before .before .before .before .if1 .taken, toZ-ofZ valueWidth (c .before .before .before .before .before .before .args .x) (c .before .before .before .before .before .before .fits .x)) refl
+unfolding storesTurn storesWith nextCell storeAfter mainAfter rowOf rows rowIn
+returns c = rw (c .has-written .ensures, c .before .first-of .ensures, c .before .before .before .write-checks .ensures, c .before .before .before .before .oldest .ensures, c .before .before .before .before .before .before .if1 .taken, toZ-ofZ valueWidth (c .before .before .before .before .before .before .before .args .x) (c .before .before .before .before .before .before .before .fits .x)) refl
 
 store-checks-requires : tie.Need-store-checks-requires
 store-checks-requires c κs = search needs
 
-rule-of-requires-2 : tie.Need-rule-of-requires-2
-rule-of-requires-2 c κs = search needs
+array-copy-out-row-2 : tie.Need-array-copy-out-row-2
+array-copy-out-row-2 c = search needs
+
+first-of-requires-2 : tie.Need-first-of-requires-2
+first-of-requires-2 c κs = search needs
 
 stored-requires : tie.Need-stored-requires
 stored-requires c κs = search needs
 
 returns-2 : tie.Need-returns-2
-unfolding storesTurn storesWith nextCell storeAfter mainAfter
-returns-2 c = rw (c .stored .ensures, c .before .rule-of2 .ensures, c .before .before .store-checks .ensures, c .before .before .before .if2 .taken, toZ-ofZ valueWidth (c .before .before .before .before .before .args .x) (c .before .before .before .before .before .fits .x)) refl
+unfolding storesTurn storesWith nextCell storeAfter mainAfter rowOf rows rowIn
+returns-2 c = rw (c .stored .ensures, c .before .first-of2 .ensures, c .before .before .before .store-checks .ensures, c .before .before .before .before .if2 .taken, toZ-ofZ valueWidth (c .before .before .before .before .before .before .args .x) (c .before .before .before .before .before .before .fits .x)) refl
 
 prescient-store-checks-requires : tie.Need-prescient-store-checks-requires
 prescient-store-checks-requires c κs = search needs
 
-rule-of-requires-3 : tie.Need-rule-of-requires-3
-rule-of-requires-3 c κs = search needs
+array-copy-out-row-3 : tie.Need-array-copy-out-row-3
+array-copy-out-row-3 c = search needs
+
+first-of-requires-3 : tie.Need-first-of-requires-3
+first-of-requires-3 c κs = search needs
 
 prescient-stored-requires : tie.Need-prescient-stored-requires
 prescient-stored-requires c κs = search needs
 
 returns-3 : tie.Need-returns-3
-unfolding storesTurn storesWith nextCell storeAfter mainAfter
-returns-3 c = rw (c .prescient-stored .ensures, c .before .rule-of3 .ensures, c .before .before .prescient-store-checks .ensures, c .before .before .before .if3 .taken, toZ-ofZ valueWidth (c .before .before .before .before .before .before .args .x) (c .before .before .before .before .before .before .fits .x)) refl
+unfolding storesTurn storesWith nextCell storeAfter mainAfter rowOf rows rowIn
+returns-3 c = rw (c .prescient-stored .ensures, c .before .first-of3 .ensures, c .before .before .before .prescient-store-checks .ensures, c .before .before .before .before .if3 .taken, toZ-ofZ valueWidth (c .before .before .before .before .before .before .before .args .x) (c .before .before .before .before .before .before .before .fits .x)) refl
 
 returns-4 : tie.Need-returns-4
-unfolding storesTurn storesWith nextCell storeAfter mainAfter
+unfolding storesTurn storesWith nextCell storeAfter mainAfter rowOf rows rowIn
 returns-4 c = simp (not-letter (c .before .before .if1 .left), not-letter (c .before .if2 .left), not-letter (c .if3 .left)) refl
 
 pub stores-turn-spec : {M : Type 1} → statement M
@@ -61,15 +72,18 @@ stores-turn-spec =
     (tie.spec
     oldest-requires
     write-checks-requires
-    rule-of-requires
+    array-copy-out-row
+    first-of-requires
     has-written-requires
     returns
     store-checks-requires
-    rule-of-requires-2
+    array-copy-out-row-2
+    first-of-requires-2
     stored-requires
     returns-2
     prescient-store-checks-requires
-    rule-of-requires-3
+    array-copy-out-row-3
+    first-of-requires-3
     prescient-stored-requires
     returns-3
     returns-4)

@@ -5,6 +5,7 @@ use mathlib.Core.Bool.{not, cond, _&&_}
 use mathlib.Core.List.{List, [], _∷_}
 use lib.Dec.{eqb, ltb}
 use lib.IntN.{ℤ}
+use lib.ListN.{getD}
 use Rattle.rules.specs.declared.Slot.{Slot}
 use Rattle.rules.specs.Events.{A, B, K, L, N, P, R, S, U, W, among}
 use Rattle.rules.specs.Rules.{some}
@@ -12,13 +13,16 @@ use Rattle.state.specs.declared.Cell.{Cell}
 use Rattle.state.specs.declared.Hold.{Hold}
 use Rattle.rules.specs.declared.Main.{Main}
 use Rattle.state.specs.declared.State.{State}
-use Rattle.state.specs.State.{noSlot, cellAt}
+use Rattle.state.specs.State.{noSlot, noHold, noMain, blank, cellAt}
 use Rattle.state.specs.Step.{nextCell, readAfter, storeAfter, holdAfter, mainAfter, lockedAfter}
+use Rattle.state.specs.Computed.Places.{cellPlace, slotPlace}
 use Rattle.judging.specs.declared.OnSome.{OnSome}
 use Rattle.judging.specs.declared.CellTurn.{CellTurn}
 use Rattle.judging.specs.declared.ReadsTurn.{ReadsTurn}
 use Rattle.judging.specs.declared.StoresTurn.{StoresTurn}
 use Rattle.judging.specs.declared.LockTurn.{LockTurn}
+use Rattle.judging.specs.declared.Parts.{Parts}
+use Rattle.judging.specs.declared.Turn.{Turn}
 use Rattle.judging.specs.Computed.Checks.{oldestOf, noChecks, useChecks, loadChecks, storeChecks, readChecks, writeChecks, lockChecks, unlockChecks, prescientStoreChecks, prescientAssignChecks, rowOf, firstOf}
 
 -- a cell after an event with one of these letters; as it was after another
@@ -29,7 +33,11 @@ cellOn ks p r k x c = cond (among ks k) (nextCell p r k x c) c
 unfoldable pub holdFor : Hold → ℕ → ℕ → Hold
 holdFor a t k = cond (ltb t 8 && ltb (a .depth) 2000) (holdAfter a t k) a
 
--- U, A, B; q is the position of the thread's last lock, p that of the event
+-- U; q is the position of the thread's last lock
+unfoldable pub useRule : Cell → ℕ → ℤ → ℕ
+useRule c q x = firstOf (useChecks c q x) (rowOf U)
+
+-- U, A, B; p is the position of the event
 unfoldable pub cellTurn : Cell → ℕ → ℕ → ℤ → ℕ → CellTurn
 cellTurn c q k x p = record {
   rule = firstOf (cond (eqb U k) (useChecks c q x) (cond (eqb B k) (prescientAssignChecks c x) noChecks)) (rowOf k);
@@ -67,6 +75,41 @@ lockTurn a q n w t k p = record {
   hold = holdFor a t k;
   locked = lockedAfter q k p;
 }
+
+-- the parts of a state that an event of thread t on variable v or lock l looks at
+abbrev pub partsAt : State → ℕ → ℕ → ℕ → Parts
+partsAt s t v l =
+    let i = cellPlace t v in
+    let c = getD (s .cells) i blank in
+    record {
+      cell = c;
+      reads = record { front = getD (s .reads) (slotPlace i (c .reads) 0) noSlot; behind = getD (s .reads) (slotPlace i (c .reads) (c .reads .len)) noSlot };
+      stores = record { front = getD (s .stores) (slotPlace i (c .stores) 0) noSlot; behind = getD (s .stores) (slotPlace i (c .stores) (c .stores .len)) noSlot };
+      main = getD (s .memory) v noMain;
+      hold = getD (s .holds) l noHold;
+      locked = getD (s .locked) t 0;
+    }
+
+-- the first of two numbers that is not 0
+abbrev pub eitherOf : ℕ → ℕ → ℕ
+eitherOf a b = cond (eqb a 0) b a
+
+-- all turns one after the other, of which one is the letter's
+unfoldable pub turnOf : Parts → ℕ → OnSome → ℕ → ℕ → ℤ → ℕ → Turn
+turnOf a n w t k x p =
+    let lock = lockTurn (a .hold) (a .locked) n w t k p in
+    let alone = cellTurn (a .cell) (a .locked) k x p in
+    let read = readsTurn (alone .cell) (a .reads .front) (a .reads .behind) (a .main) k x p in
+    let store = storesTurn (read .cell) (a .stores .front) (a .stores .behind) (a .main) (a .locked) k x p in
+    record {
+      rule = eitherOf (eitherOf (lock .rule) (alone .rule)) (eitherOf (read .rule) (store .rule));
+      cell = store .cell;
+      read = read .slot;
+      store = store .slot;
+      main = store .main;
+      hold = lock .hold;
+      locked = lock .locked;
+    }
 
 -- of the first n variables of thread t: whether one has a pending prescient store, a fresh assign, an outstanding store
 unfoldable pub someOf : State → ℕ → ℕ → OnSome

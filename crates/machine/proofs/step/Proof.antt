@@ -1,72 +1,80 @@
--- `machine::step` meets its contract. Assumes nothing.
-use native.Mathlib.Omega.{arith}
-use mathlib.Core.Path.{_≡_, refl, sym, _∙_}
-use mathlib.Core.Bool.{true, false}
-use borrow.Author.Needs.{needs}
+-- `machine::step` meets its contract.
+use mathlib.Core.Path.{sym, ap, _∙_}
+use Prim.Native.Nat.{ℕ}
 use borrow.Author.Tests.{not-true, not-false}
-use mir.ValLaws.{toZ-ofZ}
-use Rattle.rules.specs.Limits.{full, valueWidth}
-use Rattle.rules.proofs.Bounds.{allowed-bounds}
-use Rattle.state.specs.Range.{inRange}
-use Rattle.state.proofs.Kept.{range}
-use Rattle.machine.proofs.RowMarks.{step-out, step-one}
+use Rattle.rules.specs.Rules.{refused}
+use Rattle.machine.specs.declared.Judged.{Judged}
+use Rattle.machine.specs.Stepped.{unchanged}
+use Rattle.machine.proofs.OneStep.{step-out, step-limit, step-undeclared, turnable, step-broken, step-kept}
+use borrow.Author.Needs.{needs}
 use Rattle.machine.proofs.step.Statement.{statement}
 use Rattle.machine.proofs.step.Tie as tie
 
 in-range-requires : tie.Need-in-range-requires
 in-range-requires c κs = search needs
 
-refuse-requires : tie.Need-refuse-requires
-refuse-requires c κs = search needs
+unchanged-requires : tie.Need-unchanged-requires
+unchanged-requires c κs = search needs
 
 returns : tie.Need-returns
-returns c =
-    let a = c .before .before .before .args in
-    c .refuse .ensures ∙ step-out (a .s) (a .e) (sym (c .before .before .in-range .ensures .0) ∙ not-true _ (c .before .if1 .taken))
+returns c = let a = c .before .before .before .args in c .unchanged .ensures ∙ step-out (a .s) (a .e) (sym (c .before .before .in-range .ensures .0) ∙ not-true _ (c .before .if1 .taken))
 
-tallies-of-requires : tie.Need-tallies-of-requires
-tallies-of-requires c κs =
-    let s = c .before .before .args .s in
-    allowed-bounds (s .counts) (range full s (sym (c .before .in-range .ensures .0) ∙ not-false _ (c .if1 .left)) .counts) .1
+line-after-requires : tie.Need-line-after-requires
+line-after-requires c κs = search needs
 
-pack-requires : tie.Need-pack-requires
-pack-requires c κs = search needs
-
-value-of-requires : tie.Need-value-of-requires
-value-of-requires c κs = search needs
-
-slice-aggregate-run : tie.Need-slice-aggregate-run
-slice-aggregate-run c = search needs
-
-slice-aggregate-run-2 : tie.Need-slice-aggregate-run-2
-slice-aggregate-run-2 c = search needs
-
-run-requires : tie.Need-run-requires
-run-requires c κs = (
-  record {
-    shape = c .before .before .before .before .before .before .in-range .ensures .1;
-    ranged = sym (c .before .before .before .before .before .before .in-range .ensures .0) ∙ not-false _ (c .before .before .before .before .before .if1 .left);
-    counted = c .before .before .before .before .tallies-of .ensures;
-  },
-  refl,
-)
+unchanged-requires-2 : tie.Need-unchanged-requires-2
+unchanged-requires-2 c κs = search needs
 
 returns-2 : tie.Need-returns-2
 returns-2 c =
+    let a = c .before .before .before .before .before .before .args in
+    c .unchanged2 .ensures ∙ ap (λ (n : ℕ). unchanged (a .s) (refused 9 n)) (c .before .before .line-after .ensures) ∙ step-limit (a .s) (a .e) (sym (c .before .before .before .before .before .in-range .ensures .0) ∙ not-false _ (c .before .before .before .before .if1 .left)) (c .before .if2 .taken)
+
+is-declared-requires : tie.Need-is-declared-requires
+is-declared-requires c κs = search needs
+
+unchanged-requires-3 : tie.Need-unchanged-requires-3
+unchanged-requires-3 c κs = search needs
+
+returns-3 : tie.Need-returns-3
+returns-3 c =
     let a = c .before .before .before .before .before .before .before .before .args in
-    c .run .ensures ∙ step-one (a .s) (a .e) (sym (c .before .before .before .before .before .before .before .in-range .ensures .0) ∙ not-false _ (c .before .before .before .before .before .before .if1 .left)) _ _ (c .before .before .before .before .pack .ensures) (toZ-ofZ valueWidth (c .before .before .before .value-of .result) (record { sfits = c .before .before .before .value-of .ok }) ∙ c .before .before .before .value-of .ensures)
+    c .unchanged3 .ensures ∙ ap (λ (n : ℕ). unchanged (a .s) (refused 5 n)) (c .before .before .before .before .line-after .ensures) ∙ step-undeclared (a .s) (a .e) (sym (c .before .before .before .before .before .before .before .in-range .ensures .0) ∙ not-false _ (c .before .before .before .before .before .before .if1 .left)) (c .before .before .before .if2 .left) (sym (c .before .before .is-declared .ensures) ∙ not-true _ (c .before .if3 .taken))
+
+take-turn-requires : tie.Need-take-turn-requires
+take-turn-requires c κs =
+    let a = c .before .before .before .before .before .before .before .args in
+    turnable (a .s) (a .e) (sym (c .before .before .before .before .before .before .in-range .ensures .0) ∙ not-false _ (c .before .before .before .before .before .if1 .left)) (c .before .before .if2 .left) (sym (c .before .is-declared .ensures) ∙ not-false _ (c .if3 .left))
+
+unchanged-requires-4 : tie.Need-unchanged-requires-4
+unchanged-requires-4 c κs = search needs
+
+returns-4 : tie.Need-returns-4
+returns-4 c =
+    let a = c .before .before .before .before .before .before .before .before .before .before .before .args in
+    let j = c .before .before .before .take-turn .ensures in
+    c .unchanged4 .ensures ∙ ap (λ (n : ℕ). unchanged (a .s) (refused (c .before .before .before .take-turn .result .rule) n)) (c .before .before .before .before .before .before .before .line-after .ensures) ∙ step-broken (a .s) (a .e) (sym (c .before .before .before .before .before .before .before .before .before .before .in-range .ensures .0) ∙ not-false _ (c .before .before .before .before .before .before .before .before .before .if1 .left)) (c .before .before .before .before .before .before .if2 .left) (sym (c .before .before .before .before .before .is-declared .ensures) ∙ not-false _ (c .before .before .before .before .if3 .left)) (c .before .before .before .take-turn .result .rule) (ap (λ (z : Judged). z .rule) j) (c .before .if4 .taken)
+
+returns-5 : tie.Need-returns-5
+returns-5 c =
+    let a = c .before .before .before .before .before .before .before .before .before .before .before .args in
+    let j = c .before .before .before .take-turn .ensures in
+    step-kept (a .s) (a .e) (sym (c .before .before .before .before .before .before .before .before .before .before .in-range .ensures .0) ∙ not-false _ (c .before .before .before .before .before .before .before .before .before .if1 .left)) (c .before .before .before .before .before .before .if2 .left) (sym (c .before .before .before .before .before .is-declared .ensures) ∙ not-false _ (c .before .before .before .before .if3 .left)) (c .before .before .before .take-turn .result .rule) (ap (λ (z : Judged). z .rule) j) (c .before .if4 .left) (ap (λ (z : Judged). z .state) j)
 
 pub step-spec : {M : Type 1} → statement M
 step-spec =
     tie.close
     (tie.spec
     in-range-requires
-    refuse-requires
+    unchanged-requires
     returns
-    tallies-of-requires
-    pack-requires
-    value-of-requires
-    slice-aggregate-run
-    slice-aggregate-run-2
-    run-requires
-    returns-2)
+    line-after-requires
+    unchanged-requires-2
+    returns-2
+    is-declared-requires
+    unchanged-requires-3
+    returns-3
+    take-turn-requires
+    unchanged-requires-4
+    returns-4
+    returns-5)

@@ -1,0 +1,115 @@
+-- All turns one after the other judge an event by its row and leave the state after it.
+use Prim.Native.Nat.{ℕ, zero, suc, _+_, _*_, _≤_, _<_}
+use native.Mathlib.Omega.{arith}
+use mathlib.Core.Path.{_≡_, refl, _∙_}
+use borrow.Author.Tests.{ne-eqb}
+use lib.ListN.{getD, set}
+use Rattle.rules.specs.declared.Event.{Event}
+use Rattle.rules.specs.declared.Kind.{Kind}
+use Rattle.rules.specs.declared.Kind.the-variants as kind
+use Rattle.rules.specs.Events.{letter, place, value}
+use Rattle.rules.specs.Words.{first}
+use Rattle.rules.specs.Rules.{judge}
+use Rattle.state.specs.declared.Cell.{Cell}
+use Rattle.state.specs.declared.State.{State}
+use Rattle.state.specs.State.{noSlot, noHold, noMain, blank, queued, cellAt, readsAt, wordsIn}
+use Rattle.state.specs.Step.{nextCell, readAfter, storeAfter, mainAfter, lockedAfter, varOf, lockOf, Within, behind, stepState}
+use Rattle.state.specs.Computed.Places.{cellPlace, slotPlace}
+use Rattle.state.proofs.LeafLaws.{place-is, slot-is, cell-read}
+use Rattle.judging.specs.declared.Turn.{Turn}
+use Rattle.judging.specs.Computed.Checks.{oldestOf}
+use Rattle.judging.specs.Computed.Turns.{cellTurn, readsWith, readsTurn, storesWith, storesTurn, lockTurn, partsAt, eitherOf, turnOf, someOf}
+use Rattle.judging.proofs.Turned.{By, cell-rule, reads-rule, stores-rule, lock-rule, oldest-is, hold-same}
+
+either-none : (a : ℕ) → eitherOf a 0 ≡ a
+either-none zero = refl
+either-none (suc a) = rw (ne-eqb (suc a) 0 (λ z. omega arith)) refl
+
+-- an event's cell, and its turn
+abbrev pub at : State → Event → ℕ
+at s e = cellPlace (e .thread) (varOf (e .kind))
+
+abbrev pub cellIn : State → Event → Cell
+cellIn s e = getD (s .cells) (at s e) blank
+
+abbrev pub turnIn : State → Event → Turn
+turnIn s e = turnOf (partsAt s (e .thread) (varOf (e .kind)) (lockOf (e .kind))) (s .counts .threads) (someOf s (e .thread) (s .counts .variables)) (e .thread) (letter (e .kind)) (value (e .kind)) (s .events + 1)
+
+module _ (s : State) (t line : ℕ) where
+  abbrev of : Kind → Event
+  of k = record { thread = t; line = line; kind = k }
+
+  abbrev by : (k : Kind) → By (of k) t (place k) (letter k) (value k)
+  by k = record { thread = refl; place = refl; letter = refl; value = refl }
+
+  judged : (k : Kind) → Within t k → s .counts .threads ≤ 8 → turnIn s (of k) .rule ≡ judge (s .counts) (wordsIn s) (of k)
+  unfolding turnOf cellTurn readsTurn readsWith storesTurn storesWith lockTurn varOf lockOf
+  judged (kind.Use v x) w h = either-none _ ∙ cell-rule s (of (kind.Use v x)) (by (kind.Use v x)) w tt refl refl
+  judged (kind.Assign v x) w h = either-none _ ∙ cell-rule s (of (kind.Assign v x)) (by (kind.Assign v x)) w tt refl refl
+  judged (kind.Load v x) w h = either-none _ ∙ reads-rule s (of (kind.Load v x)) (by (kind.Load v x)) w tt refl refl refl refl
+  judged (kind.Store v x) w h = stores-rule s (of (kind.Store v x)) (by (kind.Store v x)) w tt refl refl refl refl
+  judged (kind.Read v x) w h = either-none _ ∙ reads-rule s (of (kind.Read v x)) (by (kind.Read v x)) w tt refl refl refl refl
+  judged (kind.Write v x) w h = stores-rule s (of (kind.Write v x)) (by (kind.Write v x)) w tt refl refl refl refl
+  judged (kind.Lock l) w h = either-none _ ∙ either-none _ ∙ lock-rule s (of (kind.Lock l)) (by (kind.Lock l)) w tt _ refl refl h
+  judged (kind.Unlock l) w h = either-none _ ∙ either-none _ ∙ lock-rule s (of (kind.Unlock l)) (by (kind.Unlock l)) w tt _ refl refl h
+  judged (kind.PrescientStore v x) w h = stores-rule s (of (kind.PrescientStore v x)) (by (kind.PrescientStore v x)) w tt refl refl refl refl
+  judged (kind.PrescientAssign v x) w h = either-none _ ∙ cell-rule s (of (kind.PrescientAssign v x)) (by (kind.PrescientAssign v x)) w tt refl refl
+
+  next : (k : Kind) → turnIn s (of k) .cell ≡ nextCell (s .events + 1) (oldestOf (cellIn s (of k) .reads) (getD (s .reads) (slotPlace (at s (of k)) (cellIn s (of k) .reads) 0) noSlot)) (letter k) (value k) (cellIn s (of k))
+  unfolding turnOf cellTurn readsTurn readsWith storesTurn storesWith nextCell
+  next (kind.Use v x) = refl
+  next (kind.Assign v x) = refl
+  next (kind.Load v x) = refl
+  next (kind.Store v x) = refl
+  next (kind.Read v x) = refl
+  next (kind.Write v x) = refl
+  next (kind.Lock l) = refl
+  next (kind.Unlock l) = refl
+  next (kind.PrescientStore v x) = refl
+  next (kind.PrescientAssign v x) = refl
+
+module _ (s : State) (e : Event) (w : Within (e .thread) (e .kind)) where
+  pub any-rule : s .counts .threads ≤ 8 → turnIn s e .rule ≡ judge (s .counts) (wordsIn s) e
+  any-rule h = judged s (e .thread) (e .line) (e .kind) w h
+
+  number : at s e ≡ 16 * e .thread + varOf (e .kind)
+  number = place-is (e .thread) (varOf (e .kind)) (w .thread) (w .variable) refl
+
+  low : at s e < 128
+  low = omega (arith, number, w .thread, w .variable)
+
+  cell-is : cellIn s e ≡ cellAt s (e .thread) (varOf (e .kind))
+  cell-is = cell-read s (e .thread) (varOf (e .kind)) (w .thread) (w .variable) refl
+
+  oldest : oldestOf (cellIn s e .reads) (getD (s .reads) (slotPlace (at s e) (cellIn s e .reads) 0) noSlot) ≡ first (readsAt s (e .thread) (varOf (e .kind)))
+  unfolding readsAt
+  oldest = oldest-is (s .reads) (cellIn s e .reads) low refl ∙ (λ j. first (queued (s .reads) (number j) (cell-is j .reads)))
+
+  read-end : slotPlace (at s e) (cellIn s e .reads) (cellIn s e .reads .len) ≡ behind (16 * e .thread + varOf (e .kind)) (cellAt s (e .thread) (varOf (e .kind)) .reads)
+  read-end = slot-is (at s e) (cellIn s e .reads) (cellIn s e .reads .len) low refl ∙ (λ j. behind (number j) (cell-is j .reads))
+
+  store-end : slotPlace (at s e) (cellIn s e .stores) (cellIn s e .stores .len) ≡ behind (16 * e .thread + varOf (e .kind)) (cellAt s (e .thread) (varOf (e .kind)) .stores)
+  store-end = slot-is (at s e) (cellIn s e .stores) (cellIn s e .stores .len) low refl ∙ (λ j. behind (number j) (cell-is j .stores))
+
+  pub any-put : getD (s .holds) (lockOf (e .kind)) noHold .depth < 2000
+      → _≡_ {A = State} (record {
+        counts = s .counts;
+        events = s .events + 1;
+        cells = set (s .cells) (at s e) (turnIn s e .cell);
+        reads = set (s .reads) (slotPlace (at s e) (cellIn s e .reads) (cellIn s e .reads .len)) (turnIn s e .read);
+        stores = set (s .stores) (slotPlace (at s e) (cellIn s e .stores) (cellIn s e .stores .len)) (turnIn s e .store);
+        locked = set (s .locked) (e .thread) (turnIn s e .locked);
+        holds = set (s .holds) (lockOf (e .kind)) (turnIn s e .hold);
+        memory = set (s .memory) (varOf (e .kind)) (turnIn s e .main);
+      }) (stepState s e)
+  unfolding stepState turnOf readsTurn readsWith storesTurn storesWith lockTurn
+  any-put deep = λ j. record {
+    counts = s .counts;
+    events = s .events + 1;
+    cells = ((λ j. set (s .cells) (at s e) (next s (e .thread) (e .line) (e .kind) j)) ∙ (λ j. set (s .cells) (number j) (nextCell (s .events + 1) (oldest j) (letter (e .kind)) (value (e .kind)) (cell-is j)))) j;
+    reads = set (s .reads) (read-end j) (readAfter (getD (s .reads) (read-end j) noSlot) (letter (e .kind)) (value (e .kind)) (s .events + 1));
+    stores = set (s .stores) (store-end j) (storeAfter (getD (s .stores) (store-end j) noSlot) (letter (e .kind)) (value (e .kind)) (s .events + 1));
+    locked = set (s .locked) (e .thread) (lockedAfter (getD (s .locked) (e .thread) 0) (letter (e .kind)) (s .events + 1));
+    holds = set (s .holds) (lockOf (e .kind)) (hold-same (getD (s .holds) (lockOf (e .kind)) noHold) (e .thread) (letter (e .kind)) (w .thread) deep j);
+    memory = set (s .memory) (varOf (e .kind)) (mainAfter (getD (s .memory) (varOf (e .kind)) noMain) (letter (e .kind)) (value (e .kind)));
+  }

@@ -1,0 +1,162 @@
+-- `machine::take_turn` meets its contract.
+use native.Mathlib.Omega.{arith}
+use mathlib.Core.Path.{_≡_, _∙_}
+use mir.ValLaws.{toZ-ofZ}
+use Rattle.rules.specs.Limits.{valueWidth}
+use Rattle.state.specs.Step.{varOf, lockOf}
+use Rattle.machine.proofs.Tallies.{some-is}
+use Rattle.machine.proofs.OneStep.{var-asked, lock-asked, bounds, turn-taken}
+use borrow.Author.Needs.{needs}
+use Rattle.machine.proofs.take_turn.Statement.{statement}
+use Rattle.machine.proofs.take_turn.Tie as tie
+
+-- the event's letter, variable and lock are found
+abbrev Found : Type 0
+Found = tie.After-struct-known
+
+variable : (c : Found) → c .before .before .before .asked .result ≡ varOf (c .before .before .before .before .before .before .before .args .e .kind)
+variable c = var-asked (c .before .before .before .before .before .before .before .args .e .kind) (c .before .before .before .before .before .before .letter-of .ensures) (c .before .before .before .before .before .place-of .ensures) (c .before .before .before .before .is-lock-letter .ensures) (c .before .before .before .asked .ensures)
+
+lock : (c : Found) → c .before .before .asked2 .result ≡ lockOf (c .before .before .before .before .before .before .before .args .e .kind)
+lock c = lock-asked (c .before .before .before .before .before .before .before .args .e .kind) (c .before .before .before .before .before .before .letter-of .ensures) (c .before .before .before .before .before .place-of .ensures) (c .before .before .before .before .is-lock-letter .ensures) (c .before .before .asked2 .ensures)
+
+letter-of-requires : tie.Need-letter-of-requires
+letter-of-requires c κs = search needs
+
+place-of-requires : tie.Need-place-of-requires
+place-of-requires c κs = search needs
+
+is-lock-letter-requires : tie.Need-is-lock-letter-requires
+is-lock-letter-requires c κs = search needs
+
+asked-requires : tie.Need-asked-requires
+asked-requires c κs = search needs
+
+asked-requires-2 : tie.Need-asked-requires-2
+asked-requires-2 c κs = search needs
+
+add-p : tie.Need-add-p
+add-p c = search needs
+
+parts-of-requires : tie.Need-parts-of-requires
+parts-of-requires c κs =
+    let u = c .before .before .before .before .before .before .before .pre .within in
+    (u .thread, (omega (arith, variable c, u .variable), omega (arith, lock c, u .lock)))
+
+tally-of-requires : tie.Need-tally-of-requires
+tally-of-requires c κs =
+    let a = c .before .before .before .before .before .before .before .before in
+    (a .pre .within .thread, bounds (a .args .s) (a .args .e) (a .pre) .1)
+
+some-in-requires : tie.Need-some-in-requires
+some-in-requires c κs = search needs
+
+value-of-requires : tie.Need-value-of-requires
+value-of-requires c κs = search needs
+
+any-turn-requires : tie.Need-any-turn-requires
+any-turn-requires c κs = search needs
+
+cell-place-requires : tie.Need-cell-place-requires
+cell-place-requires c κs = search needs
+
+slot-place-requires : tie.Need-slot-place-requires
+slot-place-requires c κs = search needs
+
+slot-place-requires-2 : tie.Need-slot-place-requires-2
+slot-place-requires-2 c κs = search needs
+
+mul-cell : tie.Need-mul-cell
+mul-cell c = search needs
+
+element-set-from-cell : tie.Need-element-set-from-cell
+element-set-from-cell c = search needs
+
+mul-read : tie.Need-mul-read
+mul-read c = search needs
+
+element-set-from-read : tie.Need-element-set-from-read
+element-set-from-read c = search needs
+
+mul-store : tie.Need-mul-store
+mul-store c = search needs
+
+element-set-from-store : tie.Need-element-set-from-store
+element-set-from-store c = search needs
+
+mul-next : tie.Need-mul-next
+mul-next c =
+    let u = c .before .before .before .before .before .before .before .before .before .before .before .before .before .before .before .before .before .before .before .before .before .before .before .pre .within in
+    let f = c .before .before .before .before .before .before .before .before .before .before .before .before .before .before .before .before in
+    omega (arith, u .thread, variable f, u .variable, lock f, u .lock)
+
+element-write-next : tie.Need-element-write-next
+element-write-next c =
+    let u = c .before .before .before .before .before .before .before .before .before .before .before .before .before .before .before .before .before .before .before .before .before .before .before .pre .within in
+    let f = c .before .before .before .before .before .before .before .before .before .before .before .before .before .before .before .before in
+    omega (arith, u .thread, variable f, u .variable, lock f, u .lock)
+
+mul-hold : tie.Need-mul-hold
+mul-hold c =
+    let u = c .before .before .before .before .before .before .before .before .before .before .before .before .before .before .before .before .before .before .before .before .before .before .before .pre .within in
+    let f = c .before .before .before .before .before .before .before .before .before .before .before .before .before .before .before .before in
+    omega (arith, u .thread, variable f, u .variable, lock f, u .lock)
+
+element-set-from-hold : tie.Need-element-set-from-hold
+element-set-from-hold c =
+    let u = c .before .before .before .before .before .before .before .before .before .before .before .before .before .before .before .before .before .before .before .before .before .before .before .pre .within in
+    let f = c .before .before .before .before .before .before .before .before .before .before .before .before .before .before .before .before in
+    omega (arith, u .thread, variable f, u .variable, lock f, u .lock)
+
+mul-main : tie.Need-mul-main
+mul-main c =
+    let u = c .before .before .before .before .before .before .before .before .before .before .before .before .before .before .before .before .before .before .before .before .before .before .before .pre .within in
+    let f = c .before .before .before .before .before .before .before .before .before .before .before .before .before .before .before .before in
+    omega (arith, u .thread, variable f, u .variable, lock f, u .lock)
+
+element-set-from-main : tie.Need-element-set-from-main
+element-set-from-main c =
+    let u = c .before .before .before .before .before .before .before .before .before .before .before .before .before .before .before .before .before .before .before .before .before .before .before .pre .within in
+    let f = c .before .before .before .before .before .before .before .before .before .before .before .before .before .before .before .before in
+    omega (arith, u .thread, variable f, u .variable, lock f, u .lock)
+
+returns : tie.Need-returns
+returns c =
+    let a = c .before .before .before .before .before .before .before .before .before .before .before .before .before .before .before .before .before .before .before .before .before .before .before in
+    let f = c .before .before .before .before .before .before .before .before .before .before .before .before .before .before .before .before in
+    turn-taken (a .args .s) (a .args .e) (a .pre) (c .before .before .before .before .before .before .before .before .before .before .before .before .before .before .before .before .before .before .before .before .before .before .letter-of .ensures) (variable f) (lock f)
+    (toZ-ofZ valueWidth (c .before .before .before .before .before .before .before .before .before .before .before .before .value-of .result) (record { sfits = c .before .before .before .before .before .before .before .before .before .before .before .before .value-of .ok }) ∙ c .before .before .before .before .before .before .before .before .before .before .before .before .value-of .ensures)
+    (c .before .before .before .before .before .before .before .before .before .before .before .before .before .before .before .parts-of .ensures) (some-is (a .args .s) _ _ _ (c .before .before .before .before .before .before .before .before .before .before .before .before .before .before .tally-of .ensures) (c .before .before .before .before .before .before .before .before .before .before .before .before .before .some-in .ensures)) (c .before .before .before .before .before .before .before .before .before .before .before .any-turn .ensures)
+    (c .before .before .before .before .before .before .before .cell-place .ensures .0) (c .before .before .before .before .before .before .slot-place .ensures .0) (c .before .before .before .before .before .slot-place2 .ensures .0)
+
+pub take-turn-spec : {M : Type 1} → statement M
+take-turn-spec =
+    tie.close
+    (tie.spec
+    letter-of-requires
+    place-of-requires
+    is-lock-letter-requires
+    asked-requires
+    asked-requires-2
+    add-p
+    parts-of-requires
+    tally-of-requires
+    some-in-requires
+    value-of-requires
+    any-turn-requires
+    cell-place-requires
+    slot-place-requires
+    slot-place-requires-2
+    mul-cell
+    element-set-from-cell
+    mul-read
+    element-set-from-read
+    mul-store
+    element-set-from-store
+    mul-next
+    element-write-next
+    mul-hold
+    element-set-from-hold
+    mul-main
+    element-set-from-main
+    returns)
