@@ -1,174 +1,151 @@
-//! Times the proved marker and marker B on the same papers, in one run: whole papers of several mixes, growing papers, short papers,
-//! and one process for one paper. Prints tables in markdown.
+//! Times the proved marker and markers B and C on the same papers, in one run: `bench MARK MARKER_B MARKER_C`, the programs for the
+//! last table. Prints tables in markdown. Each time is the least of several rounds, in which the markers take turns.
 
-use comparison::c_api;
-use papers::generate::{self, Rng};
-use std::hint::black_box;
+use bench::counter::Counter;
+use bench::markers::{Lent, Marker, MARKERS};
+use bench::mixes::{self, Paper};
+use papers::Counts;
+use std::fs::File;
 use std::process::{Command, Stdio};
 use std::time::Instant;
 
-const ROUNDS: usize = 9;
+const ROUNDS: usize = 150;
+/// About so many events are marked by each marker in a round: few, so that some rounds are left alone by other load.
+const EVENTS: usize = 40_000;
+/// What a paper costs besides its events, in events, so that rounds of short papers take no longer.
+const PAPER: usize = 75;
 
-/// A paper from its head, its guards and its event lines.
-fn paper(head: &str, guards: &str, lines: impl Iterator<Item = String>) -> Vec<u8> {
-    let mut text = format!("{head}\n{guards}\n");
-    for line in lines {
-        text.push_str(&line);
-        text.push('\n');
-    }
-    let n = text.len();
-    text.push_str(&format!("Z {n}\n"));
-    text.into_bytes()
-}
+/// Nanoseconds for all of the papers, of each marker.
+type Times = [f64; 3];
 
-/// Random accepted papers of a length; `orderly` ones have an order if it can be had.
-fn random(seed: u64, length: usize, number: usize, orderly: bool) -> Vec<Vec<u8>> {
-    let mut rng = Rng::new(seed);
-    (0..number)
-        .map(|_| {
-            let (counts, guards, events) = generate::long(&mut rng, length, 0, orderly);
-            generate::paper(counts, guards.as_deref(), &events)
-        })
-        .collect()
-}
-
-/// Empty sections, one after the other.
-fn sections() -> Vec<Vec<u8>> {
-    vec![paper(
-        "H 8 16 8",
-        "G 0 0 0 0 0 0 0 0 0 0 0 0 0 0 0 0",
-        (0..2000).map(|i| format!("{} {} 0", if i % 2 == 0 { 'K' } else { 'N' }, i / 2 % 8)),
-    )]
-}
-
-/// Uses of one variable in one section.
-fn uses() -> Vec<Vec<u8>> {
-    let head = ["K 0 0", "R 0 0 0", "L 0 0 0"].into_iter().map(String::from);
-    let rest = std::iter::repeat(String::from("U 0 0 0")).take(1996);
-    vec![paper("H 1 1 1", "G 0", head.chain(rest).chain(std::iter::once(String::from("N 0 0"))))]
-}
-
-/// Assigns, stores and writes of long values, on all variables.
-fn stores() -> Vec<Vec<u8>> {
-    let lines = (0..1998).map(|i| {
-        let v = i / 3 % 16;
-        format!("{} 7 {v} {}", ["A", "S", "W"][i % 3], -2147483648i64 + (i / 3) as i64)
-    });
-    vec![paper("H 8 16 8", "G -", lines)]
-}
-
-/// Locks taken again and again by a thread that holds them.
-fn nested() -> Vec<Vec<u8>> {
-    let locks = (0..1000).map(|i| format!("K 0 {}", i % 8));
-    let unlocks = (0..1000).map(|i| format!("N 0 {}", i % 8));
-    vec![paper("H 8 16 8", "G 0 0 0 0 0 0 0 0 0 0 0 0 0 0 0 0", locks.chain(unlocks))]
-}
-
-/// The same paper with no guards.
-fn unguarded(p: &[u8]) -> Vec<u8> {
-    let text = String::from_utf8(p.to_vec()).expect("ASCII");
-    let lines: Vec<&str> = text.lines().collect();
-    paper(lines[0], "G -", lines[2..lines.len() - 1].iter().map(|l| l.to_string()))
-}
-
-/// Papers that have an order.
-fn ordered(seed: u64, length: usize, number: usize) -> Vec<Vec<u8>> {
-    let has_order = |p: &Vec<u8>| marker_b::mark(p).contains("section ");
-    random(seed, length, 4 * number, true).into_iter().filter(has_order).take(number).collect()
-}
-
-struct Times {
-    proved: f64,
-    b: f64,
-    events: usize,
-}
-
-/// The least time of several rounds for all the papers, of each marker in turn.
-fn times(papers: &[Vec<u8>], repeats: usize) -> Times {
-    let (mut what, mut values, mut out) = (vec![0u32; 2000], vec![0i32; 2000], vec![0u8; 32768]);
-    let (mut order, mut scratch) = (vec![0u64; 1000], vec![0u64; 2000]);
-    let mut t = Times { proved: f64::MAX, b: f64::MAX, events: 0 };
+/// The least time for all the papers.
+fn times(papers: &[Paper]) -> Times {
+    assert!(papers.iter().all(mixes::is_accepted));
+    let repeats = EVENTS.div_ceil(events(papers) + PAPER * papers.len());
+    let mut lent = Lent::default();
+    let mut least = [f64::MAX; 3];
     for _ in 0..ROUNDS {
-        let start = Instant::now();
-        t.events = 0;
-        for _ in 0..repeats {
-            for p in papers {
-                let marked = c_api::mark(p, &mut what, &mut values, &mut out, &mut order, &mut scratch);
-                t.events += black_box(marked).events;
+        for (marker, least) in MARKERS.into_iter().zip(&mut least) {
+            let start = Instant::now();
+            for _ in 0..repeats {
+                papers.iter().for_each(|p| marker.mark(p, &mut lent));
             }
+            *least = least.min(start.elapsed().as_nanos() as f64 / repeats as f64);
         }
-        t.proved = t.proved.min(start.elapsed().as_nanos() as f64);
-        let start = Instant::now();
-        for _ in 0..repeats {
-            for p in papers {
-                black_box(marker_b::mark(p));
-            }
-        }
-        t.b = t.b.min(start.elapsed().as_nanos() as f64);
     }
-    t
+    least
 }
 
-fn row(name: &str, papers: &[Vec<u8>]) {
-    let events: usize = papers.iter().map(|p| p.iter().filter(|b| **b == b'\n').count() - 3).sum();
-    let t = times(papers, (400_000 / events).max(1));
-    let e = t.events as f64;
-    println!("| {name} | {:.1} | {:.1} | {:.2} |", t.proved / e, t.b / e, t.proved / t.b);
+fn events(papers: &[Paper]) -> usize {
+    papers.iter().map(mixes::events).sum()
 }
 
-/// The least time of a process that marks a paper, in microseconds.
-fn process(program: &str, paper: &[u8]) -> f64 {
-    use std::io::Write;
-    let mut best = f64::MAX;
+/// The cells of a row: each marker's number, a part of its time, and the ratios of the proved marker to the others.
+fn cells(times: Times, parts: f64) -> String {
+    let [proved, b, c] = times.map(|t| t / parts);
+    let digits = if proved < 10.0 { 2 } else { 1 };
+    format!("{proved:.digits$} | {b:.digits$} | {c:.digits$} | {:.2} | {:.2}", proved / b, proved / c)
+}
+
+fn head(columns: &[&str]) {
+    println!("\n| {} |\n|{}", columns.join(" | "), "---|".repeat(columns.len()));
+}
+
+fn by_mix() {
+    head(&["papers of 2,000 events, ns an event", "proved", "B", "C", "proved / B", "proved / C"]);
+    let row = |name: &str, papers: &[Paper]| println!("| {name} | {} |", cells(times(papers), events(papers) as f64));
+    for seed in 1..=4 {
+        row(&format!("random, seed {seed}"), &mixes::randoms(seed, 2000, 5));
+    }
+    for (threads, variables, locks) in [(2, 2, 2), (8, 16, 8)] {
+        let name = format!("guarded, {threads} threads, {variables} variables, {locks} locks");
+        row(&name, &mixes::ordered(2000, 5, |counts| counts == Counts { threads, variables, locks }));
+    }
+    row("guarded, all letters in turn", &[mixes::regular(2000)]);
+    row("K, N: empty sections", &mixes::sections());
+    row("K, N: nested locks", &mixes::nested());
+    row("U: uses in one section", &mixes::uses());
+    row("A: assigns", &mixes::assigns());
+    row("R, L: reads and loads", &mixes::loads());
+    row("A, S, W: long values", &mixes::stores());
+}
+
+fn by_length() {
+    let columns = ["random papers, events", "proved, ns an event", "B", "C", "proved / B", "proved / C"];
+    head(&[&columns[..], &["proved, µs a paper", "B", "C"]].concat());
+    for n in [5, 10, 20, 50, 100, 200, 500, 1000, 2000] {
+        let papers = mixes::randoms(50, n, (5000 / n).clamp(20, 500));
+        let all = times(&papers);
+        let [proved, b, c] = all.map(|t| t / 1000.0 / papers.len() as f64);
+        println!("| {n} | {} | {proved:.2} | {b:.2} | {c:.2} |", cells(all, events(&papers) as f64));
+    }
+}
+
+/// What the order costs: papers that have one, and the same papers without guards.
+fn by_order() {
+    let columns = ["papers with an order, events", "proved, ns an event", "C", "without guards, proved", "C"];
+    head(&[&columns[..], &["20 to 22, order and section lines, proved", "C"]].concat());
+    for n in [100, 500, 1000, 2000] {
+        let guarded = mixes::ordered(n, 10, |_| true);
+        let plain: Vec<Paper> = guarded.iter().map(mixes::unguarded).collect();
+        let part = events(&guarded) as f64;
+        let [proved, _, c] = times(&guarded).map(|t| t / part);
+        let [proved_plain, _, c_plain] = times(&plain).map(|t| t / part);
+        let rest = format!("{:.1} | {:.1}", proved - proved_plain, c - c_plain);
+        println!("| about {n} | {proved:.1} | {c:.1} | {proved_plain:.1} | {c_plain:.1} | {rest} |");
+    }
+}
+
+/// Instructions, where the machine counts them.
+fn by_instructions() {
+    let Some(counter) = Counter::instructions() else {
+        return println!("\nThis machine does not count instructions; `bench/instructions` counts them under valgrind.");
+    };
+    head(&["all letters in turn, instructions an event", "proved", "B", "C", "proved / B", "proved / C"]);
+    for n in [100, 1000, 2000] {
+        let paper = mixes::regular(n);
+        let mut lent = Lent::default();
+        let counts = MARKERS.map(|marker: Marker| {
+            let least = (0..ROUNDS).map(|_| counter.count(|| marker.mark(&paper, &mut lent))).min();
+            least.unwrap_or(0) as f64
+        });
+        println!("| {n} events | {} |", cells(counts, n as f64));
+    }
+}
+
+/// The time of a process that reads the file, in microseconds.
+fn process(program: &str, file: &str) -> f64 {
+    let start = Instant::now();
+    let input = File::open(file).expect(file);
+    let output = Command::new(program).stdin(input).stdout(Stdio::piped()).output().expect(program);
+    assert!(output.status.success(), "{program}");
+    start.elapsed().as_nanos() as f64 / 1000.0
+}
+
+fn by_process(programs: &[String]) {
+    let file = std::env::temp_dir().join(format!("bench.{}", std::process::id()));
+    let name = file.to_str().expect("a path in UTF-8");
+    std::fs::write(&file, &mixes::ordered(2000, 1, |_| true)[0]).expect(name);
+    let mut least = vec![f64::MAX; programs.len()];
     for _ in 0..200 {
-        let start = Instant::now();
-        let mut child = Command::new(program).stdin(Stdio::piped()).stdout(Stdio::piped()).spawn().expect(program);
-        child.stdin.take().expect("its input").write_all(paper).expect("written");
-        black_box(child.wait_with_output().expect("its output"));
-        best = best.min(start.elapsed().as_nanos() as f64 / 1000.0);
+        for (program, least) in programs.iter().zip(&mut least) {
+            *least = least.min(process(program, name));
+        }
     }
-    best
+    std::fs::remove_file(&file).expect(name);
+    head(&["one process, one paper of about 2,000 events", "µs"]);
+    for (name, time) in ["`mark`", "B", "C", "`cat`"].into_iter().zip(least) {
+        println!("| {name} | {time:.0} |");
+    }
 }
 
 fn main() {
-    let mut args = std::env::args().skip(1);
-    let (mark, marker_b) = (args.next().expect("mark"), args.next().expect("marker_b"));
-    println!("| papers of 2,000 events | proved, ns an event | B, ns an event | ratio |");
-    println!("|---|---|---|---|");
-    for seed in 1..=4 {
-        row(&format!("random, seed {seed}"), &random(seed, 2000, 5, seed % 2 == 0));
-    }
-    row("empty sections", &sections());
-    row("uses in one section", &uses());
-    row("assign, store, write of long values", &stores());
-    row("nested locks", &nested());
-    println!("\n| events of a paper | proved, ns an event | B, ns an event | ratio |");
-    println!("|---|---|---|---|");
-    for n in [100, 200, 500, 1000, 2000] {
-        row(&n.to_string(), &random(50, n, 20, false));
-    }
-    println!("\n| with an order, events of a paper | proved, ns an event | without guards, ns an event | 20 to 22, order and section lines |");
-    println!("|---|---|---|---|");
-    for n in [100, 500, 1000, 1900] {
-        let guarded = ordered(70, n, 5);
-        let plain: Vec<Vec<u8>> = guarded.iter().map(|p| unguarded(p)).collect();
-        let repeats = (400_000 / (n * guarded.len().max(1))).max(1);
-        let (a, b) = (times(&guarded, repeats), times(&plain, repeats));
-        let (x, y) = (a.proved / a.events as f64, b.proved / b.events as f64);
-        println!("| {n} | {x:.1} | {y:.1} | {:.1} |", x - y);
-    }
-    println!("\n| 1,000 short papers | proved, µs a paper | B, µs a paper | ratio |");
-    println!("|---|---|---|---|");
-    for n in [5, 10, 20, 40] {
-        let papers = random(90 + n as u64, n, 1000, false);
-        let t = times(&papers, 20);
-        let k = 20.0 * 1000.0 * 1000.0;
-        println!("| about {n} events | {:.2} | {:.2} | {:.2} |", t.proved / k, t.b / k, t.proved / t.b);
-    }
-    let p = &random(2, 2000, 1, true)[0];
-    let (a, b) = (process(&mark, p), process(&marker_b, p));
-    println!("\n| one process, one paper of 2,000 events | µs |");
-    println!("|---|---|");
-    println!("| `mark` | {a:.0} |");
-    println!("| B | {b:.0} |");
+    let mut programs: Vec<String> = std::env::args().skip(1).collect();
+    assert_eq!(programs.len(), 3, "bench MARK MARKER_B MARKER_C");
+    programs.push(String::from("cat"));
+    by_mix();
+    by_length();
+    by_order();
+    by_instructions();
+    by_process(&programs);
 }

@@ -1,4 +1,4 @@
-//! The proved marker in process, against markers A and B.
+//! The proved marker in process, against markers A, B and C.
 
 pub mod c_api;
 pub mod model;

@@ -1,4 +1,4 @@
-//! The proved marker against markers A and B: `comparison [TIMES [SEED]]`, TIMES as many papers and steps as in the gate, from this seed.
+//! The proved marker against markers A, B and C: `comparison [TIMES [SEED]]`, TIMES as many papers and steps as in the gate, from this seed.
 //! The last line is `N passed, M failed`.
 
 use comparison::steps::{self, Tally};

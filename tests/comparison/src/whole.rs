@@ -1,4 +1,4 @@
-//! One paper by marker A, marker B and the proved marker; and what the proved marker leaves in the lent memory.
+//! One paper by markers A, B, C and the proved marker; and what the proved marker and C leave in the lent memory.
 
 use crate::c_api::{self, Marked};
 use marker_a::order::Section;
@@ -66,25 +66,46 @@ struct Lent {
     scratch: Memory<u64>,
 }
 
+/// The markers that mark into lent memory.
+#[derive(Clone, Copy, Debug)]
+enum Marker {
+    Proved,
+    C,
+}
+
+const MARKERS: [Marker; 2] = [Marker::Proved, Marker::C];
+
+/// What marker C says, as the C interface hands it back.
+fn said(m: marker_c::Marked) -> Marked {
+    Marked {
+        number: m.number,
+        line: m.line,
+        events: m.events,
+        written: m.written,
+        sections: m.sections,
+        denial: m.denial,
+        denial_line: m.denial_line,
+    }
+}
+
 impl Lent {
-    fn mark(&mut self, paper: &[u8], n: Lengths) -> Marked {
-        c_api::mark(
-            paper,
-            &mut self.what.places[..n.what],
-            &mut self.values.places[..n.values],
-            &mut self.out.places[..n.out],
-            &mut self.order.places[..n.order],
-            &mut self.scratch.places[..n.scratch],
-        )
+    fn mark(&mut self, marker: Marker, paper: &[u8], n: Lengths) -> Marked {
+        let (what, values) = (&mut self.what.places[..n.what], &mut self.values.places[..n.values]);
+        let out = &mut self.out.places[..n.out];
+        let (order, scratch) = (&mut self.order.places[..n.order], &mut self.scratch.places[..n.scratch]);
+        match marker {
+            Marker::Proved => c_api::mark(paper, what, values, out, order, scratch),
+            Marker::C => said(marker_c::mark(paper, what, values, out, order, scratch)),
+        }
     }
 
-    fn mark_unordered(&mut self, paper: &[u8], n: Lengths) -> Marked {
-        c_api::mark_unordered(
-            paper,
-            &mut self.what.places[..n.what],
-            &mut self.values.places[..n.values],
-            &mut self.out.places[..n.out],
-        )
+    fn mark_unordered(&mut self, marker: Marker, paper: &[u8], n: Lengths) -> Marked {
+        let (what, values) = (&mut self.what.places[..n.what], &mut self.values.places[..n.values]);
+        let out = &mut self.out.places[..n.out];
+        match marker {
+            Marker::Proved => c_api::mark_unordered(paper, what, values, out),
+            Marker::C => said(marker_c::mark_unordered(paper, what, values, out)),
+        }
     }
 
     fn renew(&mut self) {
@@ -99,7 +120,7 @@ impl Lent {
     /// pattern again then.
     fn told(&mut self, marked: Marked, wanted: Marked, listing: &str, records: &[Record]) -> Result<(), String> {
         let got = String::from_utf8_lossy(&self.out.places[..marked.written.min(OUT)]).into_owned();
-        ensure(got == listing, || format!("markers A, B:\n{listing}proved marker:\n{got}"))?;
+        ensure(got == listing, || format!("markers A, B:\n{listing}this one:\n{got}"))?;
         ensure(marked == wanted, || format!("{marked:?}, wanted {wanted:?}"))?;
         ensure(self.out.is(listing.as_bytes()), || "output past the listing is touched".into())?;
         let (what, values): (Vec<u32>, Vec<i32>) = records.iter().copied().unzip();
@@ -207,7 +228,7 @@ fn unordered(listing: &str) -> &str {
     &listing[..starts.min().map_or(listing.len(), |at| at + 1)]
 }
 
-/// Demand 3, by marker A, of the proved marker's own order.
+/// Demand 3, by marker A, of the order that the markers gave.
 fn demand3(bytes: &[u8], events: Vec<marker_a::Event>, order: &[u64]) -> Result<usize, String> {
     let counts = paper::find(bytes).expect("an accepted paper").counts;
     let uses = events.iter().filter(|e| e.kind == Kind::U).count();
@@ -257,7 +278,15 @@ impl Papers {
         if !self.clean.replace(false) {
             lent.renew();
         }
-        self.proved(&mut lent, bytes, &b)?;
+        let n = Lengths::with(bytes.len() % (MORE + 1));
+        let wanted = wanted(bytes, &b);
+        for marker in MARKERS {
+            by(marker, &mut lent, bytes, n, &b, &wanted).map_err(|e| format!("{marker:?}: {e}"))?;
+        }
+        if let Some(order) = &wanted.order {
+            let uses = demand3(bytes, wanted.events, order).map_err(|e| format!("demand 3: {e}\n"))?;
+            self.count(uses, order);
+        }
         lent_too_little(&mut lent, bytes)?;
         self.clean.set(true);
         Ok(b)
@@ -276,32 +305,25 @@ impl Papers {
         all.other += usize::from(!order.is_sorted_by_key(|&entry| section(entry).first));
         self.orders.set(all);
     }
+}
 
-    /// The proved marker, with an order and where none is wanted.
-    fn proved(&self, lent: &mut Lent, bytes: &[u8], listing: &str) -> Result<(), String> {
-        let n = Lengths::with(bytes.len() % (MORE + 1));
-        let wanted = wanted(bytes, listing);
-        let marked = lent.mark(bytes, n);
-        lent.told(marked, wanted.marked, listing, &wanted.records)?;
-        match wanted.order {
-            None => {
-                ensure(lent.order.is(&[]) && lent.scratch.is(&[]), || "order list or scratch touched without an order".into())?
-            }
-            Some(entries) => {
-                ensure(lent.order.is(&entries), || format!("order list, wanted {entries:x?}"))?;
-                ensure(lent.scratch.is(&vec![0; n.scratch]), || "the scratch after an order".into())?;
-                let order = &lent.order.places[..entries.len()];
-                let uses = demand3(bytes, wanted.events, order).map_err(|e| format!("demand 3: {e}\n"))?;
-                self.count(uses, order);
-                lent.order.renew_front(entries.len());
-                lent.scratch.renew();
-            }
+/// One marker on one paper, with an order and where none is wanted. The lent memory has its pattern again afterwards.
+fn by(marker: Marker, lent: &mut Lent, bytes: &[u8], n: Lengths, listing: &str, wanted: &Wanted) -> Result<(), String> {
+    let marked = lent.mark(marker, bytes, n);
+    lent.told(marked, wanted.marked, listing, &wanted.records)?;
+    match &wanted.order {
+        None => ensure(lent.order.is(&[]) && lent.scratch.is(&[]), || "order list or scratch touched without an order".into())?,
+        Some(entries) => {
+            ensure(lent.order.is(entries), || format!("order list, wanted {entries:x?}"))?;
+            ensure(lent.scratch.is(&vec![0; n.scratch]), || "the scratch after an order".into())?;
+            lent.order.renew_front(entries.len());
+            lent.scratch.renew();
         }
-        let memories = unordered(listing);
-        let brief = Marked { written: memories.len(), sections: 0, denial: 0, denial_line: 0, ..wanted.marked };
-        let marked = lent.mark_unordered(bytes, n);
-        lent.told(marked, brief, memories, &wanted.records).map_err(|e| format!("no order wanted: {e}"))
     }
+    let memories = unordered(listing);
+    let brief = Marked { written: memories.len(), sections: 0, denial: 0, denial_line: 0, ..wanted.marked };
+    let marked = lent.mark_unordered(marker, bytes, n);
+    lent.told(marked, brief, memories, &wanted.records).map_err(|e| format!("no order wanted: {e}"))
 }
 
 impl Default for Papers {
@@ -317,13 +339,15 @@ fn lent_too_little(lent: &mut Lent, bytes: &[u8]) -> Result<(), String> {
     let records =
         [Lengths { what: RECORDS - 1, ..full }, Lengths { values: RECORDS - 1, ..full }, Lengths { out: OUT - 1, ..full }];
     let order = [Lengths { order: ORDER - 1, ..full }, Lengths { scratch: SCRATCH - 1, ..full }];
-    for n in records.into_iter().chain(order) {
-        let marked = lent.mark(bytes, n);
-        ensure(marked == seven, || format!("{n:?}: {marked:?}"))?;
-    }
-    for n in records {
-        let marked = lent.mark_unordered(bytes, n);
-        ensure(marked == seven, || format!("{n:?}, no order wanted: {marked:?}"))?;
+    for marker in MARKERS {
+        for n in records.into_iter().chain(order) {
+            let marked = lent.mark(marker, bytes, n);
+            ensure(marked == seven, || format!("{marker:?}, {n:?}: {marked:?}"))?;
+        }
+        for n in records {
+            let marked = lent.mark_unordered(marker, bytes, n);
+            ensure(marked == seven, || format!("{marker:?}, {n:?}, no order wanted: {marked:?}"))?;
+        }
     }
     let records = lent.what.is(&[]) && lent.values.is(&[]);
     ensure(records && lent.out.is(&[]) && lent.order.is(&[]) && lent.scratch.is(&[]), || "memory is touched with 7".into())

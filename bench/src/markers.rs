@@ -1,0 +1,47 @@
+//! The markers that are timed, each a whole job: read, mark, records, order, listing.
+
+use comparison::c_api;
+use std::hint::black_box;
+
+/// Memory to mark papers into. It is not cleared between papers.
+pub struct Lent {
+    what: Vec<u32>,
+    values: Vec<i32>,
+    out: Vec<u8>,
+    order: Vec<u64>,
+    scratch: Vec<u64>,
+}
+
+impl Default for Lent {
+    fn default() -> Lent {
+        Lent {
+            what: vec![0; 2_000],
+            values: vec![0; 2_000],
+            out: vec![0; 32_768],
+            order: vec![0; 1_000],
+            scratch: vec![0; 2_000],
+        }
+    }
+}
+
+#[derive(Clone, Copy, PartialEq, Eq)]
+pub enum Marker {
+    Proved,
+    B,
+    C,
+}
+
+pub const MARKERS: [Marker; 3] = [Marker::Proved, Marker::B, Marker::C];
+
+impl Marker {
+    /// Marks a paper. B makes the listing alone, on the heap.
+    #[inline(always)]
+    pub fn mark(self, paper: &[u8], lent: &mut Lent) {
+        let Lent { what, values, out, order, scratch } = lent;
+        match self {
+            Marker::Proved => _ = black_box(c_api::mark(paper, what, values, out, order, scratch)),
+            Marker::B => _ = black_box(marker_b::mark(paper)),
+            Marker::C => _ = black_box(marker_c::mark(paper, what, values, out, order, scratch)),
+        }
+    }
+}

@@ -1,0 +1,111 @@
+//! The papers. All are accepted.
+
+use papers::generate::{self, Rng};
+use papers::Counts;
+use std::iter::{once, repeat_n};
+
+pub type Paper = Vec<u8>;
+
+const LARGEST: &str = "H 8 16 8";
+const ONE_LOCK: &str = "G 0 0 0 0 0 0 0 0 0 0 0 0 0 0 0 0";
+
+/// A paper from its head, its guards and its event lines.
+fn paper(head: &str, guards: &str, lines: impl Iterator<Item = String>) -> Paper {
+    let lines: String = lines.map(|line| line + "\n").collect();
+    generate::close(format!("{head}\n{guards}\n{lines}").into_bytes())
+}
+
+/// A random paper of so many events: the front of a longer one.
+fn random(rng: &mut Rng, length: usize) -> Paper {
+    loop {
+        let (counts, guards, events) = generate::long(rng, length, 0, false);
+        if let Some(front) = events.get(..length) {
+            return generate::paper(counts, guards.as_deref(), front);
+        }
+    }
+}
+
+/// So many random papers from a seed.
+pub fn randoms(seed: u64, length: usize, number: usize) -> Vec<Paper> {
+    let mut rng = Rng::new(seed);
+    (0..number).map(|_| random(&mut rng, length)).collect()
+}
+
+/// Papers that have an order, of up to so many events and not much fewer, whose counts are fit.
+pub fn ordered(length: usize, number: usize, fit: impl Fn(Counts) -> bool) -> Vec<Paper> {
+    let fits = |seed: &u64| fit(generate::long(&mut Rng::new(*seed), 0, 0, true).0);
+    let made = |seed| {
+        let (counts, guards, events) = generate::long(&mut Rng::new(seed), length - length / 10, 0, true);
+        generate::paper(counts, guards.as_deref(), &events)
+    };
+    let enough = |p: &Paper| (length - length / 10..=length).contains(&events(p)) && marker_b::mark(p).contains("\nsection ");
+    (1..).filter(fits).map(made).filter(enough).take(number).collect()
+}
+
+pub fn is_accepted(p: &Paper) -> bool {
+    marker_b::mark(p).starts_with("accepted")
+}
+
+/// How many events a paper has.
+pub fn events(paper: &Paper) -> usize {
+    paper.iter().filter(|&&b| b == 10).count() - 3
+}
+
+/// The same paper with no guards.
+pub fn unguarded(p: &Paper) -> Paper {
+    let text = std::str::from_utf8(p).expect("ASCII");
+    let lines: Vec<&str> = text.lines().collect();
+    paper(lines[0], "G -", lines[2..lines.len() - 1].iter().map(|line| line.to_string()))
+}
+
+/// Empty sections, one after the other.
+pub fn sections() -> Vec<Paper> {
+    vec![paper(LARGEST, ONE_LOCK, (0..2000).map(|i| format!("{} {} 0", ['K', 'N'][i % 2], i / 2 % 8)))]
+}
+
+/// Locks taken again and again by a thread that holds them.
+pub fn nested() -> Vec<Paper> {
+    vec![paper(LARGEST, ONE_LOCK, (0..2000).map(|i| format!("{} 0 {}", ['K', 'N'][i / 1000], i % 8)))]
+}
+
+/// Uses of one variable in one section.
+pub fn uses() -> Vec<Paper> {
+    let before = ["K 0 0", "R 0 0 0", "L 0 0 0"].into_iter().map(String::from);
+    let uses = repeat_n(String::from("U 0 0 0"), 1996);
+    vec![paper("H 1 1 1", "G 0", before.chain(uses).chain(once(String::from("N 0 0"))))]
+}
+
+/// Assigns of all variables by all threads.
+pub fn assigns() -> Vec<Paper> {
+    vec![paper(LARGEST, "G -", (0..2000).map(|i| format!("A {} {} {}", i % 8, i / 8 % 16, i)))]
+}
+
+/// Each read loaded at once.
+pub fn loads() -> Vec<Paper> {
+    vec![paper(LARGEST, "G -", (0..2000).map(|i| format!("{} {} {} 0", ['R', 'L'][i % 2], i / 2 % 8, i / 16 % 16)))]
+}
+
+/// Assigns, stores and writes of long values, on all variables.
+pub fn stores() -> Vec<Paper> {
+    let line = |i: usize| format!("{} 7 {} {}", ['A', 'S', 'W'][i % 3], i / 3 % 16, i32::MIN + (i / 3) as i32);
+    vec![paper(LARGEST, "G -", (0..1998).map(line))]
+}
+
+/// Sections of twenty events with all ten letters, by all threads on all variables. The paper has an order.
+pub fn regular(length: usize) -> Paper {
+    let mut main = [0; 16];
+    let mut lines = Vec::new();
+    for i in 0..length / 20 {
+        let (t, v, l, x) = (i % 8, i % 16, i % 8, 37 * i as i32);
+        lines.push(format!("K {t} {l}"));
+        for letter in "RLU".chars() {
+            lines.push(format!("{letter} {t} {v} {}", main[v]));
+        }
+        for (letters, value) in [("ASWU", x), ("ASWU", -x - 1), ("PWBUUUU", 3)] {
+            lines.extend(letters.chars().map(|letter| format!("{letter} {t} {v} {value}")));
+        }
+        lines.push(format!("N {t} {l}"));
+        main[v] = 3;
+    }
+    paper(LARGEST, "G 0 1 2 3 4 5 6 7 0 1 2 3 4 5 6 7", lines.into_iter())
+}

@@ -1,0 +1,323 @@
+//! The event lines, read and marked in one loop.
+
+use crate::fields::{load, long_fields, unread};
+use crate::find::Found;
+use crate::rows::*;
+use crate::{Counts, EVENTS, FIRST_LINE, LOCKS, SECTIONS, THREADS, VARIABLES};
+use std::marker::PhantomData;
+use std::mem::MaybeUninit;
+
+/// Reading a line by words takes bytes up to so many behind its start, and less than so many before it.
+const AROUND: usize = 24;
+
+/// How marking ended: after the last event, or at an event that is refused or denies the order.
+#[derive(Clone, Copy)]
+pub enum End {
+    Done,
+    Refused(usize),
+    Denied(usize),
+}
+
+/// Room for what is kept until the paper is known to be accepted. It is not cleared, but for the cells of what is declared.
+pub struct Room {
+    cells: [Cell; CELLS],
+    what: [u32; EVENTS],
+    values: [i32; EVENTS],
+    /// entries of the order list, the position of the section's last lock in the upper half
+    sections: [u64; SECTIONS],
+    /// the last lines of the paper, with enough bytes around them
+    tail: [u8; 3 * AROUND],
+}
+
+/// The state after some events.
+pub struct Machine<'a> {
+    counts: Counts,
+    guards: [u64; LOCKS],
+    room: *mut Room,
+    /// where the next line starts, where too few bytes follow, where the events end; and the length of the trailer behind
+    at: *const u8,
+    stop: *const u8,
+    end: *const u8,
+    trailer: usize,
+    events: usize,
+    closed: usize,
+    threads: [Thread; THREADS],
+    depths: [u32; LOCKS],
+    lent: PhantomData<(&'a [u8], &'a mut Room)>,
+}
+
+impl<'a> Machine<'a> {
+    /// The state before the first event.
+    #[inline(always)]
+    pub fn new(found: &Found<'a>, room: &'a mut MaybeUninit<Room>) -> Machine<'a> {
+        let room = room.as_mut_ptr();
+        let start = found.paper.as_ptr();
+        let by_words = found.paper.len().saturating_sub(AROUND - 1);
+        let Counts { threads, variables, .. } = found.counts;
+        for row in 0..1 + threads {
+            // SAFETY: there are as many cells, and zeros are one.
+            unsafe {
+                let cells = (&raw mut (*room).cells).cast::<Cell>().add(VARIABLES * row);
+                cells.write_bytes(0, variables);
+                for v in 0..variables {
+                    (*cells.add(v)).counts = NO_COUNTS.to_le_bytes();
+                }
+            }
+        }
+        Machine {
+            counts: found.counts,
+            guards: found.guards,
+            room,
+            at: start.wrapping_add(found.start),
+            stop: start.wrapping_add(by_words.min(found.end)),
+            end: start.wrapping_add(found.end),
+            trailer: found.paper.len() - found.end,
+            events: 0,
+            closed: 0,
+            threads: [Thread::default(); THREADS],
+            depths: [0; LOCKS],
+            lent: PhantomData,
+        }
+    }
+
+    pub fn len(&self) -> usize {
+        self.events
+    }
+
+    /// The line of the next event.
+    pub fn line(&self) -> usize {
+        self.events + FIRST_LINE
+    }
+
+    /// A lock is held or an assign owed.
+    pub fn is_open(&self) -> bool {
+        self.threads.iter().any(|thread| thread.held != 0 || thread.sets & OWED != 0)
+    }
+
+    pub fn counts(&self) -> Counts {
+        self.counts
+    }
+
+    /// Main memory of a declared variable.
+    #[inline(always)]
+    pub fn main(&self, v: usize) -> i32 {
+        // SAFETY: the row of main memory is filled.
+        unsafe { (*self.room).cells[v].slots[COPY] as i32 }
+    }
+
+    /// A copy of a declared thread.
+    #[inline(always)]
+    pub fn copy(&self, t: usize, v: usize) -> i32 {
+        self.main(VARIABLES * (1 + t) + v)
+    }
+
+    /// The variables whose copies are usable, a bit each.
+    pub fn usable(&self, t: usize) -> u64 {
+        self.threads[t].sets & USABLE
+    }
+
+    /// The entries in order of their sections' last locks.
+    pub fn sections(&self) -> &[u64] {
+        // SAFETY: so many are filled.
+        unsafe { std::slice::from_raw_parts((&raw const (*self.room).sections).cast(), self.closed) }
+    }
+
+    pub fn copy_records(&self, what: &mut [u32], values: &mut [i32]) {
+        let n = self.events;
+        // SAFETY: so many are filled, and at least as many lent.
+        unsafe {
+            what.as_mut_ptr().copy_from_nonoverlapping((&raw const (*self.room).what).cast(), n);
+            values.as_mut_ptr().copy_from_nonoverlapping((&raw const (*self.room).values).cast(), n);
+        }
+    }
+
+    /// Marks the events, with `ORDER` up to one that denies the order. It goes on where it ended before.
+    #[inline(never)]
+    pub fn run<const ORDER: bool>(&mut self) -> End {
+        loop {
+            // SAFETY: enough bytes of the paper, or of the tail, are around the lines that start before `stop`.
+            let end = unsafe { self.run_by_words::<ORDER>() };
+            if !matches!(end, End::Done) || self.at == self.end {
+                return end;
+            }
+            // SAFETY: the events and the trailer that are left are fewer than `AROUND` bytes.
+            unsafe { self.use_tail() };
+        }
+    }
+
+    /// Goes on with the last lines in the tail.
+    unsafe fn use_tail(&mut self) {
+        let events = self.end.offset_from(self.at) as usize;
+        let tail = (&raw mut (*self.room).tail).cast::<u8>();
+        tail.write_bytes(0, 3 * AROUND);
+        let tail = tail.add(AROUND);
+        std::ptr::copy_nonoverlapping(self.at, tail, events + self.trailer);
+        self.at = tail;
+        self.end = tail.add(events);
+        self.stop = self.end;
+    }
+
+    #[inline(always)]
+    unsafe fn run_by_words<const ORDER: bool>(&mut self) -> End {
+        let Counts { threads, variables, locks } = self.counts;
+        let one_digit = variables.min(10);
+        let what = (&raw mut (*self.room).what).cast::<u32>();
+        let values = (&raw mut (*self.room).values).cast::<i32>();
+        let mut at = self.at;
+        let mut events = self.events;
+        let stop = self.stop;
+        let end = loop {
+            if at >= stop {
+                break End::Done;
+            }
+            let word = load(at);
+            let letter = word as u8;
+            let t = (word >> 16 & 15) as usize;
+            let mut place = (word >> 32 & 15) as usize;
+            let mut value = 0;
+            let next;
+            // a letter, a space, a digit, a space, a digit
+            if word & 0xf0_ff_f0_ff_00 != 0x30_20_30_20_00 || t >= threads || events == EVENTS {
+                break End::Refused(unread(at, events));
+            }
+            if letter == b'K' || letter == b'N' {
+                if place >= locks || (word >> 40) as u8 != 10 {
+                    break End::Refused(unread(at, events));
+                }
+                next = at.add(6);
+                let end =
+                    if letter == b'K' { self.lock::<ORDER>(t, place, events) } else { self.unlock::<ORDER>(t, place, events) };
+                if !matches!(end, End::Done) {
+                    break end;
+                }
+            } else {
+                if word >> 40 & 0xff_f0_ff == 0x0a_30_20 && (word >> 48 & 15) < 10 && place < one_digit {
+                    value = (word >> 48 & 15) as i32;
+                    next = at.add(8);
+                } else {
+                    let Some(long) = long_fields(at, word, variables) else {
+                        break End::Refused(unread(at, events));
+                    };
+                    (place, value, next) = long;
+                }
+                let end = self.access::<ORDER>(letter, t, place, value, events);
+                if !matches!(end, End::Done) {
+                    break end;
+                }
+            }
+            what.add(events).write(u32::from(letter) << 16 | (t << 8 | place) as u32);
+            values.add(events).write(value);
+            events += 1;
+            at = next;
+        };
+        self.at = at;
+        self.events = events;
+        end
+    }
+
+    /// An event on a variable, whatever its letter: all that a row may ask and do, by the row's numbers. Letters follow each other
+    /// without a pattern, and a wrong guess of a branch would cost more than what a row does not need.
+    #[inline(always)]
+    unsafe fn access<const ORDER: bool>(&mut self, letter: u8, t: usize, v: usize, value: i32, events: usize) -> End {
+        let row = TABLE.get_unchecked(usize::from(letter % 32));
+        if row.letter != letter {
+            return End::Refused(4);
+        }
+        let main = (&raw mut (*self.room).cells).cast::<Cell>().add(v);
+        let cell = main.add(VARIABLES * (1 + t));
+        let thread = self.threads.get_unchecked_mut(t);
+        let bits = *BITS.get_unchecked(v);
+        let counts = u64::from_le_bytes((*cell).counts);
+        let due_cell = if letter == b'R' { main } else { cell };
+        let due = slot(due_cell, cell, row.due).read() as u32;
+        let read = (slot(cell, cell, Pick { base: READS_AT as u32, count: READS_OUT as u32 }).read() >> 32) as u32;
+        let old = read < (*cell).last_write;
+        let broken = (thread.sets ^ row.sets_due) & row.sets & bits
+            | (counts.wrapping_add(row.plus) ^ row.counts_due) & row.counts
+            | u64::from((due ^ value as u32) & row.value)
+            | u64::from(old) & row.load;
+        if broken != 0 {
+            return End::Refused(first_broken(letter, thread.sets & bits, (*cell).counts, due == value as u32, old));
+        }
+        if ORDER && row.under & !(thread.under >> v) != 0 {
+            return End::Denied(20);
+        }
+        let now = events as u64 + 1;
+        let to_cell = if letter == b'W' { main } else { cell };
+        slot(to_cell, cell, row.to).write(now << 32 | u64::from(value as u32));
+        cell.cast::<u8>().add(row.position as usize).cast::<u32>().write(now as u32);
+        (*cell).counts = (counts.wrapping_add(row.step) & COUNTS).to_le_bytes();
+        let joins = row.set & bits | (u64::from(read > thread.last_lock) & row.load) << v;
+        thread.sets = (thread.sets & !(row.clear & bits) | joins).wrapping_add(row.unwritten);
+        End::Done
+    }
+
+    #[inline(always)]
+    unsafe fn lock<const ORDER: bool>(&mut self, t: usize, l: usize, events: usize) -> End {
+        let thread = self.threads.get_unchecked_mut(t);
+        let depth = self.depths.get_unchecked_mut(l);
+        if (*depth != 0) & (thread.held >> l & 1 == 0) {
+            return End::Refused(11);
+        }
+        if thread.sets & OWED != 0 {
+            return End::Refused(13);
+        }
+        if ORDER && thread.unlocked {
+            return End::Denied(21);
+        }
+        thread.first = if thread.held == 0 { (events + FIRST_LINE) as u32 } else { thread.first };
+        *depth += 1;
+        thread.held |= 1 << l;
+        thread.last_lock = events as u32 + 1;
+        thread.sets &= !USABLE;
+        thread.under |= self.guards.get_unchecked(l);
+        End::Done
+    }
+
+    #[inline(always)]
+    unsafe fn unlock<const ORDER: bool>(&mut self, t: usize, l: usize, events: usize) -> End {
+        let thread = self.threads.get_unchecked_mut(t);
+        let depth = self.depths.get_unchecked_mut(l);
+        if thread.held >> l & 1 == 0 {
+            return End::Refused(12);
+        }
+        if thread.sets & FRESH != 0 {
+            return End::Refused(15);
+        }
+        if thread.sets >= UNWRITTEN {
+            return End::Refused(16);
+        }
+        *depth -= 1;
+        let free = u32::from(*depth == 0);
+        thread.held &= !(free << l);
+        thread.under &= !(self.guards.get_unchecked(l) & u64::from(free).wrapping_neg());
+        thread.unlocked = thread.held != 0;
+        if ORDER && thread.held == 0 {
+            self.close_section(t, events + FIRST_LINE);
+        }
+        End::Done
+    }
+
+    /// Adds the section of a thread that ends at a line. At most seven others are open at a time, so that few entries move.
+    #[inline(always)]
+    unsafe fn close_section(&mut self, t: usize, last: usize) {
+        let thread = self.threads.get_unchecked(t);
+        let lines = last << 12 | thread.first as usize;
+        let entry = u64::from(thread.last_lock) << 32 | (t << 24 | lines) as u64;
+        let list = (&raw mut (*self.room).sections).cast::<u64>();
+        let mut place = self.closed;
+        while place > 0 && *list.add(place - 1) > entry {
+            *list.add(place) = *list.add(place - 1);
+            place -= 1;
+        }
+        *list.add(place) = entry;
+        self.closed += 1;
+    }
+}
+
+/// The slot in a cell that is picked by the counts of this or another cell.
+#[inline(always)]
+unsafe fn slot(of: *mut Cell, counts: *const Cell, pick: Pick) -> *mut Slot {
+    let further = *(*counts).counts.get_unchecked(pick.count as usize);
+    (&raw mut (*of).slots).cast::<Slot>().add(pick.base as usize + usize::from(further))
+}

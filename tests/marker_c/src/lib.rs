@@ -1,0 +1,122 @@
+//! Marker C: one pass over the bytes into lent memory, tuned by hand for speed, for x86-64. No heap: what must not be seen before the
+//! paper is accepted is kept on the stack and copied out at the end.
+
+mod events;
+mod fields;
+mod find;
+mod listing;
+mod rows;
+
+use events::{End, Machine};
+use listing::Listing;
+use std::mem::MaybeUninit;
+
+/// What is said of a trace, as in `include/dabzhoni.h`.
+#[derive(Clone, Copy, Debug, Default, PartialEq, Eq)]
+pub struct Marked {
+    pub number: usize,
+    pub line: usize,
+    pub events: usize,
+    pub written: usize,
+    pub sections: usize,
+    pub denial: usize,
+    pub denial_line: usize,
+}
+
+/// What the head declares.
+#[derive(Clone, Copy)]
+struct Counts {
+    threads: usize,
+    variables: usize,
+    locks: usize,
+}
+
+const THREADS: usize = 8;
+const VARIABLES: usize = 16;
+const LOCKS: usize = 8;
+const EVENTS: usize = 2_000;
+const SECTIONS: usize = 1_000;
+const PAPER: usize = 65_536;
+const OUT: usize = 32_768;
+const FIRST_LINE: usize = 3;
+
+/// Where an order goes.
+struct Order<'a> {
+    list: &'a mut [u64],
+    scratch: &'a mut [u64],
+}
+
+/// Marks a paper into lent memory, its order included.
+pub fn mark(
+    paper: &[u8],
+    what: &mut [u32],
+    values: &mut [i32],
+    out: &mut [u8],
+    order: &mut [u64],
+    scratch: &mut [u64],
+) -> Marked {
+    if order.len() < SECTIONS || scratch.len() < EVENTS {
+        return Marked { number: 7, ..Marked::default() };
+    }
+    into(paper, what, values, out, Some(Order { list: order, scratch }))
+}
+
+/// The same where no order is wanted.
+pub fn mark_unordered(paper: &[u8], what: &mut [u32], values: &mut [i32], out: &mut [u8]) -> Marked {
+    into(paper, what, values, out, None)
+}
+
+#[inline(always)]
+fn into(paper: &[u8], what: &mut [u32], values: &mut [i32], out: &mut [u8], order: Option<Order>) -> Marked {
+    if what.len() < EVENTS || values.len() < EVENTS || out.len() < OUT {
+        return Marked { number: 7, ..Marked::default() };
+    }
+    let found = match find::find(paper) {
+        Ok(found) => found,
+        Err((line, number)) => return refused(out, line, number),
+    };
+    let order = if found.guarded { order } else { None };
+    let mut room = MaybeUninit::uninit();
+    let mut machine = Machine::new(&found, &mut room);
+    let mut end = if order.is_some() { machine.run::<true>() } else { machine.run::<false>() };
+    let mut denial = (0, 0);
+    if let End::Denied(number) = end {
+        denial = (machine.line(), number);
+        end = machine.run::<false>();
+    }
+    if let End::Refused(number) = end {
+        return refused(out, machine.line(), number);
+    }
+    if order.is_some() && denial.1 == 0 && machine.is_open() {
+        denial = (machine.line(), 22);
+    }
+    machine.copy_records(what, values);
+    let mut lines = MaybeUninit::uninit();
+    let mut listing = Listing::new(&mut lines);
+    listing.memories(&machine);
+    let mut sections = 0;
+    if let Some(order) = order {
+        if denial.1 == 0 {
+            order.scratch.fill(0);
+            sections = listing.sections(machine.sections(), order.list);
+        } else {
+            listing.pair(b"unordered", denial.0, denial.1);
+        }
+    }
+    Marked {
+        events: machine.len(),
+        written: listing.copy_to(out),
+        sections,
+        denial: denial.1,
+        denial_line: denial.0,
+        ..Marked::default()
+    }
+}
+
+#[cold]
+fn refused(out: &mut [u8], line: usize, number: usize) -> Marked {
+    let mut lines = MaybeUninit::uninit();
+    let mut listing = Listing::new(&mut lines);
+    listing.pair(b"refused", line, number);
+    Marked { number, line, written: listing.copy_to(out), ..Marked::default() }
+}

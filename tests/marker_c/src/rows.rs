@@ -1,0 +1,245 @@
+//! What is kept for a thread and for a cell, and the rows of the letters as numbers, so that U, A, L, S, R, W, P and B all take one
+//! path without a branch on the letter.
+
+use crate::{THREADS, VARIABLES};
+use std::mem::offset_of;
+
+/// What is kept for a thread.
+#[derive(Clone, Copy, Default)]
+pub struct Thread {
+    /// three sets of variables, sixteen bits each: copies that are usable, fresh, owed; above them the number of outstanding stores
+    pub sets: u64,
+    /// the variables that are under their guard, a bit each
+    pub under: u64,
+    /// the locks that it holds, a bit each
+    pub held: u32,
+    /// the position of its last lock; positions count from 1
+    pub last_lock: u32,
+    /// the line where its section begins, and whether it unlocked in it
+    pub first: u32,
+    pub unlocked: bool,
+}
+
+/// Whole sets.
+pub const USABLE: u64 = 0xffff;
+pub const FRESH: u64 = 0xffff << 16;
+pub const OWED: u64 = 0xffff << 32;
+/// One outstanding store.
+pub const UNWRITTEN: u64 = 1 << 48;
+/// Variable 0 in each set.
+const FIRST: u64 = 1 | 1 << 16 | 1 << 32;
+
+/// Each variable in the three sets.
+pub static BITS: [u64; VARIABLES] = {
+    let mut bits = [0; VARIABLES];
+    let mut v = 0;
+    while v < VARIABLES {
+        bits[v] = FIRST << v;
+        v += 1;
+    }
+    bits
+};
+
+/// A value, and its position in the upper half.
+pub type Slot = u64;
+
+/// What is kept for a thread and a variable: the copy, and the outstanding stores and reads, two queues of eight places.
+#[repr(C, align(32))]
+pub struct Cell {
+    /// the lengths of the queues and their places, a byte each
+    pub counts: [u8; 8],
+    /// the position of the thread's last write of the variable
+    pub last_write: u32,
+    /// where events other than writes put their position
+    other: u32,
+    pub slots: [Slot; 17],
+}
+
+/// Main memory is a row of cells before those of the threads: its values are their copies.
+pub const CELLS: usize = (1 + THREADS) * VARIABLES;
+
+/// Bytes of `counts`: the lengths, where the next read or store comes in, where the oldest is, where the latest store is; and a zero.
+pub const READS: usize = 0;
+pub const STORES: usize = 1;
+const READS_IN: usize = 2;
+pub const READS_OUT: usize = 3;
+const STORES_IN: usize = 4;
+const STORES_OUT: usize = 5;
+const STORES_LAST: usize = 6;
+const ZERO: usize = 7;
+/// A length is up to 8, a place up to 7. The sum of counts and steps is cut to these bits.
+pub const COUNTS: u64 = 0x00_07_07_07_07_07_0f_0f;
+/// A cell's counts before the first event: the place before 0 is 7.
+pub const NO_COUNTS: u64 = 7 << (8 * STORES_LAST);
+
+/// The slots: the copy, and where the queues begin.
+pub const COPY: usize = 0;
+const STORES_AT: usize = 1;
+pub const READS_AT: usize = 9;
+
+/// A slot: the one at `base` and as many further as the byte of the counts says.
+#[derive(Clone, Copy)]
+pub struct Pick {
+    pub base: u32,
+    pub count: u32,
+}
+
+const THE_COPY: Pick = pick(COPY, ZERO);
+
+const fn pick(base: usize, count: usize) -> Pick {
+    Pick { base: base as u32, count: count as u32 }
+}
+
+const fn one(count: usize) -> u64 {
+    1 << (8 * count)
+}
+
+/// A length has this bit if it is 8, and if it is not 0 once 7 is added.
+const fn full(length: usize) -> u64 {
+    8 << (8 * length)
+}
+
+const fn seven(length: usize) -> u64 {
+    7 << (8 * length)
+}
+
+/// What an event of a letter asks, and what it does.
+#[derive(Clone, Copy)]
+#[repr(align(64))]
+pub struct Row {
+    pub letter: u8,
+    /// the sets that are asked, and those of them that must have the variable
+    pub sets: u64,
+    pub sets_due: u64,
+    /// of the counts: what is added before, the bits that are asked, and those of them that must be there
+    pub plus: u64,
+    pub counts: u64,
+    pub counts_due: u64,
+    /// the value that the event must have, and whether it must
+    pub due: Pick,
+    pub value: u32,
+    /// 1 where the oldest read must not be older than the last write, and makes the copy usable if it came after the last lock
+    pub load: u64,
+    /// 1 where the variable must be under its guard
+    pub under: u64,
+    /// the sets that the variable leaves and joins, and what is added to them
+    pub clear: u64,
+    pub set: u64,
+    pub unwritten: u64,
+    /// what is added to the counts
+    pub step: u64,
+    /// where the value goes, and where in the cell the position
+    pub to: Pick,
+    pub position: u32,
+}
+
+/// What a letter without a row has: a letter that leads to another row.
+const NO_ROW: Row = Row {
+    letter: b'u',
+    sets: 0,
+    sets_due: 0,
+    plus: 0,
+    counts: 0,
+    counts_due: 0,
+    due: THE_COPY,
+    value: u32::MAX,
+    load: 0,
+    under: 0,
+    clear: 0,
+    set: 0,
+    unwritten: 0,
+    step: 0,
+    to: THE_COPY,
+    position: offset_of!(Cell, other) as u32,
+};
+
+const STORED: Row = Row {
+    counts: full(STORES),
+    unwritten: UNWRITTEN,
+    step: one(STORES) + one(STORES_IN) + one(STORES_LAST),
+    to: pick(STORES_AT, STORES_IN),
+    ..NO_ROW
+};
+
+const ROWS: [Row; 8] = [
+    Row { letter: b'U', sets: USABLE, sets_due: USABLE, under: 1, ..NO_ROW },
+    Row { letter: b'A', value: 0, under: 1, set: USABLE | FRESH, ..NO_ROW },
+    Row {
+        letter: b'L',
+        sets: OWED | FRESH,
+        plus: seven(READS) + seven(STORES),
+        counts: full(READS) | full(STORES),
+        counts_due: full(READS),
+        due: pick(READS_AT, READS_OUT),
+        load: 1,
+        step: one(READS_OUT) - one(READS),
+        ..NO_ROW
+    },
+    Row { letter: b'S', sets: OWED | FRESH | USABLE, sets_due: FRESH | USABLE, clear: FRESH, ..STORED },
+    Row { letter: b'R', counts: full(READS), step: one(READS) + one(READS_IN), to: pick(READS_AT, READS_IN), ..NO_ROW },
+    Row {
+        letter: b'W',
+        plus: seven(STORES),
+        counts: full(STORES),
+        counts_due: full(STORES),
+        due: pick(STORES_AT, STORES_OUT),
+        unwritten: UNWRITTEN.wrapping_neg(),
+        step: one(STORES_OUT) - one(STORES),
+        position: offset_of!(Cell, last_write) as u32,
+        ..NO_ROW
+    },
+    Row { letter: b'P', sets: OWED, value: 0, set: OWED, ..STORED },
+    // nothing is stored while an assign is owed, so that the announced value is in the latest store's place
+    Row {
+        letter: b'B',
+        sets: OWED,
+        sets_due: OWED,
+        due: pick(STORES_AT, STORES_LAST),
+        under: 1,
+        clear: FRESH | OWED,
+        set: USABLE,
+        ..NO_ROW
+    },
+];
+
+/// The rows by the low five bits of their letters.
+pub static TABLE: [Row; 32] = {
+    let mut table = [NO_ROW; 32];
+    let mut i = 0;
+    while i < ROWS.len() {
+        table[ROWS[i].letter as usize % 32] = ROWS[i];
+        i += 1;
+    }
+    table
+};
+
+/// The first refusal in a letter's row, one of which holds: by the sets that have the variable, the lengths of its queues, whether the
+/// value is the due one, and whether the oldest read is older than the last write.
+#[cold]
+#[inline(never)]
+pub fn first_broken(letter: u8, sets: u64, counts: [u8; 8], same: bool, old: bool) -> usize {
+    let (usable, fresh, owed) = (sets & USABLE != 0, sets & FRESH != 0, sets & OWED != 0);
+    let (reads, stores) = (counts[READS], counts[STORES]);
+    match letter {
+        b'U' if !usable => 17,
+        b'U' => 18,
+        b'L' if reads == 0 => 10,
+        b'L' if owed => 13,
+        b'L' if fresh => 15,
+        b'L' if stores > 0 || old => 16,
+        b'L' => 18,
+        b'S' if owed => 13,
+        b'S' if !fresh => 14,
+        b'S' if !usable => 17,
+        b'S' if !same => 18,
+        b'S' => 19,
+        b'R' if !same => 18,
+        b'R' => 19,
+        b'W' if stores == 0 => 10,
+        b'W' => 18,
+        b'P' if owed => 13,
+        b'P' => 19,
+        b'B' if !owed => 10,
+        _ => 18,
+    }
+}
