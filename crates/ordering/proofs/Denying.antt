@@ -3,41 +3,41 @@ use Prim.Native.Nat.{ℕ, suc, _+_, _*_, _-_, _<_, _≤_}
 use native.Mathlib.Decide.{decLt}
 use native.Mathlib.Omega.{arith}
 use native.Mathlib.Numerals.{add-one}
-use mathlib.Core.Path.{_≡_, refl, sym, _∙_, ap, ap₂, subst}
-use mathlib.Core.Bool.{Bool, true, false, cond, _&&_}
+use mathlib.Core.Path.{_≡_, refl, sym, _∙_, ap, ap₂}
+use mathlib.Core.Bool.{Bool, true, false, not, cond, _&&_, _||_}
 use mathlib.Core.List.{List, [], _∷_}
-use lib.Dec.{eqb, ltb}
+use lib.Dec.{T, eqb, ltb}
 use lib.IntN.{ℤ}
 use lib.ListN.{length, getD, set, replicate}
 use borrow.Author.Tests.{lt-ltb, le-ltb}
 use Rattle.rules.specs.declared.Event.{Event}
 use Rattle.rules.specs.declared.Counts.{Counts}
 use Rattle.rules.specs.declared.Verdict.the-variants.{Accepted, Refused}
-use Rattle.rules.specs.Events.{N}
+use Rattle.rules.specs.Events.{A, B, K, U, isLockLetter}
 use Rattle.rules.specs.Limits.{lineAfter}
-use Rattle.rules.specs.Rules.{some, wordsOf, held}
+use Rattle.rules.specs.Rules.{loc, wordsOf, held, legal}
 use Rattle.rules.proofs.Bounds.{allowed-bounds}
+use Rattle.rules.proofs.Laws.{or-false-left}
 use Rattle.serial.specs.Lists.{All}
 use Rattle.serial.proofs.Counted as H
 use Rattle.records.specs.Records.{eventAt, rowEvents}
 use Rattle.rules.specs.Memories.{from}
 use Rattle.rules.proofs.From.{from-step, from-end}
 use Rattle.sections.specs.Denials.{Denial, fit, denied}
-use Rattle.sections.specs.Places.{holdsSome}
 use Rattle.sections.specs.Refusals.{afterUnlock, notUnder, lateLock, denialFrom, denial}
 use Rattle.sections.proofs.Valid.{Declared}
 use Rattle.sections.proofs.Whole.{from-held}
 use Rattle.sections.proofs.Ordered.{lock-below}
 use Rattle.ordering.specs.Answer.{guardOf}
-use Rattle.ordering.specs.Computed.Parts.{Fits, past, guardCell, brokenBy, levelAfter, pendingAfter, lateAfter, heldIn, unfinishedIn, toldAs}
-use Rattle.ordering.proofs.Rows.{past-length, row-few, known-past}
-use Rattle.ordering.proofs.Scanned.{Reads, Levels, levels-start, levels-after, held-is, level-low, some-held, Owed, owed-start, owed-after, unfinished-is, Late, late-start, late-after}
+use Rattle.ordering.specs.Computed.Parts.{Fits, past, guardCell, underIn, levelAfter, pendingAfter, lateAfter, unfinishedIn, toldAs}
+use Rattle.ordering.proofs.Rows.{past-length, row-few, known-past, legal-past}
+use Rattle.ordering.proofs.Scanned.{Reads, uses-none, Levels, levels-start, levels-after, levels-kept, level-low, Owed, owed-start, owed-after, owed-kept}
+use Rattle.ordering.proofs.Depths.{Depths, depths-start, holds-after, depths-after, depths-kept, depth-low, unfinished-is}
+use Rattle.ordering.proofs.Late.{Late, late-start, late-after, late-kept}
 
--- ---- 20 and 21 of one event
-
-under-is : (h : Counts) (levels : List ℕ) (es : List Event) → Levels levels es → h .locks ≤ 8 → All (Declared h) es → (t g : ℕ) → t < 8
-    → (ltb g 16 && ltb 0 (getD levels (guardCell t g) 0)) ≡ held (wordsOf es) t g
-unfolding guardCell
+-- the level of its guard says whether a thread is under it
+under-is : (h : Counts) (levels : List ℕ) (es : List Event) → Levels levels es → h .locks ≤ 8 → All (Declared h) es → (t g : ℕ) → t < 8 → underIn levels t g ≡ held (wordsOf es) t g
+unfolding underIn guardCell
 under-is h levels es L low d t g ht = go (decLt g 16)
   where
     none : (b : Bool) → held (wordsOf es) t g ≡ b → 16 ≤ g → false ≡ b
@@ -48,113 +48,151 @@ under-is h levels es L low d t g ht = go (decLt g 16)
     none false p q = refl
 
     go : Dec (g < 16) → (ltb g 16 && ltb 0 (getD levels (cond (ltb g 16) (t * 16 + g) 0) 0)) ≡ held (wordsOf es) t g
-    go (yes q) = rw (lt-ltb g 16 q) (unfold heldIn in held-is levels es L t g ht q)
+    go (yes q) = rw (lt-ltb g 16 q) (unfold wordsOf in ap (ltb 0) (L .level t g ht q))
     go (no q) = let z : 16 ≤ g = omega (arith, q) in rw (le-ltb g 16 z) (none (held (wordsOf es) t g) refl z)
 
-broken-is : (h : Counts) (gs : List ℕ) (es : List Event) (k t p : ℕ) (e : Event) → Reads k t p e → (under was : Bool) → under ≡ held (wordsOf es) t (guardOf gs p) → was ≡ afterUnlock h t es
-    → brokenBy k under was ≡ cond (notUnder (guardOf gs) es e) 20 (cond (lateLock h es e) 21 0)
-unfolding brokenBy notUnder lateLock
-broken-is h gs es k t p e r under was a b = rw (r .uses, r .locking, r .whose, r .places, a, b)
+-- ---- what the loop knows
 
 module _ (h : Counts) (gs ws : List ℕ) (xs : List ℤ) where
   abbrev ev : ℕ → Event
   ev = eventAt h ws xs
 
-  pub record Going (levels : List ℕ) (owed late : List Bool) (i : ℕ) : Type 0 where
+  abbrev pub whole : Denial
+  whole = denial h (guardOf gs) (rowEvents h ws xs)
+
+  pub record Going (levels : List ℕ) (owed : List Bool) (depths : List ℕ) (late : List Bool) (i : ℕ) : Type 0 where
     pub upto : i ≤ length ws
     pub levels-are : Levels levels (past ev i)
     pub owed-are : Owed owed (past ev i)
+    pub depths-are : Depths h depths (past ev i)
     pub late-are : Late h late (past ev i)
-    pub left : denialFrom h (guardOf gs) (past ev i) (from ev i (length ws - i)) ≡ denial h (guardOf gs) (rowEvents h ws xs)
+    pub left : denialFrom h (guardOf gs) (past ev i) (from ev i (length ws - i)) ≡ whole
 
-  pub begins : Going (replicate 128 0) (replicate 128 false) (replicate 8 false) 0
+  pub begins : Going (replicate 128 0) (replicate 128 false) (replicate 8 0) (replicate 8 false) 0
   unfolding past denial rowEvents
-  begins = record { upto = omega arith; levels-are = levels-start; owed-are = owed-start; late-are = late-start h; left = ap (λ (n : ℕ). denialFrom h (guardOf gs) [] (from ev 0 n)) {x = length ws - 0} {y = length ws} (omega arith) }
+  begins = record {
+    upto = omega arith;
+    levels-are = levels-start;
+    owed-are = owed-start;
+    depths-are = depths-start h;
+    late-are = late-start h;
+    left = ap (λ (n : ℕ). denialFrom h (guardOf gs) [] (from ev 0 n)) {x = length ws - 0} {y = length ws} (omega arith);
+  }
 
-  module _ (f : Fits h ws xs) (levels : List ℕ) (owed late : List Bool) (i : ℕ) (G : Going levels owed late i) where
-    few-past : length (past ev i) ≤ 2000
-    few-past = omega (arith, past-length ev i, G .upto, row-few h ws xs f)
+  -- ---- the ends
 
-    module _ (b : i < length ws) (k t p : ℕ) (r : Reads k t p (ev i)) (guard rule : ℕ) (q : guard ≡ guardCell t (getD gs p 0))
-        (w : rule ≡ brokenBy k (ltb (getD gs p 0) 16 && ltb 0 (getD levels guard 0)) (getD late t false)) where
-      abbrev d : Denial
-      d = denialFrom h (guardOf gs) (past ev (suc i)) (from ev (suc i) (length ws - suc i))
-
-      abbrev nu : Bool
-      nu = notUnder (guardOf gs) (past ev i) (ev i)
-
-      abbrev ll : Bool
-      ll = lateLock h (past ev i) (ev i)
-
-      breaking : rule ≡ cond nu 20 (cond ll 21 0)
-      unfolding guardOf
-      breaking =
-          w ∙ broken-is h gs (past ev i) k t p (ev i) r (ltb (getD gs p 0) 16 && ltb 0 (getD levels guard 0)) (getD late t false)
-          (ap (λ j. ltb (getD gs p 0) 16 && ltb 0 (getD levels j 0)) q ∙ under-is h levels (past ev i) (G .levels-are) (allowed-bounds h (f .accepted .head) .2) (known-past h ws xs f i (G .upto)) t (getD gs p 0) (r .thread-low))
-          (G .late-are .after t (r .thread-low))
-
-      opened : denial h (guardOf gs) (rowEvents h ws xs) ≡ cond nu (denied 20 (lineAfter h i)) (cond ll (denied 21 (lineAfter h i)) d)
-      unfolding denialFrom past
-      opened = sym (G .left) ∙ ap (denialFrom h (guardOf gs) (past ev i)) (from-step ev i (length ws) b) ∙ ap (λ n. cond nu (denied 20 (lineAfter h n)) (cond ll (denied 21 (lineAfter h n)) d)) (past-length ev i)
-
-      pub stops : (line : ℕ) → line ≡ lineAfter h i → (rule ≡ 0 → ⊥) → Refused rule line ≡ toldAs (denial h (guardOf gs) (rowEvents h ws xs))
-      unfolding toldAs
-      stops line el z = ap₂ Refused breaking el ∙ go nu ll (λ e. z (breaking ∙ e)) ∙ sym (ap toldAs opened)
-        where
-          go : (x y : Bool) → (cond {A = ℕ} x 20 (cond y 21 0) ≡ 0 → ⊥) → Refused (cond x 20 (cond y 21 0)) (lineAfter h i) ≡ toldAs (cond x (denied 20 (lineAfter h i)) (cond y (denied 21 (lineAfter h i)) d))
-          go true y n = refl
-          go false true n = refl
-          go false false n = absurd (n refl)
-
-      pub goes : rule ≡ 0 → (x : ℕ) (y : Bool) (end : ℕ) (any z : Bool) → x ≡ levelAfter (getD levels (t * 16 + p) 0) k → y ≡ pendingAfter (getD owed (t * 16 + p) false) k
-          → end ≡ cond (eqb k N) (h .locks) 0 → any ≡ some end (heldIn (set levels (t * 16 + p) x) t) → z ≡ lateAfter (getD late t false) k any
-          → Going (set levels (t * 16 + p) x) (set owed (t * 16 + p) y) (set late t z) (i + 1)
-      unfolding past
-      goes e x y end any z ex ey ee ea ez = rw (add-one i) (record { upto = b; levels-are = L; owed-are = O; late-are = M; left = sym (opened ∙ go nu ll (sym breaking ∙ e)) })
-        where
-          go : (x y : Bool) → cond {A = ℕ} x 20 (cond y 21 0) ≡ 0 → cond x (denied 20 (lineAfter h i)) (cond y (denied 21 (lineAfter h i)) d) ≡ d
-          go true y q = absurd (omega (arith, q))
-          go false true q = absurd (omega (arith, q))
-          go false false q = refl
-
-          L : Levels (set levels (t * 16 + p) x) (ev i ∷ past ev i)
-          L = subst (λ n. Levels (set levels (t * 16 + p) n) (ev i ∷ past ev i)) (sym ex) (levels-after levels (past ev i) (G .levels-are) k t p (ev i) r)
-
-          O : Owed (set owed (t * 16 + p) y) (ev i ∷ past ev i)
-          O = subst (λ n. Owed (set owed (t * 16 + p) n) (ev i ∷ past ev i)) (sym ey) (owed-after owed (past ev i) (G .owed-are) k t p (ev i) r)
-
-          asked : eqb k N ≡ true → any ≡ holdsSome h t (ev i ∷ past ev i)
-          asked q = ea ∙ ap (λ n. some n (heldIn (set levels (t * 16 + p) x) t)) (ee ∙ ap (λ c. cond c (h .locks) 0) q) ∙ some-held (set levels (t * 16 + p) x) (ev i ∷ past ev i) L h (allowed-bounds h (f .accepted .head) .2) t (r .thread-low)
-
-          M : Late h (set late t z) (ev i ∷ past ev i)
-          M = subst (λ n. Late h (set late t n) (ev i ∷ past ev i)) (sym ez) (late-after h (past ev i) k t p (ev i) r any late (G .late-are) asked)
-
-    pub range : (k t p : ℕ) → Reads k t p (ev i) → getD levels (t * 16 + p) 0 < 65536
-    range k t p r = level-low levels (past ev i) (G .levels-are) t p (r .thread-low) (r .place-low) few-past
-
-    ended : length ws ≤ i → denial h (guardOf gs) (rowEvents h ws xs) ≡ cond (unfinishedIn h levels owed) (denied 22 (lineAfter h i)) fit
+  module _ (f : Fits h ws xs) {levels : List ℕ} {owed : List Bool} {depths : List ℕ} {late : List Bool} {i : ℕ} (G : Going levels owed depths late i) where
+    ended : length ws ≤ i → whole ≡ cond (unfinishedIn h depths owed) (denied 22 (lineAfter h i)) fit
     unfolding denialFrom
     ended e =
         sym (G .left) ∙ ap (denialFrom h (guardOf gs) (past ev i)) (from-end ev i (length ws) e)
-        ∙ ap₂ (λ c n. cond c (denied 22 (lineAfter h n)) fit) (sym (unfinished-is h levels owed (past ev i) (G .levels-are) (G .owed-are) (allowed-bounds h (f .accepted .head) .0) (allowed-bounds h (f .accepted .head) .2) (allowed-bounds h (f .accepted .head) .1))) (past-length ev i)
+        ∙ ap₂ (λ c n. cond c (denied 22 (lineAfter h n)) fit) (sym (unfinished-is h depths (past ev i) (G .depths-are) owed (G .owed-are) (allowed-bounds h (f .accepted .head) .0) (allowed-bounds h (f .accepted .head) .1))) (past-length ev i)
 
-    pub ends-open : (line : ℕ) → line ≡ lineAfter h i → length ws ≤ i → unfinishedIn h levels owed ≡ true → Refused 22 line ≡ toldAs (denial h (guardOf gs) (rowEvents h ws xs))
+    pub ends-open : length ws ≤ i → unfinishedIn h depths owed ≡ true → Refused 22 (lineAfter h i) ≡ toldAs whole
     unfolding toldAs
-    ends-open line el e o = ap (Refused 22) el ∙ sym (ap toldAs (ended e ∙ ap (λ c. cond c (denied 22 (lineAfter h i)) fit) o))
+    ends-open e o = sym (ap toldAs (ended e ∙ ap (λ c. cond c (denied 22 (lineAfter h i)) fit) o))
 
-    pub ends-fit : length ws ≤ i → unfinishedIn h levels owed ≡ false → Accepted ≡ toldAs (denial h (guardOf gs) (rowEvents h ws xs))
+    pub ends-fit : length ws ≤ i → unfinishedIn h depths owed ≡ false → Accepted ≡ toldAs whole
     unfolding toldAs
     ends-fit e o = sym (ap toldAs (ended e ∙ ap (λ c. cond c (denied 22 (lineAfter h i)) fit) o))
 
--- a cell's place lies in the arrays
-pub guard-in : (t g : ℕ) {i : ℕ} → t < 8 → i ≡ guardCell t g → i < 128
-unfolding guardCell
-guard-in t g {i} h e = go (decLt g 16)
-  where
-    go : Dec (g < 16) → i < 128
-    go (yes q) = let z : i ≡ t * 16 + g = e ∙ ap (λ b. cond b (t * 16 + g) 0) (lt-ltb g 16 q) in omega (arith, z, h, q)
-    go (no q) = let z : i ≡ 0 = e ∙ ap (λ b. cond b (t * 16 + g) 0) (le-ltb g 16 (omega (arith, q))) in omega (arith, z)
+-- ---- one turn: the event at i, by its letter k, thread t and place p
 
-pub span-in : (b : Bool) (n : ℕ) {m : ℕ} → n ≤ 8 → m ≡ cond b n 0 → m ≤ 8
-span-in true n h e = omega (arith, h, e)
-span-in false n h e = omega (arith, e)
+pub record Turn (h : Counts) (gs ws : List ℕ) (xs : List ℤ) (levels : List ℕ) (owed : List Bool) (depths : List ℕ) (late : List Bool) (i k t p : ℕ) : Type 0 where
+  pub fits : Fits h ws xs
+  pub going : Going h gs ws xs levels owed depths late i
+  pub more : i < length ws
+  pub reads : Reads k t p (eventAt h ws xs i)
+
+module _ {h : Counts} {gs ws : List ℕ} {xs : List ℤ} {levels : List ℕ} {owed : List Bool} {depths : List ℕ} {late : List Bool} {i k t p : ℕ} (u : Turn h gs ws xs levels owed depths late i k t p) where
+  abbrev es : List Event
+  es = past (eventAt h ws xs) i
+
+  abbrev e : Event
+  e = eventAt h ws xs i
+
+  abbrev r : Reads k t p e
+  r = u .reads
+
+  few-past : length es ≤ 2000
+  few-past = omega (arith, past-length (eventAt h ws xs) i, u .more, row-few h ws xs (u .fits))
+
+  pub early : i ≤ 2000
+  early = omega (arith, u .more, row-few h ws xs (u .fits))
+
+  pub level-range : getD levels (t * 16 + p) 0 < 65536
+  level-range = level-low levels es (u .going .levels-are) t p (r .thread-low) (r .place-low) few-past
+
+  pub depth-range : getD depths t 0 < 65536
+  depth-range = depth-low h depths es (u .going .depths-are) t (r .thread-low) few-past
+
+  next-legal : T (legal h (e ∷ es))
+  unfolding past
+  next-legal = legal-past h ws xs (u .fits) (suc i) (u .more)
+
+  abbrev nu : Bool
+  nu = notUnder (guardOf gs) es e
+
+  abbrev ll : Bool
+  ll = lateLock h es e
+
+  abbrev d : Denial
+  d = denialFrom h (guardOf gs) (e ∷ es) (from (eventAt h ws xs) (suc i) (length ws - suc i))
+
+  opened : (x y : Bool) → nu ≡ x → ll ≡ y → whole h gs ws xs ≡ cond x (denied 20 (lineAfter h i)) (cond y (denied 21 (lineAfter h i)) d)
+  unfolding denialFrom
+  opened x y a b =
+      sym (u .going .left) ∙ ap (denialFrom h (guardOf gs) es) (from-step (eventAt h ws xs) i (length ws) (u .more))
+      ∙ ap (λ n. cond nu (denied 20 (lineAfter h n)) (cond ll (denied 21 (lineAfter h n)) d)) (past-length (eventAt h ws xs) i)
+      ∙ ap₂ (λ x y. cond x (denied 20 (lineAfter h i)) (cond y (denied 21 (lineAfter h i)) d)) a b
+
+  on : (levels′ : List ℕ) (owed′ : List Bool) (depths′ : List ℕ) (late′ : List Bool) → nu ≡ false → ll ≡ false
+      → Levels levels′ (e ∷ es) → Owed owed′ (e ∷ es) → Depths h depths′ (e ∷ es) → Late h late′ (e ∷ es) → Going h gs ws xs levels′ owed′ depths′ late′ (i + 1)
+  unfolding past
+  on levels′ owed′ depths′ late′ a b L O D M = rw (add-one i) (record { upto = u .more; levels-are = L; owed-are = O; depths-are = D; late-are = M; left = sym (opened false false a b) })
+
+  -- ---- a lock event
+
+  module _ (q : isLockLetter k ≡ true) where
+    not-used : nu ≡ false
+    unfolding notUnder
+    not-used = ap (λ x. x && not (held (wordsOf es) (e .thread) (guardOf gs (loc e)))) (r .uses ∙ uses-none k q)
+
+    late-is : ll ≡ (eqb k K && getD late t false)
+    unfolding lateLock
+    late-is = ap₂ (λ x y. x && y) (r .locking) (ap (λ t. afterUnlock h t es) (r .whose) ∙ sym (u .going .late-are .after t (r .thread-low)))
+
+    pub late-stops : (eqb k K && getD late t false) ≡ true → Refused 21 (lineAfter h i) ≡ toldAs (whole h gs ws xs)
+    unfolding toldAs
+    late-stops z = sym (ap toldAs (opened false true not-used (late-is ∙ z)))
+
+    pub lock-goes : (eqb k K && getD late t false) ≡ false → {x y : ℕ} {z : Bool} → x ≡ levelAfter (getD levels (t * 16 + p) 0) k → y ≡ levelAfter (getD depths t 0) k → z ≡ lateAfter (getD late t false) k (ltb 0 y)
+        → Going h gs ws xs (set levels (t * 16 + p) x) owed (set depths t y) (set late t z) (i + 1)
+    lock-goes n {x} {y} {z} ex ey ez =
+        on (set levels (t * 16 + p) x) owed (set depths t y) (set late t z) not-used (late-is ∙ n)
+        (levels-after levels es (u .going .levels-are) k t p e r ex) (owed-kept owed es (u .going .owed-are) k t p e r q) (depths-after h depths es (u .going .depths-are) k t p e r next-legal ey)
+        (late-after h late es (u .going .late-are) k t p e r (λ _. holds-after h depths es (u .going .depths-are) k t p e r next-legal ey) ez)
+
+  -- ---- an event on a variable
+
+  module _ (q : isLockLetter k ≡ false) {under : Bool} (w : under ≡ underIn levels t (getD gs p 0)) where
+    not-late : ll ≡ false
+    unfolding lateLock isLockLetter
+    not-late = ap (λ x. x && afterUnlock h (e .thread) es) (r .locking ∙ or-false-left (eqb k K) _ q)
+
+    used-is : nu ≡ ((eqb k U || (eqb k A || eqb k B)) && not under)
+    unfolding notUnder guardOf
+    used-is =
+        let b = under-is h levels es (u .going .levels-are) (allowed-bounds h (u .fits .accepted .head) .2) (known-past h ws xs (u .fits) i (u .going .upto)) t (getD gs p 0) (r .thread-low) in
+        ap₂ (λ x y. x && not y) (r .uses) (ap₂ (λ t p. held (wordsOf es) t (getD gs p 0)) (r .whose) (r .places) ∙ sym (w ∙ b))
+
+    pub bare-stops : ((eqb k U || (eqb k A || eqb k B)) && not under) ≡ true → Refused 20 (lineAfter h i) ≡ toldAs (whole h gs ws xs)
+    unfolding toldAs
+    bare-stops z = sym (ap toldAs (opened true false (used-is ∙ z) not-late))
+
+    pub variable-goes : ((eqb k U || (eqb k A || eqb k B)) && not under) ≡ false → {y : Bool} → y ≡ pendingAfter (getD owed (t * 16 + p) false) k
+        → Going h gs ws xs levels (set owed (t * 16 + p) y) depths late (i + 1)
+    variable-goes n {y} ey =
+        on levels (set owed (t * 16 + p) y) depths late (used-is ∙ n) not-late
+        (levels-kept levels es (u .going .levels-are) k t p e r q) (owed-after owed es (u .going .owed-are) k t p e r ey)
+        (depths-kept h depths es (u .going .depths-are) k t p e r next-legal q) (late-kept h late es (u .going .late-are) k t p e r q)

@@ -1,6 +1,9 @@
 pub mod Loops
+pub mod Sums
 pub mod Gathering
 pub mod Scanned
+pub mod Depths
+pub mod Late
 pub mod Rows
 pub mod Denying
 pub mod Buckets

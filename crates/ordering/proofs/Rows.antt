@@ -1,6 +1,5 @@
 -- The events of two rows that fit: those before an index, those from it on, and what is known of each.
 use Prim.Native.Nat.{ℕ, zero, suc, _+_, _-_, _≤_, _<_}
-use native.Mathlib.Decide.{ℕ-discrete}
 use native.Mathlib.Omega.{arith}
 use mathlib.Core.Path.{_≡_, refl, sym, ap, _∙_, subst}
 use mathlib.Core.Bool.{true}
@@ -50,16 +49,6 @@ module _ (ev : ℕ → Event) where
 
 -- ---- what is known of each event
 
--- what all events have, the one at an index has
-from-all : (P : Event → Type 0) (ev : ℕ → Event) (i n : ℕ) → All P (from ev i n) → (j : ℕ) → i ≤ j → j < i + n → P (ev j)
-unfolding from
-from-all P ev i zero a j b c = absurd (omega arith)
-from-all P ev i (suc n) a j b c = go (ℕ-discrete i j) (from-all P ev (suc i) n (a .1) j)
-  where
-    go : Dec (i ≡ j) → (suc i ≤ j → j < suc i + n → P (ev j)) → P (ev j)
-    go (yes q) r = subst (λ (k : ℕ). P (ev k)) q (a .0)
-    go (no q) r = r (omega arith) (omega arith)
-
 -- each event of an accepted trace is declared
 abbrev Known : Counts → Event → Type 0
 Known h e = declared h e ≡ true
@@ -87,9 +76,18 @@ module _ (h : Counts) (ws : List ℕ) (xs : List ℤ) (f : Fits h ws xs) where
       let m = length-reverse es in
       omega (arith, few full h (reverse es) (f .accepted .limits .excess) (mark-accepts full h es (f .accepted .marked)))
 
+  -- the events before an index are legal
+  pub legal-past : (i : ℕ) → i ≤ length ws → T (legal h (past ev i))
+  unfolding past rowEvents
+  legal-past i b = go (length ws - i) i (omega (arith, b))
+    where
+      go : (m i : ℕ) → m + i ≡ length ws → T (legal h (past ev i))
+      go zero i q = subst (λ (es : List Event). T (legal h es)) (sym (past-all ev (length ws)) ∙ ap (past ev) {x = length ws} {y = i} (omega (arith, q))) (valid full h es (f .accepted))
+      go (suc m) i q = legal-before h (ev i) (past ev i) (go m (suc i) (omega (arith, q)))
+
   pub known-at : (i : ℕ) → i < length ws → declared h (ev i) ≡ true
-  unfolding rowEvents
-  known-at i b = from-all (Known h) ev 0 (length ws) (trace-known h es (f .accepted)) i (omega arith) (omega arith)
+  unfolding past
+  known-at i b = legal-known h (ev i) (past ev i) (legal-past (suc i) b)
 
   pub known-past : (i : ℕ) → i ≤ length ws → All (Declared h) (past ev i)
   unfolding past

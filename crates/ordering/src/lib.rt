@@ -1,15 +1,16 @@
 // The serial order of a trace's critical sections, or what denies it one. The events are two rows of records, of a trace that is accepted. The
 // first pass asks 20 to 22 and writes nothing lent; the second lists the sections.
 ghost use mathlib.Core.Path.{_≡_};
-ghost use mathlib.Core.Bool.{false, cond};
+ghost use mathlib.Core.Bool.{false};
 ghost use Prim.Native.Nat.{_≤_, _<_, _+_};
 ghost use lib.ListN.{length, replicate, take};
-ghost use Rattle.rules.specs.Limits.{full, orderShort};
+ghost use Rattle.rules.specs.Limits.{full, orderShort, lineAfter};
+ghost use Rattle.rules.specs.declared.Verdict.the-variants.{Refused};
 ghost use Rattle.rules.specs.Rules.{some};
 ghost use Rattle.records.specs.Records.{rowEvents};
 ghost use Rattle.sections.specs.Refusals.{denial};
 ghost use Rattle.ordering.specs.Answer.{guardOf, answerFor, entriesFor, Given};
-ghost use Rattle.ordering.specs.Computed.Parts.{Fits, guardCell, brokenBy, levelAfter, pendingAfter, lateAfter, busyAfter, heldIn, pendingIn, unfinishedIn, toldAs, codeOf, firstAfter, atTop, atEvent, topAfter, Filled, unlessZero, nonzero, Put, Orders, Written};
+ghost use Rattle.ordering.specs.Computed.Parts.{Fits, guardCell, underIn, levelAfter, pendingAfter, lateAfter, pendingIn, unfinishedIn, toldAs, codeOf, firstAfter, atTop, atEvent, topAfter, Filled, unlessZero, nonzero, Put, Orders, Written};
 ghost use Rattle.ordering.specs.Traces.{OrdersTrace};
 use marking::Marking;
 use rules::Counts;
@@ -34,18 +35,6 @@ fn guard_cell(t: usize, g: usize) -> usize
     ensures { λ r. ⌜ r ≡ guardCell t g ⌝ }
 {
     if g < 16 { t * 16 + g } else { 0 }
-}
-
-fn broken(k: u8, under: bool, late: bool) -> u8
-    ensures { λ r. ⌜ r ≡ brokenBy k under late ⌝ }
-{
-    if ((k == b'U') | ((k == b'A') | (k == b'B'))) & !under {
-        return 20;
-    }
-    if (k == b'K') & late {
-        return 21;
-    }
-    0
 }
 
 fn level_after(x: u32, k: u8) -> u32
@@ -73,34 +62,6 @@ fn late_after(b: bool, k: u8, any: bool) -> bool
     if k == b'N' { any } else { b }
 }
 
-fn busy_after(b: bool, k: u8, any: bool) -> bool
-    ensures { λ r. ⌜ r ≡ busyAfter b k any ⌝ }
-{
-    if (k == b'K') | (k == b'N') { any } else { b }
-}
-
-// n, where it is asked for.
-fn span(asked: bool, n: usize) -> usize
-    ensures { λ r. ⌜ r ≡ cond asked n 0 ⌝ }
-{
-    if asked { n } else { 0 }
-}
-
-// Whether thread t holds one of the first n locks.
-fn holds_some(levels: &[u32; 128], t: usize, n: usize) -> bool
-    requires { ⌜ t < 8 ⌝ }
-    requires { ⌜ n ≤ 8 ⌝ }
-    ensures { λ r. ⌜ r ≡ some n (heldIn (now (levels .entry)) t) ⌝ }
-{
-    let mut any = false;
-    let mut l: usize = 0;
-    while l < n {
-        any = (0 < levels[t * 16 + l]) | any;
-        l += 1;
-    }
-    any
-}
-
 // Whether thread t owes an assign on one of the first n variables.
 fn owes_some(pending: &[bool; 128], t: usize, n: usize) -> bool
     requires { ⌜ t < 8 ⌝ }
@@ -117,16 +78,15 @@ fn owes_some(pending: &[bool; 128], t: usize, n: usize) -> bool
 }
 
 // 22: at the end a lock is held or an assign owed.
-fn unfinished(h: Counts, levels: &[u32; 128], pending: &[bool; 128]) -> bool
+fn unfinished(h: Counts, depths: &[u32; 8], pending: &[bool; 128]) -> bool
     requires { ⌜ h .threads ≤ 8 ⌝ }
-    requires { ⌜ h .locks ≤ 8 ⌝ }
     requires { ⌜ h .variables ≤ 16 ⌝ }
-    ensures { λ r. ⌜ r ≡ unfinishedIn h (now (levels .entry)) (now (pending .entry)) ⌝ }
+    ensures { λ r. ⌜ r ≡ unfinishedIn h (now (depths .entry)) (now (pending .entry)) ⌝ }
 {
     let mut any = false;
     let mut t: usize = 0;
     while t < h.threads {
-        let a = holds_some(levels, t, h.locks);
+        let a = 0 < depths[t];
         let b = owes_some(pending, t, h.variables);
         any = (a | b) | any;
         t += 1;
@@ -134,13 +94,32 @@ fn unfinished(h: Counts, levels: &[u32; 128], pending: &[bool; 128]) -> bool
     any
 }
 
-// The first pass: 20 and 21 event by event, 22 last. Accepted where nothing denies an order.
+// Whether thread t holds g, the guard of a variable.
+fn is_under(levels: &[u32; 128], t: usize, g: usize) -> bool
+    requires { ⌜ t < 8 ⌝ }
+    ensures { λ r. ⌜ r ≡ underIn (now (levels .entry)) t g ⌝ }
+{
+    let c = guard_cell(t, g);
+    (g < 16) & (0 < levels[c])
+}
+
+// Denied by this rule, after i events.
+fn refuse(h: Counts, rule: u8, i: usize) -> Verdict
+    requires { ⌜ i ≤ 2000 ⌝ }
+    ensures { λ r. ⌜ r ≡ Refused rule (lineAfter h i) ⌝ }
+{
+    let line = rules::line_after(h, i as u32);
+    Verdict::Refused(rule, line)
+}
+
+// The first pass: 20 and 21 event by event, 22 last. Accepted where nothing denies an order. A lock event can break 21 alone, any other 20 alone.
 fn deny(h: Counts, locks: [usize; 16], what: &[u32], value: &[Value]) -> Verdict
     requires { ⌜ Fits h (now what) (now value) ⌝ }
     ensures { λ r. ⌜ r ≡ toldAs (denial h (guardOf locks) (rowEvents h (now (what .entry)) (now (value .entry)))) ⌝ }
 {
     let mut levels: [u32; 128] = [0; 128];
     let mut pending: [bool; 128] = [false; 128];
+    let mut depths: [u32; 8] = [0; 8];
     let mut late: [bool; 8] = [false; 8];
     let mut i: usize = 0;
     while i < what.len() {
@@ -148,28 +127,28 @@ fn deny(h: Counts, locks: [usize; 16], what: &[u32], value: &[Value]) -> Verdict
         let k = records::letter_in(w);
         let t = records::thread_in(w);
         let p = records::place_in(w);
-        let g = locks[p];
-        let guard = guard_cell(t, g);
-        let under = (g < 16) & (0 < levels[guard]);
-        let was = late[t];
-        let rule = broken(k, under, was);
-        if rule != 0 {
-            let line = rules::line_after(h, i as u32);
-            return Verdict::Refused(rule, line);
-        }
         let c = t * 16 + p;
-        let level = levels[c];
-        let owed = pending[c];
-        levels[c] = level_after(level, k);
-        pending[c] = pending_after(owed, k);
-        let end = span(k == b'N', h.locks);
-        let any = holds_some(&levels, t, end);
-        late[t] = late_after(was, k, any);
-        i += 1;
+        if rules::is_lock_letter(k) {
+            let was = late[t];
+            if (k == b'K') & was {
+                return refuse(h, 21, i);
+            }
+            let depth = level_after(depths[t], k);
+            levels[c] = level_after(levels[c], k);
+            depths[t] = depth;
+            late[t] = late_after(was, k, 0 < depth);
+            i += 1;
+        } else {
+            let under = is_under(&levels, t, locks[p]);
+            if ((k == b'U') | ((k == b'A') | (k == b'B'))) & !under {
+                return refuse(h, 20, i);
+            }
+            pending[c] = pending_after(pending[c], k);
+            i += 1;
+        }
     }
-    if unfinished(h, &levels, &pending) {
-        let line = rules::line_after(h, i as u32);
-        return Verdict::Refused(22, line);
+    if unfinished(h, &depths, &pending) {
+        return refuse(h, 22, i);
     }
     Verdict::Accepted
 }
@@ -219,8 +198,7 @@ fn fill(h: Counts, what: &[u32], value: &[Value], scratch: &mut [u64])
     requires { ⌜ full .scratch ≤ length (now scratch) ⌝ }
     ensures { λ _. ⌜ Filled h (now (what .entry)) (now (value .entry)) (now (scratch .exit)) ⌝ }
 {
-    let mut levels: [u32; 128] = [0; 128];
-    let mut busy: [bool; 8] = [false; 8];
+    let mut depths: [u32; 8] = [0; 8];
     let mut first: [usize; 8] = [0; 8];
     let mut top: [usize; 8] = [0; 8];
     let mut i: usize = 0;
@@ -228,8 +206,8 @@ fn fill(h: Counts, what: &[u32], value: &[Value], scratch: &mut [u64])
         let w = what[i];
         let k = records::letter_in(w);
         let t = records::thread_in(w);
-        let p = records::place_in(w);
-        let b = busy[t];
+        let depth = depths[t];
+        let b = 0 < depth;
         let j = top[t];
         let x = scratch[j];
         let line = rules::line_after(h, i as u32);
@@ -239,12 +217,7 @@ fn fill(h: Counts, what: &[u32], value: &[Value], scratch: &mut [u64])
         scratch[i] = at_event(k, code);
         first[t] = a;
         top[t] = top_after(k, i, j);
-        let c = t * 16 + p;
-        let level = levels[c];
-        levels[c] = level_after(level, k);
-        let end = span((k == b'K') | (k == b'N'), h.locks);
-        let any = holds_some(&levels, t, end);
-        busy[t] = busy_after(b, k, any);
+        depths[t] = level_after(depth, k);
         i += 1;
     }
 }

@@ -1,22 +1,44 @@
 -- `ordering::deny` meets its contract: the loop asks 20 and 21 of each event, 22 is asked at the end. Assumes nothing.
 use Prim.Native.Nat.{_-_}
 use native.Mathlib.Omega.{arith}
-use mathlib.Core.Path.{sym, _∙_}
-use lib.Dec.{eqb}
+use mathlib.Core.Path.{_≡_, sym, _∙_}
+use mathlib.Core.Bool.{true, false}
 use lib.ListN.{length}
 use denote.Ref.{now}
 use borrow.Author.Needs.{needs}
+use Rattle.rules.specs.Events.{isLockLetter}
 use Rattle.rules.proofs.Bounds.{allowed-bounds}
 use Rattle.ordering.proofs.Rows.{row-few, reads-at}
-use Rattle.ordering.proofs.Denying.{Going, begins, stops, goes, range, ends-open, ends-fit, guard-in, span-in}
+use Rattle.ordering.proofs.Denying.{Going, begins, ends-open, ends-fit, Turn, early, level-range, depth-range, late-stops, lock-goes, bare-stops, variable-goes}
 use Rattle.ordering.proofs.deny.Statement.{statement}
 use Rattle.ordering.proofs.deny.Tie as tie
 
 abbrev Inv-loop : tie.InvT-loop
-Inv-loop h what value locks levels₀ pending₀ late₀ i₀ levels pending late i = Going h locks what value levels pending late i
+Inv-loop h what value locks levels₀ pending₀ depths₀ late₀ i₀ levels pending depths late i = Going h locks what value levels pending depths late i
 
 abbrev μ-loop : tie.MeasureT-loop
-μ-loop h what value locks levels₀ pending₀ late₀ i₀ levels pending late i = length what - i
+μ-loop h what value locks levels₀ pending₀ depths₀ late₀ i₀ levels pending depths late i = length what - i
+
+-- ---- the event at i, and what it is on
+
+abbrev Here : Type 0
+Here = tie.After-place-in Inv-loop μ-loop
+
+turn : (c : Here) → Turn (c .before .before .before .before .before .before .before .args .h) (c .before .before .before .before .before .before .before .args .t2) (now (c .before .before .before .before .before .before .before .args .what)) (now (c .before .before .before .before .before .before .before .args .value)) (c .before .before .before .before .before .loop .levels) (c .before .before .before .before .before .loop .pending) (c .before .before .before .before .before .loop .depths) (c .before .before .before .before .before .loop .late) (c .before .before .before .before .before .loop .i) (c .before .before .letter-in .result) (c .before .thread-in .result) (c .place-in .result)
+turn c = record {
+  fits = c .before .before .before .before .before .before .before .pre;
+  going = c .before .before .before .before .before .loop .inv;
+  more = c .before .before .before .before .loop-test .taken;
+  reads = reads-at (c .before .before .before .before .before .before .before .args .h) (now (c .before .before .before .before .before .before .before .args .what)) (now (c .before .before .before .before .before .before .before .args .value)) (c .before .before .before .before .before .before .before .pre) (c .before .before .before .before .before .loop .i) (c .before .before .before .before .loop-test .taken) (c .before .before .letter-in .result) (c .before .thread-in .result) (c .place-in .result) (c .before .before .letter-in .ensures) (c .before .thread-in .ensures) (c .place-in .ensures);
+}
+
+on-lock : (c : tie.Then1 Inv-loop μ-loop) → isLockLetter (c .before .before .before .before .letter-in .result) ≡ true
+on-lock c = sym (c .before .is-lock-letter .ensures) ∙ c .if1 .taken
+
+on-variable : (c : tie.Else1 Inv-loop μ-loop) → isLockLetter (c .before .before .before .before .letter-in .result) ≡ false
+on-variable c = sym (c .before .is-lock-letter .ensures) ∙ c .if1 .left
+
+-- ---- the answers
 
 loop-holds : tie.Need-loop-holds Inv-loop μ-loop
 loop-holds c = begins _ _ _ _
@@ -36,152 +58,59 @@ thread-in-requires c κs = search needs
 place-in-requires : tie.Need-place-in-requires Inv-loop μ-loop
 place-in-requires c κs = search needs
 
-mul-g : tie.Need-mul-g Inv-loop μ-loop
-mul-g c =
-    let a = c .before .before .before .before .before .before .before .args in
-    let l = c .before .before .before .before .before .loop in
-    let r = reads-at (a .h) (now (a .what)) (now (a .value)) (c .before .before .before .before .before .before .before .pre) (l .i) (c .before .before .before .before .loop-test .taken) (c .before .before .letter-in .result) (c .before .thread-in .result) (c .place-in .result) (c .before .before .letter-in .ensures) (c .before .thread-in .ensures) (c .place-in .ensures) in
-    omega (arith, r .place-low)
-
-array-read-g : tie.Need-array-read-g Inv-loop μ-loop
-array-read-g c =
-    let a = c .before .before .before .before .before .before .before .args in
-    let l = c .before .before .before .before .before .loop in
-    let r = reads-at (a .h) (now (a .what)) (now (a .value)) (c .before .before .before .before .before .before .before .pre) (l .i) (c .before .before .before .before .loop-test .taken) (c .before .before .letter-in .result) (c .before .thread-in .result) (c .place-in .result) (c .before .before .letter-in .ensures) (c .before .thread-in .ensures) (c .place-in .ensures) in
-    omega (arith, r .place-low)
-
-guard-cell-requires : tie.Need-guard-cell-requires Inv-loop μ-loop
-guard-cell-requires c κs =
-    let a = c .before .before .before .before .before .before .before .args in
-    let l = c .before .before .before .before .before .loop in
-    let r = reads-at (a .h) (now (a .what)) (now (a .value)) (c .before .before .before .before .before .before .before .pre) (l .i) (c .before .before .before .before .loop-test .taken) (c .before .before .letter-in .result) (c .before .thread-in .result) (c .place-in .result) (c .before .before .letter-in .ensures) (c .before .thread-in .ensures) (c .place-in .ensures) in
-    r .thread-low
-
-mul-under : tie.Need-mul-under Inv-loop μ-loop
-mul-under c =
-    let a = c .before .before .before .before .before .before .before .before .args in
-    let l = c .before .before .before .before .before .before .loop in
-    let r = reads-at (a .h) (now (a .what)) (now (a .value)) (c .before .before .before .before .before .before .before .before .pre) (l .i) (c .before .before .before .before .before .loop-test .taken) (c .before .before .before .letter-in .result) (c .before .before .thread-in .result) (c .before .place-in .result) (c .before .before .before .letter-in .ensures) (c .before .before .thread-in .ensures) (c .before .place-in .ensures) in
-    omega (arith, guard-in _ _ (r .thread-low) (c .guard-cell .ensures), l .inv .levels-are .long)
-
-array-read-under : tie.Need-array-read-under Inv-loop μ-loop
-array-read-under c =
-    let a = c .before .before .before .before .before .before .before .before .args in
-    let l = c .before .before .before .before .before .before .loop in
-    let r = reads-at (a .h) (now (a .what)) (now (a .value)) (c .before .before .before .before .before .before .before .before .pre) (l .i) (c .before .before .before .before .before .loop-test .taken) (c .before .before .before .letter-in .result) (c .before .before .thread-in .result) (c .before .place-in .result) (c .before .before .before .letter-in .ensures) (c .before .before .thread-in .ensures) (c .before .place-in .ensures) in
-    omega (arith, guard-in _ _ (r .thread-low) (c .guard-cell .ensures), l .inv .levels-are .long)
-
-array-read-was : tie.Need-array-read-was Inv-loop μ-loop
-array-read-was c =
-    let a = c .before .before .before .before .before .before .before .before .args in
-    let l = c .before .before .before .before .before .before .loop in
-    let r = reads-at (a .h) (now (a .what)) (now (a .value)) (c .before .before .before .before .before .before .before .before .pre) (l .i) (c .before .before .before .before .before .loop-test .taken) (c .before .before .before .letter-in .result) (c .before .before .thread-in .result) (c .before .place-in .result) (c .before .before .before .letter-in .ensures) (c .before .before .thread-in .ensures) (c .before .place-in .ensures) in
-    omega (arith, r .thread-low, l .inv .late-are .long)
-
-broken-requires : tie.Need-broken-requires Inv-loop μ-loop
-broken-requires c κs = search needs
-
-cast-line-after : tie.Need-cast-line-after Inv-loop μ-loop
-cast-line-after c =
-    let a = c .before .before .before .before .before .before .before .before .before .before .args in
-    let l = c .before .before .before .before .before .before .before .before .loop in
-    record { fits = omega (arith, l .inv .upto, row-few (a .h) (now (a .what)) (now (a .value)) (c .before .before .before .before .before .before .before .before .before .before .pre)) }
-
-line-after-requires : tie.Need-line-after-requires Inv-loop μ-loop
-line-after-requires c κs = search needs
-
-returns : tie.Need-returns Inv-loop μ-loop
-returns c =
-    let a = c .before .before .before .before .before .before .before .before .before .before .before .args in
-    let l = c .before .before .before .before .before .before .before .before .before .loop in
-    let r = reads-at (a .h) (now (a .what)) (now (a .value)) (c .before .before .before .before .before .before .before .before .before .before .before .pre) (l .i) (c .before .before .before .before .before .before .before .before .loop-test .taken) (c .before .before .before .before .before .before .letter-in .result) (c .before .before .before .before .before .thread-in .result) (c .before .before .before .before .place-in .result) (c .before .before .before .before .before .before .letter-in .ensures) (c .before .before .before .before .before .thread-in .ensures) (c .before .before .before .before .place-in .ensures) in
-    stops (a .h) (a .t2) (now (a .what)) (now (a .value)) (c .before .before .before .before .before .before .before .before .before .before .before .pre) (l .levels) (l .pending) (l .late) (l .i) (l .inv) (c .before .before .before .before .before .before .before .before .loop-test .taken) (c .before .before .before .before .before .before .letter-in .result) (c .before .before .before .before .before .thread-in .result) (c .before .before .before .before .place-in .result) r (c .before .before .before .guard-cell .result) (c .before .before .broken .result) (c .before .before .before .guard-cell .ensures) (c .before .before .broken .ensures) (c .line-after .result) (c .line-after .ensures) (c .before .if1 .taken)
-
 mul-c : tie.Need-mul-c Inv-loop μ-loop
-mul-c c =
-    let a = c .before .before .before .before .before .before .before .before .before .before .args in
-    let l = c .before .before .before .before .before .before .before .before .loop in
-    let r = reads-at (a .h) (now (a .what)) (now (a .value)) (c .before .before .before .before .before .before .before .before .before .before .pre) (l .i) (c .before .before .before .before .before .before .before .loop-test .taken) (c .before .before .before .before .before .letter-in .result) (c .before .before .before .before .thread-in .result) (c .before .before .before .place-in .result) (c .before .before .before .before .before .letter-in .ensures) (c .before .before .before .before .thread-in .ensures) (c .before .before .before .place-in .ensures) in
-    omega (arith, r .thread-low, r .place-low)
+mul-c c = omega (arith, turn c .reads .thread-low)
 
 add-c : tie.Need-add-c Inv-loop μ-loop
-add-c c =
-    let a = c .before .before .before .before .before .before .before .before .before .before .args in
-    let l = c .before .before .before .before .before .before .before .before .loop in
-    let r = reads-at (a .h) (now (a .what)) (now (a .value)) (c .before .before .before .before .before .before .before .before .before .before .pre) (l .i) (c .before .before .before .before .before .before .before .loop-test .taken) (c .before .before .before .before .before .letter-in .result) (c .before .before .before .before .thread-in .result) (c .before .before .before .place-in .result) (c .before .before .before .before .before .letter-in .ensures) (c .before .before .before .before .thread-in .ensures) (c .before .before .before .place-in .ensures) in
-    omega (arith, r .thread-low, r .place-low)
+add-c c = omega (arith, turn c .reads .thread-low, turn c .reads .place-low)
 
-mul-level : tie.Need-mul-level Inv-loop μ-loop
-mul-level c =
-    let a = c .before .before .before .before .before .before .before .before .before .before .args in
-    let l = c .before .before .before .before .before .before .before .before .loop in
-    let r = reads-at (a .h) (now (a .what)) (now (a .value)) (c .before .before .before .before .before .before .before .before .before .before .pre) (l .i) (c .before .before .before .before .before .before .before .loop-test .taken) (c .before .before .before .before .before .letter-in .result) (c .before .before .before .before .thread-in .result) (c .before .before .before .place-in .result) (c .before .before .before .before .before .letter-in .ensures) (c .before .before .before .before .thread-in .ensures) (c .before .before .before .place-in .ensures) in
-    omega (arith, r .thread-low, r .place-low)
+is-lock-letter-requires : tie.Need-is-lock-letter-requires Inv-loop μ-loop
+is-lock-letter-requires c κs = search needs
 
-array-read-level : tie.Need-array-read-level Inv-loop μ-loop
-array-read-level c =
-    let a = c .before .before .before .before .before .before .before .before .before .before .args in
-    let l = c .before .before .before .before .before .before .before .before .loop in
-    let r = reads-at (a .h) (now (a .what)) (now (a .value)) (c .before .before .before .before .before .before .before .before .before .before .pre) (l .i) (c .before .before .before .before .before .before .before .loop-test .taken) (c .before .before .before .before .before .letter-in .result) (c .before .before .before .before .thread-in .result) (c .before .before .before .place-in .result) (c .before .before .before .before .before .letter-in .ensures) (c .before .before .before .before .thread-in .ensures) (c .before .before .before .place-in .ensures) in
-    omega (arith, r .thread-low, r .place-low, l .inv .levels-are .long)
+array-read-was : tie.Need-array-read-was Inv-loop μ-loop
+array-read-was c = omega (arith, turn (c .before .before) .reads .thread-low, turn (c .before .before) .going .late-are .long)
 
-array-read-owed : tie.Need-array-read-owed Inv-loop μ-loop
-array-read-owed c =
-    let a = c .before .before .before .before .before .before .before .before .before .before .args in
-    let l = c .before .before .before .before .before .before .before .before .loop in
-    let r = reads-at (a .h) (now (a .what)) (now (a .value)) (c .before .before .before .before .before .before .before .before .before .before .pre) (l .i) (c .before .before .before .before .before .before .before .loop-test .taken) (c .before .before .before .before .before .letter-in .result) (c .before .before .before .before .thread-in .result) (c .before .before .before .place-in .result) (c .before .before .before .before .before .letter-in .ensures) (c .before .before .before .before .thread-in .ensures) (c .before .before .before .place-in .ensures) in
-    omega (arith, r .thread-low, r .place-low, l .inv .owed-are .long)
+refuse-requires : tie.Need-refuse-requires Inv-loop μ-loop
+refuse-requires c κs = early (turn (c .before .before .before))
+
+returns : tie.Need-returns Inv-loop μ-loop
+returns c = c .refuse .ensures ∙ late-stops (turn (c .before .before .before .before)) (on-lock (c .before .before)) (c .before .if2 .taken)
+
+mul-level-after : tie.Need-mul-level-after Inv-loop μ-loop
+mul-level-after c = omega (arith, turn (c .before .before .before) .reads .thread-low)
+
+array-read-level-after : tie.Need-array-read-level-after Inv-loop μ-loop
+array-read-level-after c = omega (arith, turn (c .before .before .before) .reads .thread-low, turn (c .before .before .before) .going .depths-are .long)
 
 level-after-requires : tie.Need-level-after-requires Inv-loop μ-loop
-level-after-requires c κs =
-    let a = c .before .before .before .before .before .before .before .before .before .before .args in
-    let l = c .before .before .before .before .before .before .before .before .loop in
-    let r = reads-at (a .h) (now (a .what)) (now (a .value)) (c .before .before .before .before .before .before .before .before .before .before .pre) (l .i) (c .before .before .before .before .before .before .before .loop-test .taken) (c .before .before .before .before .before .letter-in .result) (c .before .before .before .before .thread-in .result) (c .before .before .before .place-in .result) (c .before .before .before .before .before .letter-in .ensures) (c .before .before .before .before .thread-in .ensures) (c .before .before .before .place-in .ensures) in
-    range (a .h) (a .t2) (now (a .what)) (now (a .value)) (c .before .before .before .before .before .before .before .before .before .before .pre) (l .levels) (l .pending) (l .late) (l .i) (l .inv) (c .before .before .before .before .before .letter-in .result) (c .before .before .before .before .thread-in .result) (c .before .before .before .place-in .result) r
+level-after-requires c κs = depth-range (turn (c .before .before .before))
+
+mul-level-after-2 : tie.Need-mul-level-after-2 Inv-loop μ-loop
+mul-level-after-2 c = omega (arith, turn (c .before .before .before .before) .reads .thread-low, turn (c .before .before .before .before) .reads .place-low)
+
+array-read-level-after-2 : tie.Need-array-read-level-after-2 Inv-loop μ-loop
+array-read-level-after-2 c = omega (arith, turn (c .before .before .before .before) .reads .thread-low, turn (c .before .before .before .before) .reads .place-low, turn (c .before .before .before .before) .going .levels-are .long)
+
+level-after-requires-2 : tie.Need-level-after-requires-2 Inv-loop μ-loop
+level-after-requires-2 c κs = level-range (turn (c .before .before .before .before))
 
 mul-levels : tie.Need-mul-levels Inv-loop μ-loop
-mul-levels c =
-    let a = c .before .before .before .before .before .before .before .before .before .before .before .args in
-    let l = c .before .before .before .before .before .before .before .before .before .loop in
-    let r = reads-at (a .h) (now (a .what)) (now (a .value)) (c .before .before .before .before .before .before .before .before .before .before .before .pre) (l .i) (c .before .before .before .before .before .before .before .before .loop-test .taken) (c .before .before .before .before .before .before .letter-in .result) (c .before .before .before .before .before .thread-in .result) (c .before .before .before .before .place-in .result) (c .before .before .before .before .before .before .letter-in .ensures) (c .before .before .before .before .before .thread-in .ensures) (c .before .before .before .before .place-in .ensures) in
-    omega (arith, r .thread-low, r .place-low)
+mul-levels c = omega (arith, turn (c .before .before .before .before .before) .reads .thread-low, turn (c .before .before .before .before .before) .reads .place-low)
 
 array-write-levels : tie.Need-array-write-levels Inv-loop μ-loop
-array-write-levels c =
-    let a = c .before .before .before .before .before .before .before .before .before .before .before .args in
-    let l = c .before .before .before .before .before .before .before .before .before .loop in
-    let r = reads-at (a .h) (now (a .what)) (now (a .value)) (c .before .before .before .before .before .before .before .before .before .before .before .pre) (l .i) (c .before .before .before .before .before .before .before .before .loop-test .taken) (c .before .before .before .before .before .before .letter-in .result) (c .before .before .before .before .before .thread-in .result) (c .before .before .before .before .place-in .result) (c .before .before .before .before .before .before .letter-in .ensures) (c .before .before .before .before .before .thread-in .ensures) (c .before .before .before .before .place-in .ensures) in
-    omega (arith, r .thread-low, r .place-low, l .inv .levels-are .long)
+array-write-levels c = omega (arith, turn (c .before .before .before .before .before) .reads .thread-low, turn (c .before .before .before .before .before) .reads .place-low, turn (c .before .before .before .before .before) .going .levels-are .long)
 
-pending-after-requires : tie.Need-pending-after-requires Inv-loop μ-loop
-pending-after-requires c κs = search needs
+mul-depths : tie.Need-mul-depths Inv-loop μ-loop
+mul-depths c = omega (arith, turn (c .before .before .before .before .before) .reads .thread-low)
 
-array-write-pending : tie.Need-array-write-pending Inv-loop μ-loop
-array-write-pending c =
-    let a = c .before .before .before .before .before .before .before .before .before .before .before .before .args in
-    let l = c .before .before .before .before .before .before .before .before .before .before .loop in
-    let r = reads-at (a .h) (now (a .what)) (now (a .value)) (c .before .before .before .before .before .before .before .before .before .before .before .before .pre) (l .i) (c .before .before .before .before .before .before .before .before .before .loop-test .taken) (c .before .before .before .before .before .before .before .letter-in .result) (c .before .before .before .before .before .before .thread-in .result) (c .before .before .before .before .before .place-in .result) (c .before .before .before .before .before .before .before .letter-in .ensures) (c .before .before .before .before .before .before .thread-in .ensures) (c .before .before .before .before .before .place-in .ensures) in
-    omega (arith, r .thread-low, r .place-low, l .inv .owed-are .long)
-
-span-requires : tie.Need-span-requires Inv-loop μ-loop
-span-requires c κs = search needs
-
-holds-some-requires : tie.Need-holds-some-requires Inv-loop μ-loop
-holds-some-requires c κs =
-    let a = c .before .before .before .before .before .before .before .before .before .before .before .before .before .before .args in
-    let l = c .before .before .before .before .before .before .before .before .before .before .before .before .loop in
-    let r = reads-at (a .h) (now (a .what)) (now (a .value)) (c .before .before .before .before .before .before .before .before .before .before .before .before .before .before .pre) (l .i) (c .before .before .before .before .before .before .before .before .before .before .before .loop-test .taken) (c .before .before .before .before .before .before .before .before .before .letter-in .result) (c .before .before .before .before .before .before .before .before .thread-in .result) (c .before .before .before .before .before .before .before .place-in .result) (c .before .before .before .before .before .before .before .before .before .letter-in .ensures) (c .before .before .before .before .before .before .before .before .thread-in .ensures) (c .before .before .before .before .before .before .before .place-in .ensures) in
-    (r .thread-low, span-in (eqb (c .before .before .before .before .before .before .before .before .before .letter-in .result) 78) _ (allowed-bounds (a .h) (c .before .before .before .before .before .before .before .before .before .before .before .before .before .before .pre .accepted .head) .2) (c .before .span .ensures))
+array-write-depths : tie.Need-array-write-depths Inv-loop μ-loop
+array-write-depths c = omega (arith, turn (c .before .before .before .before .before) .reads .thread-low, turn (c .before .before .before .before .before) .going .depths-are .long)
 
 late-after-requires : tie.Need-late-after-requires Inv-loop μ-loop
 late-after-requires c κs = search needs
 
 array-write-late : tie.Need-array-write-late Inv-loop μ-loop
-array-write-late c =
-    let a = c .before .before .before .before .before .before .before .before .before .before .before .before .before .before .before .before .args in
-    let l = c .before .before .before .before .before .before .before .before .before .before .before .before .before .before .loop in
-    let r = reads-at (a .h) (now (a .what)) (now (a .value)) (c .before .before .before .before .before .before .before .before .before .before .before .before .before .before .before .before .pre) (l .i) (c .before .before .before .before .before .before .before .before .before .before .before .before .before .loop-test .taken) (c .before .before .before .before .before .before .before .before .before .before .before .letter-in .result) (c .before .before .before .before .before .before .before .before .before .before .thread-in .result) (c .before .before .before .before .before .before .before .before .before .place-in .result) (c .before .before .before .before .before .before .before .before .before .before .before .letter-in .ensures) (c .before .before .before .before .before .before .before .before .before .before .thread-in .ensures) (c .before .before .before .before .before .before .before .before .before .place-in .ensures) in
-    omega (arith, r .thread-low, l .inv .late-are .long)
+array-write-late c = omega (arith, turn (c .before .before .before .before .before .before) .reads .thread-low, turn (c .before .before .before .before .before .before) .going .late-are .long)
 
 add-i : tie.Need-add-i Inv-loop μ-loop
 add-i c = search needs
@@ -190,37 +119,52 @@ loop-less : tie.Need-loop-less Inv-loop μ-loop
 loop-less c = search needs
 
 loop-again : tie.Need-loop-again Inv-loop μ-loop
-loop-again c =
-    let a = c .before .before .before .before .before .before .before .before .before .before .before .before .before .before .before .before .args in
-    let l = c .before .before .before .before .before .before .before .before .before .before .before .before .before .before .loop in
-    let r = reads-at (a .h) (now (a .what)) (now (a .value)) (c .before .before .before .before .before .before .before .before .before .before .before .before .before .before .before .before .pre) (l .i) (c .before .before .before .before .before .before .before .before .before .before .before .before .before .loop-test .taken) (c .before .before .before .before .before .before .before .before .before .before .before .letter-in .result) (c .before .before .before .before .before .before .before .before .before .before .thread-in .result) (c .before .before .before .before .before .before .before .before .before .place-in .result) (c .before .before .before .before .before .before .before .before .before .before .before .letter-in .ensures) (c .before .before .before .before .before .before .before .before .before .before .thread-in .ensures) (c .before .before .before .before .before .before .before .before .before .place-in .ensures) in
-    goes (a .h) (a .t2) (now (a .what)) (now (a .value)) (c .before .before .before .before .before .before .before .before .before .before .before .before .before .before .before .before .pre) (l .levels) (l .pending) (l .late) (l .i) (l .inv) (c .before .before .before .before .before .before .before .before .before .before .before .before .before .loop-test .taken) (c .before .before .before .before .before .before .before .before .before .before .before .letter-in .result) (c .before .before .before .before .before .before .before .before .before .before .thread-in .result) (c .before .before .before .before .before .before .before .before .before .place-in .result) r (c .before .before .before .before .before .before .before .before .guard-cell .result) (c .before .before .before .before .before .before .before .broken .result) (c .before .before .before .before .before .before .before .before .guard-cell .ensures) (c .before .before .before .before .before .before .before .broken .ensures) (c .before .before .before .before .before .before .if1 .left) (c .before .before .before .before .before .level-after .result) (c .before .before .before .before .pending-after .result) (c .before .before .before .span .result) (c .before .holds-some .result) (c .late-after .result) (c .before .before .before .before .before .level-after .ensures) (c .before .before .before .before .pending-after .ensures) (c .before .before .before .span .ensures) (c .before .holds-some .ensures) (c .late-after .ensures)
+loop-again c = lock-goes (turn (c .before .before .before .before .before .before)) (on-lock (c .before .before .before .before)) (c .before .before .before .if2 .left) (c .before .level-after2 .ensures) (c .before .before .level-after .ensures) (c .late-after .ensures)
 
-unfinished-requires : tie.Need-unfinished-requires Inv-loop μ-loop
-unfinished-requires c κs =
-    let m = allowed-bounds _ (c .before .before .before .before .before .pre .accepted .head) in
-    (m .0, (m .2, m .1))
+mul-is-under : tie.Need-mul-is-under Inv-loop μ-loop
+mul-is-under c = omega (arith, turn (c .before .before .before) .reads .place-low)
 
-cast-line-after-2 : tie.Need-cast-line-after-2 Inv-loop μ-loop
-cast-line-after-2 c =
-    let a = c .before .before .before .before .before .before .before .args in
-    let l = c .before .before .before .before .before .loop in
-    record { fits = omega (arith, l .inv .upto, row-few (a .h) (now (a .what)) (now (a .value)) (c .before .before .before .before .before .before .before .pre)) }
+array-read-is-under : tie.Need-array-read-is-under Inv-loop μ-loop
+array-read-is-under c = omega (arith, turn (c .before .before .before) .reads .place-low)
 
-line-after-requires-2 : tie.Need-line-after-requires-2 Inv-loop μ-loop
-line-after-requires-2 c κs = search needs
+is-under-requires : tie.Need-is-under-requires Inv-loop μ-loop
+is-under-requires c κs = turn (c .before .before .before) .reads .thread-low
+
+refuse-requires-2 : tie.Need-refuse-requires-2 Inv-loop μ-loop
+refuse-requires-2 c κs = early (turn (c .before .before .before .before .before))
 
 returns-2 : tie.Need-returns-2 Inv-loop μ-loop
-returns-2 c =
-    let a = c .before .before .before .before .before .before .before .before .args in
-    let l = c .before .before .before .before .before .before .loop in
-    ends-open (a .h) (a .t2) (now (a .what)) (now (a .value)) (c .before .before .before .before .before .before .before .before .pre) (l .levels) (l .pending) (l .late) (l .i) (l .inv) (c .line-after2 .result) (c .line-after2 .ensures) (c .before .before .before .before .before .loop-test .left) (sym (c .before .before .unfinished .ensures) ∙ c .before .if2 .taken)
+returns-2 c = c .refuse2 .ensures ∙ bare-stops (turn (c .before .before .before .before .before .before)) (on-variable (c .before .before .before .before)) (c .before .before .is-under .ensures) (c .before .if3 .taken)
+
+array-read-pending-after : tie.Need-array-read-pending-after Inv-loop μ-loop
+array-read-pending-after c = omega (arith, turn (c .before .before .before .before .before) .reads .thread-low, turn (c .before .before .before .before .before) .reads .place-low, turn (c .before .before .before .before .before) .going .owed-are .long)
+
+pending-after-requires : tie.Need-pending-after-requires Inv-loop μ-loop
+pending-after-requires c κs = search needs
+
+array-write-pending : tie.Need-array-write-pending Inv-loop μ-loop
+array-write-pending c = omega (arith, turn (c .before .before .before .before .before .before) .reads .thread-low, turn (c .before .before .before .before .before .before) .reads .place-low, turn (c .before .before .before .before .before .before) .going .owed-are .long)
+
+add-i-2 : tie.Need-add-i-2 Inv-loop μ-loop
+add-i-2 c = search needs
+
+loop-less-2 : tie.Need-loop-less-2 Inv-loop μ-loop
+loop-less-2 c = search needs
+
+loop-again-2 : tie.Need-loop-again-2 Inv-loop μ-loop
+loop-again-2 c = variable-goes (turn (c .before .before .before .before .before .before)) (on-variable (c .before .before .before .before)) (c .before .before .is-under .ensures) (c .before .if3 .left) (c .pending-after .ensures)
+
+unfinished-requires : tie.Need-unfinished-requires Inv-loop μ-loop
+unfinished-requires c κs = let m = allowed-bounds _ (c .before .before .before .before .before .pre .accepted .head) in (m .0, m .1)
+
+refuse-requires-3 : tie.Need-refuse-requires-3 Inv-loop μ-loop
+refuse-requires-3 c κs = omega (arith, c .before .before .before .before .before .loop .inv .upto, row-few _ _ _ (c .before .before .before .before .before .before .before .pre))
 
 returns-3 : tie.Need-returns-3 Inv-loop μ-loop
-returns-3 c =
-    let a = c .before .before .before .before .before .before .before .args in
-    let l = c .before .before .before .before .before .loop in
-    ends-fit (a .h) (a .t2) (now (a .what)) (now (a .value)) (c .before .before .before .before .before .before .before .pre) (l .levels) (l .pending) (l .late) (l .i) (l .inv) (c .before .before .before .before .loop-test .left) (sym (c .before .unfinished .ensures) ∙ c .if2 .left)
+returns-3 c = c .refuse3 .ensures ∙ ends-open _ _ _ _ (c .before .before .before .before .before .before .before .before .pre) (c .before .before .before .before .before .before .loop .inv) (c .before .before .before .before .before .loop-test .left) (sym (c .before .before .unfinished .ensures) ∙ c .before .if4 .taken)
+
+returns-4 : tie.Need-returns-4 Inv-loop μ-loop
+returns-4 c = ends-fit _ _ _ _ (c .before .before .before .before .before .before .before .pre) (c .before .before .before .before .before .loop .inv) (c .before .before .before .before .loop-test .left) (sym (c .before .unfinished .ensures) ∙ c .if4 .left)
 
 pub deny-spec : {M : Type 1} → statement M
 deny-spec =
@@ -234,35 +178,39 @@ deny-spec =
     letter-in-requires
     thread-in-requires
     place-in-requires
-    mul-g
-    array-read-g
-    guard-cell-requires
-    mul-under
-    array-read-under
-    array-read-was
-    broken-requires
-    cast-line-after
-    line-after-requires
-    returns
     mul-c
     add-c
-    mul-level
-    array-read-level
-    array-read-owed
+    is-lock-letter-requires
+    array-read-was
+    refuse-requires
+    returns
+    mul-level-after
+    array-read-level-after
     level-after-requires
+    mul-level-after-2
+    array-read-level-after-2
+    level-after-requires-2
     mul-levels
     array-write-levels
-    pending-after-requires
-    array-write-pending
-    span-requires
-    holds-some-requires
+    mul-depths
+    array-write-depths
     late-after-requires
     array-write-late
     add-i
     loop-less
     loop-again
-    unfinished-requires
-    cast-line-after-2
-    line-after-requires-2
+    mul-is-under
+    array-read-is-under
+    is-under-requires
+    refuse-requires-2
     returns-2
-    returns-3)
+    array-read-pending-after
+    pending-after-requires
+    array-write-pending
+    add-i-2
+    loop-less-2
+    loop-again-2
+    unfinished-requires
+    refuse-requires-3
+    returns-3
+    returns-4)

@@ -1,29 +1,32 @@
 -- `ordering::unfinished` meets its contract. Assumes nothing.
 use Prim.Native.Nat.{_-_, _≤_}
 use native.Mathlib.Omega.{arith}
-use mathlib.Core.Path.{_≡_}
+use mathlib.Core.Path.{_≡_, ap}
 use mathlib.Core.Bool.{_||_}
+use lib.Dec.{ltb}
+use lib.ListN.{getD}
 use denote.Ref.{now}
 use borrow.Author.Needs.{needs}
-use Rattle.ordering.specs.Computed.Parts.{heldIn, pendingIn, unfinishedIn}
+use Rattle.ordering.specs.Computed.Parts.{pendingIn, unfinishedIn}
 use Rattle.rules.specs.Rules.{some}
 use Rattle.ordering.proofs.Loops.{some-none, some-more, some-end}
-use mathlib.Core.Path.{ap₂}
 use Rattle.ordering.proofs.unfinished.Statement.{statement}
 use Rattle.ordering.proofs.unfinished.Tie as tie
 
 abbrev Inv-loop : tie.InvT-loop
-Inv-loop h levels pending any₀ t₀ any t =
-    (t ≤ h .threads) × (any ≡ some t (λ t. some (h .locks) (heldIn levels t) || some (h .variables) (pendingIn pending t)))
+Inv-loop h depths pending any₀ t₀ any t = (t ≤ h .threads) × (any ≡ some t (λ t. ltb 0 (getD depths t 0) || some (h .variables) (pendingIn pending t)))
 
 abbrev μ-loop : tie.MeasureT-loop
-μ-loop h levels pending any₀ t₀ any t = h .threads - t
+μ-loop h depths pending any₀ t₀ any t = h .threads - t
 
 loop-holds : tie.Need-loop-holds Inv-loop μ-loop
 loop-holds c = (omega arith, some-none _)
 
-holds-some-requires : tie.Need-holds-some-requires Inv-loop μ-loop
-holds-some-requires c κs = search needs
+mul-a : tie.Need-mul-a Inv-loop μ-loop
+mul-a c = search needs
+
+element-copy-out-a : tie.Need-element-copy-out-a Inv-loop μ-loop
+element-copy-out-a c = search needs
 
 owes-some-requires : tie.Need-owes-some-requires Inv-loop μ-loop
 owes-some-requires c κs = search needs
@@ -36,16 +39,17 @@ loop-less c = search needs
 
 loop-again : tie.Need-loop-again Inv-loop μ-loop
 loop-again c =
-    let a = (c .before .before .before .before .before .args) in
-    let l = (c .before .before .before .before .loop) in
-    (omega (arith, c .before .before .if1 .taken), some-more (l .t) (λ t. some (a .h .locks) (heldIn (now (a .levels)) t) || some (a .h .variables) (pendingIn (now (a .pending)) t)) (l .inv .1) (ap₂ (λ x y. x || y) (c .before .holds-some .ensures) (c .owes-some .ensures)))
+    let a = c .before .before .before .before .before .args in
+    let l = c .before .before .before .before .loop in
+    let holds = ltb 0 (getD (now (a .depths)) (l .t) 0) in
+    (omega (arith, c .before .before .if1 .taken), some-more (l .t) (λ t. ltb 0 (getD (now (a .depths)) t 0) || some (a .h .variables) (pendingIn (now (a .pending)) t)) (l .inv .1) (ap (λ b. holds || b) (c .owes-some .ensures)))
 
 returns : tie.Need-returns Inv-loop μ-loop
 unfolding unfinishedIn
 returns c =
-    let a = (c .before .before .before .args) in
-    let l = (c .before .before .loop) in
-    some-end (a .h .threads) (λ t. some (a .h .locks) (heldIn (now (a .levels)) t) || some (a .h .variables) (pendingIn (now (a .pending)) t)) (l .inv .0) (c .if1 .left) (l .inv .1)
+    let a = c .before .before .before .args in
+    let l = c .before .before .loop in
+    some-end (a .h .threads) (λ t. ltb 0 (getD (now (a .depths)) t 0) || some (a .h .variables) (pendingIn (now (a .pending)) t)) (l .inv .0) (c .if1 .left) (l .inv .1)
 
 pub unfinished-spec : {M : Type 1} → statement M
 unfinished-spec =
@@ -54,7 +58,8 @@ unfinished-spec =
     Inv-loop
     μ-loop
     loop-holds
-    holds-some-requires
+    mul-a
+    element-copy-out-a
     owes-some-requires
     add-t
     loop-less

@@ -1,4 +1,5 @@
--- What the parts of the two passes compute. A level is what a thread holds of a lock, at 16 * thread + lock.
+-- What the parts of the two passes compute. A level is how often a thread holds a lock, at 16 * thread + lock; a depth is how
+-- often it holds on all locks.
 use Prim.Native.Nat.{ℕ, zero, suc, pred, _+_, _*_, _≤_, _<_}
 use mathlib.Core.Path.{_≡_}
 use mathlib.Core.Bool.{Bool, true, false, not, cond, _&&_, _||_}
@@ -10,7 +11,7 @@ use Rattle.rules.specs.declared.Event.{Event}
 use Rattle.rules.specs.declared.Counts.{Counts}
 use Rattle.rules.specs.declared.Verdict.{Verdict}
 use Rattle.rules.specs.declared.Verdict.the-variants.{Accepted, Refused}
-use Rattle.rules.specs.Events.{A, B, K, N, P, U, isLetter}
+use Rattle.rules.specs.Events.{B, K, N, P, isLetter}
 use Rattle.rules.specs.Limits.{full}
 use Rattle.rules.specs.Rules.{some}
 use Rattle.decimal.specs.Text.{over}
@@ -39,10 +40,6 @@ past events (suc i) = events i ∷ past events i
 unfoldable pub guardCell : ℕ → ℕ → ℕ
 guardCell t g = cond (ltb g 16) (t * 16 + g) 0
 
--- 20, 21 or 0
-unfoldable pub brokenBy : ℕ → Bool → Bool → ℕ
-brokenBy k under late = cond ((eqb k U || (eqb k A || eqb k B)) && not under) 20 (cond (eqb k K && late) 21 0)
-
 unfoldable pub levelAfter : ℕ → ℕ → ℕ
 levelAfter x k = cond (eqb k K) (suc x) (cond (eqb k N) (pred x) x)
 
@@ -52,19 +49,17 @@ pendingAfter b k = eqb k P || (b && not (eqb k B))
 unfoldable pub lateAfter : Bool → ℕ → Bool → Bool
 lateAfter b k any = cond (eqb k N) any b
 
-unfoldable pub busyAfter : Bool → ℕ → Bool → Bool
-busyAfter b k any = cond (eqb k K || eqb k N) any b
+-- ---- over the arrays
 
--- ---- over the levels
-
-unfoldable pub heldIn : List ℕ → ℕ → ℕ → Bool
-heldIn levels t l = ltb 0 (getD levels (t * 16 + l) 0)
+-- thread t holds its variable's guard g
+unfoldable pub underIn : List ℕ → ℕ → ℕ → Bool
+underIn levels t g = ltb g 16 && ltb 0 (getD levels (guardCell t g) 0)
 
 unfoldable pub pendingIn : List Bool → ℕ → ℕ → Bool
 pendingIn pending t v = getD pending (t * 16 + v) false
 
 unfoldable pub unfinishedIn : Counts → List ℕ → List Bool → Bool
-unfinishedIn h levels pending = some (h .threads) (λ t. some (h .locks) (heldIn levels t) || some (h .variables) (pendingIn pending t))
+unfinishedIn h depths pending = some (h .threads) (λ t. ltb 0 (getD depths t 0) || some (h .variables) (pendingIn pending t))
 
 -- a denial as the first pass answers it
 unfoldable pub toldAs : Denial → Verdict
