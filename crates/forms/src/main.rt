@@ -1,12 +1,15 @@
 // Runs the public functions that no other program and no test runs, and writes what they answer to standard output. What is lent is filled
-// with 35 and 77, so that an untouched place shows.
+// with 35, 77 and an event of line 9, so that an untouched place shows.
+ghost use Prim.Native.Nat.{_≤_};
 use libc::STDOUT_FILENO;
+use machine::Answer;
 use ordering::Ordering;
 use report::Report;
 use rules::Counts;
 use rules::Event;
 use rules::Kind;
 use rules::Value;
+use state::State;
 
 // ---- What is written.
 
@@ -255,11 +258,252 @@ fn part(paper: &[u8]) {
     row(&ns);
 }
 
-fn main() {
-    io::write_all(STDOUT_FILENO, b"no order wanted\n");
-    orderless(
-        b"H 2 1 1\nG 0\nK 0 0\nA 0 0 5\nS 0 0 5\nW 0 0 5\nN 0 0\nK 1 0\nR 1 0 5\nL 1 0 5\nU 1 0 5\nN 1 0\nZ 84\n",
+// ---- Steps over a lent state.
+
+// The state is lent for one call, and answered as it comes back.
+fn stepped(mut s: State, e: Event) -> Answer {
+    let v = event_rows::step_in_place(&mut s, e);
+    Answer {
+        verdict: v,
+        state: s,
+    }
+}
+
+// Number, line, and the events so far.
+fn step(s: State, thread: usize, kind: Kind) -> State {
+    let e = Event {
+        thread: thread,
+        line: 0,
+        kind: kind,
+    };
+    let a = stepped(s, e);
+    let v = a.verdict;
+    let t = a.state;
+    let number = rules::number_of(v);
+    let line = rules::line_of(v);
+    let ns = [number as usize, line, t.events as usize];
+    row(&ns);
+    t
+}
+
+// Holder and depth of lock 0, and variable 0 in main memory.
+fn held(s: State) {
+    let lock = s.holds[0];
+    let main = s.memory[0];
+    let ns = [lock.holder as usize, lock.depth as usize];
+    row(&ns);
+    value(main.value);
+}
+
+// A lock that another thread holds.
+fn locks(h: Counts) {
+    let mut s = state::initial(h);
+    s = step(s, 0, Kind::Lock(0));
+    s = step(s, 0, Kind::Lock(0));
+    s = step(s, 0, Kind::Unlock(0));
+    s = step(s, 1, Kind::Lock(0));
+    held(s);
+}
+
+// All ten kinds; then 5, 9 and 8, which leave the state as it was.
+fn kinds(h: Counts) {
+    let mut s = state::initial(h);
+    s = step(s, 0, Kind::Lock(0));
+    s = step(s, 0, Kind::Read(0, 0));
+    s = step(s, 0, Kind::Load(0, 0));
+    s = step(s, 0, Kind::Use(0, 0));
+    s = step(s, 0, Kind::Assign(0, 5));
+    s = step(s, 0, Kind::Store(0, 5));
+    s = step(s, 0, Kind::Write(0, 5));
+    s = step(s, 0, Kind::PrescientStore(0, 6));
+    s = step(s, 0, Kind::Write(0, 6));
+    s = step(s, 0, Kind::PrescientAssign(0, 6));
+    s = step(s, 0, Kind::Unlock(0));
+    held(s);
+    s = step(s, 2, Kind::Lock(0));
+    s.events = 2000;
+    s = step(s, 0, Kind::Lock(0));
+    s.events = 2001;
+    s = step(s, 0, Kind::Lock(0));
+    held(s);
+}
+
+fn steps() {
+    io::write_all(STDOUT_FILENO, b"steps in place\n");
+    let h = Counts {
+        threads: 2,
+        variables: 2,
+        locks: 2,
+    };
+    locks(h);
+    kinds(h);
+}
+
+// ---- Lent rows of events.
+
+// The first places of the row are lent for one call, and the row is answered as it comes back.
+fn filled(
+    mut rows: [Event; 5],
+    places: usize,
+    h: Counts,
+    what: &[u32],
+    values: &[Value],
+    n: usize,
+) -> [Event; 5]
+    requires { ⌜ places ≤ 5 ⌝ }
+{
+    event_rows::fill_records(&mut rows[..places], h, what, values, n);
+    rows
+}
+
+// An event that is in no row of records.
+fn filler() -> Event {
+    Event {
+        thread: 7,
+        line: 9,
+        kind: Kind::Use(7, 7),
+    }
+}
+
+// The line of an event, and the event.
+fn listed(e: Event) {
+    let mut out = [35u8; 128];
+    let ns = [e.line];
+    row(&ns);
+    let k = writer::write_event(&mut out, e);
+    show(&out, k);
+}
+
+fn fill(places: usize, what: &[u32], values: &[Value], n: usize)
+    requires { ⌜ places ≤ 5 ⌝ }
+{
+    let h = Counts {
+        threads: 1,
+        variables: 2,
+        locks: 1,
+    };
+    let e = filler();
+    let rows = filled([e; 5], places, h, what, values, n);
+    listed(rows[0]);
+    listed(rows[1]);
+    listed(rows[2]);
+    listed(rows[3]);
+    listed(rows[4]);
+}
+
+// As many events as are asked for, as there are records, as are lent, as there are values, as are lent again.
+fn fills() {
+    io::write_all(STDOUT_FILENO, b"rows of events\n");
+    // K 0 0, A 0 1 -5, N 0 0
+    let what: [u32; 3] = [4915200, 4259841, 5111808];
+    let values: [Value; 3] = [0, -5, 0];
+    let one: [Value; 1] = [0];
+    let many = [4915200u32; 7];
+    let zeros: [Value; 7] = [0; 7];
+    fill(5, &what, &values, 2);
+    fill(5, &what, &values, 9);
+    fill(2, &what, &values, 3);
+    fill(5, &what, &one, 3);
+    fill(5, &many, &zeros, 7);
+}
+
+// ---- A trace into lent events.
+
+// What is said of a trace, and the row of its events.
+struct Outcome {
+    report: Report,
+    rows: [Event; 2000],
+}
+
+// The first places of the row are lent for one call, and the row is answered as it comes back.
+fn events_marked(
+    bytes: &[u8],
+    mut rows: [Event; 2000],
+    places: usize,
+    out: &mut [u8],
+    list: &mut [u64],
+    scratch: &mut [u64],
+) -> Outcome
+    requires { ⌜ places ≤ 2000 ⌝ }
+{
+    let r = event_rows::mark_events(bytes, &mut rows[..places], out, list, scratch);
+    Outcome {
+        report: r,
+        rows: rows,
+    }
+}
+
+fn entry(list: &[u64], i: usize) {
+    if i < list.len() {
+        let ns = [list[i] as usize];
+        row(&ns);
+    }
+}
+
+// The first event, the tenth, and the place after it.
+fn events_in(rows: [Event; 2000]) {
+    listed(rows[0]);
+    listed(rows[9]);
+    listed(rows[10]);
+}
+
+// The first three places of the order list, and two of the scratch.
+fn lists(list: &[u64], scratch: &[u64]) {
+    entry(list, 0);
+    entry(list, 1);
+    entry(list, 2);
+    entry(scratch, 0);
+    entry(scratch, 1998);
+}
+
+// What is said, the listing, and what the lent memory then holds.
+fn eventful(paper: &[u8], places: usize, out: &mut [u8], list: &mut [u64], scratch: &mut [u64])
+    requires { ⌜ places ≤ 2000 ⌝ }
+{
+    let e = filler();
+    let o = events_marked(paper, [e; 2000], places, out, list, scratch);
+    let r = o.report;
+    let rows = o.rows;
+    reported(r);
+    show(out, r.written);
+    byte(out, r.written);
+    events_in(rows);
+    lists(list, scratch);
+}
+
+// So many places are lent.
+fn eventful_in(paper: &[u8], places: usize, bytes: usize, entries: usize, cells: usize)
+    requires { ⌜ (places ≤ 2000) × ((bytes ≤ 32768) × ((entries ≤ 1000) × (cells ≤ 2000))) ⌝ }
+{
+    let mut out = [35u8; 32768];
+    let mut list = [77u64; 1000];
+    let mut scratch = [77u64; 2000];
+    eventful(
+        paper,
+        places,
+        &mut out[..bytes],
+        &mut list[..entries],
+        &mut scratch[..cells],
     );
+}
+
+// 7, with one place too few of each; then a trace that is refused, one without an order, and one with it.
+fn traces(paper: &[u8]) {
+    io::write_all(STDOUT_FILENO, b"a trace into events\n");
+    eventful_in(paper, 1999, 32768, 1000, 2000);
+    eventful_in(paper, 2000, 32767, 1000, 2000);
+    eventful_in(paper, 2000, 32768, 999, 2000);
+    eventful_in(paper, 2000, 32768, 1000, 1999);
+    eventful_in(b"H 2 1 1\nG 0\nU 0 0 0\nZ 20\n", 2000, 32768, 1000, 2000);
+    eventful_in(b"H 1 1 1\nG 0\nA 0 0 5\nZ 20\n", 2000, 32768, 1000, 2000);
+    eventful_in(paper, 2000, 32768, 1000, 2000);
+}
+
+fn main() {
+    let paper =
+        b"H 2 1 1\nG 0\nK 0 0\nA 0 0 5\nS 0 0 5\nW 0 0 5\nN 0 0\nK 1 0\nR 1 0 5\nL 1 0 5\nU 1 0 5\nN 1 0\nZ 84\n";
+    io::write_all(STDOUT_FILENO, b"no order wanted\n");
+    orderless(paper);
     io::write_all(STDOUT_FILENO, b"the writers\n");
     canonical();
     limits();
@@ -267,8 +511,9 @@ fn main() {
     io::write_all(STDOUT_FILENO, b"rows of records\n");
     rows();
     io::write_all(STDOUT_FILENO, b"the events of a trace\n");
-    part(
-        b"H 2 1 1\nG 0\nK 0 0\nA 0 0 5\nS 0 0 5\nW 0 0 5\nN 0 0\nK 1 0\nR 1 0 5\nL 1 0 5\nU 1 0 5\nN 1 0\nZ 84\n",
-    );
+    part(paper);
     part(b"Z 0\n");
+    steps();
+    fills();
+    traces(paper);
 }

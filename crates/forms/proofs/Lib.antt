@@ -1,0 +1,2 @@
+-- a local that a function lends
+mod Lent
