@@ -3,14 +3,14 @@ use Prim.Native.Nat.{ℕ, _+_, _≤_, _<_, min}
 use native.Mathlib.Omega.{arith}
 use mathlib.Core.Path.{_≡_, refl, sym, ap, ap₂, _∙_}
 use mathlib.Core.Bool.{Bool, true, false, cond, _||_}
-use mathlib.Core.List.{List, [], _∷_, _++_, map}
+use mathlib.Core.List.{List, _++_, map}
 use lib.Dec.{ltb}
 use lib.IntN.{ℤ, pos}
-use lib.ListN.{length, getD, replicate, drop, length-map, length-append, List·getD-append}
+use lib.ListN.{length, replicate, length-map, length-append, List·getD-append}
 use borrow.Author.Tests.{ltb-false}
 use Rattle.rules.specs.declared.Event.{Event}
 use Rattle.rules.specs.declared.Counts.{Counts}
-use Rattle.rules.specs.Limits.{full, lentShort, orderShort, lineAfter}
+use Rattle.rules.specs.Limits.{full, lentShort, lineAfter}
 use Rattle.rules.specs.Rules.{Marked, accepted, refused, onMarked}
 use Rattle.rules.specs.Memories.{from}
 use Rattle.rules.proofs.From.{from-same}
@@ -22,8 +22,7 @@ use Rattle.marking.specs.Marking.{markedOf, eventsIn, readIn}
 use Rattle.marking.proofs.Whole.{read-is, events-few, events-numbered, events-declared}
 use Rattle.ordering.specs.Traces.{orderingOf}
 use Rattle.report.specs.declared.Report.{Report}
-use Rattle.report.specs.Report.{short, shortReport, reportOf, countOf, listingOf, recordsAfter, Reports}
-use Rattle.report.specs.Computed.Parts.{Lends}
+use Rattle.report.specs.Report.{short, shortReport, reportOf, countOf, listingOf, recordsAfter}
 use Rattle.event_rows.specs.declared.Kept.{Kept}
 use Rattle.event_rows.specs.EventRows.{fitting, filled, FillsEvents}
 use Rattle.event_rows.specs.Computed.Kept.{Keeps}

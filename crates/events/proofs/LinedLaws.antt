@@ -9,14 +9,12 @@ use mathlib.Core.Option.{Option, none, some}
 use lib.Dec.{leb}
 use lib.ListN.{length, getD}
 use Rattle.rules.specs.declared.Event.{Event}
-use Rattle.rules.specs.declared.Counts.{Counts}
 use Rattle.rules.specs.declared.Named.{Named}
 use Rattle.rules.specs.declared.Named.the-variants as named
 use Rattle.rules.specs.Events.{kindOf, eventWith}
-use Rattle.rules.specs.Limits.{Limits, full, firstLine, lineAfter}
-use Rattle.rules.specs.Computed.Reading.{readFrom}
-use Rattle.events.specs.Events.{Fields, wrong, right, lineOf, eventIn, eventOf, readings, partLines}
-use Rattle.events.specs.Computed.Reading.{eventsRead}
+use Rattle.rules.specs.Limits.{Limits}
+use Rattle.rules.specs.Reading.{readFrom}
+use Rattle.events.specs.Events.{Fields, wrong, right, lineOf, eventIn, eventOf, readings}
 
 pub event-line : (n : ℕ) (l : List ℕ) (e : Event) → eventOf n l ≡ some e → e .line ≡ n
 unfolding eventOf
@@ -52,7 +50,3 @@ lined-at : (n : ℕ) (es : List Event) (d : Event) → Lined n es → (i : ℕ) 
 lined-at n [] d w i h = absurd (not-suc-le-zero h)
 lined-at n (e ∷ es) d w zero h = w .0 ∙ omega arith
 lined-at n (e ∷ es) d w (suc i) h = lined-at (suc n) es d (w .1) i (omega arith) ∙ omega arith
-
--- the i-th event that is read stands on the line that comes after i events
-pub read-line : (h : Counts) (s : List ℕ) (d : Event) (i : ℕ) → i < length (eventsRead h s) → getD (eventsRead h s) i d .line ≡ lineAfter h i
-read-line h s d i l = lined-at (firstLine h) (eventsRead h s) d (read-lined full 0 (firstLine h) (partLines s)) i l

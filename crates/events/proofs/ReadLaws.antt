@@ -15,14 +15,14 @@ use Rattle.rules.specs.declared.Verdict.{Verdict}
 use Rattle.rules.specs.declared.Verdict.the-variants.{Accepted, Refused}
 use Rattle.rules.specs.Limits.{full, firstLine, lineAfter}
 use Rattle.rules.specs.Rules.{told}
-use Rattle.rules.specs.Computed.Reading.{readFrom, stopFrom}
+use Rattle.rules.specs.Reading.{readFrom, stopFrom}
 use Rattle.decimal.specs.Text.{over}
 use Rattle.decimal.proofs.TextLaws.{over-next, over-length}
 use Rattle.records.specs.Records.{whatOf, packed, valueIn}
 use Rattle.events.specs.declared.Line.{Line}
 use Rattle.events.specs.Events.{readings, partLines}
 use Rattle.events.specs.Computed.Lines.{lineAt}
-use Rattle.events.specs.Computed.Reading.{linesRead, eventsRead, Reads}
+use Rattle.events.specs.Reading.{linesRead, eventsRead, Reads}
 use Rattle.events.proofs.WalkLaws.{part-none, Here, here, wrong-here}
 
 -- one record more

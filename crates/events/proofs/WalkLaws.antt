@@ -1,7 +1,7 @@
 -- The lines of a part one after the other, and what `line_at` says of each.
 use Prim.Native.Nat.{ℕ, zero, suc, _≤_, _<_, _+_}
 use native.Mathlib.Omega.{arith}
-use native.Mathlib.Nat.{not-suc-le-zero, le-refl}
+use native.Mathlib.Nat.{not-suc-le-zero}
 use mathlib.Core.Path.{_≡_, refl, sym, ap, _∙_}
 use mathlib.Core.Bool.{Bool, true, false, cond, false≢true}
 use mathlib.Core.List.{List, [], _∷_}
@@ -62,10 +62,6 @@ part-within (suc n) s l w =
 
     more : (h : before 10 s < length s) → (before 10 s < length s → partLines (drop (before 10 s + 1) s) ≡ linesOf (drop (before 10 s + 1) s)) → partLines s ≡ linesOf s
     more h r = part-more s h ∙ ap (λ (ls : List (List ℕ)). take (before 10 s) s ∷ ls) (r h) ∙ sym (lines-more s h)
-
--- the lines of a part that ends in byte 10, or is empty, are its whole lines
-pub part-lines : (s : List ℕ) → upTo 10 s ≡ length s → partLines s ≡ linesOf s
-part-lines s w = part-within (length s) s (le-refl (length s)) w
 
 -- ---- the line at `at`, which is line n
 

@@ -10,7 +10,7 @@ ghost use lib.ListN.{length, drop};
 ghost use Rattle.rules.specs.Limits.{full};
 ghost use Rattle.events.specs.Events.{onInteger, right, last, lockEnd, valueEnd, field, afterThread};
 ghost use Rattle.events.specs.Computed.Lines.{noLine, placed, stage, lineAt};
-ghost use Rattle.events.specs.Computed.Reading.{Reads};
+ghost use Rattle.events.specs.Reading.{Reads};
 
 // An event line as plain numbers, and where the next line starts; all is 0 where there is no event line.
 pub struct Line {
@@ -118,7 +118,7 @@ fn after_letter(s: &[u8], at: usize, k: u8) -> Line
 }
 
 // The line that starts at `at`.
-pub fn line_at(s: &[u8], at: usize) -> Line
+fn line_at(s: &[u8], at: usize) -> Line
     ensures { λ r. ⌜ r ≡ lineAt (now (s .entry)) at ⌝ }
 {
     if s.len() <= at {

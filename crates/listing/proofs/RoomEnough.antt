@@ -212,10 +212,6 @@ room-enough n h w l a ends b =
     let ls = stateLines n (memory h w) (copies h w) in
     enough (ls ++ ends) (omega (arith, text-both ls ends, state-text n h w l a, behind-text ends b))
 
--- the same where no order is wanted
-pub room-brief : (n : ℕ) (h : Counts) (w : Words) → n ≤ full .events → allowed full h ≡ true → Enough (stateLines n (memory h w) (copies h w))
-room-brief n h w l a = enough (stateLines n (memory h w) (copies h w)) (omega (arith, state-text n h w l a))
-
 -- the one line of a refused trace
 pub room-refused : (line number : ℕ) → Enough (refusedLine line number ∷ [])
 room-refused l n = let t : length (textOf (refusedLine l n ∷ [])) ≤ 81 = row-text _ l n (omega arith) in enough (refusedLine l n ∷ []) (omega arith)

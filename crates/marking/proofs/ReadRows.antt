@@ -4,8 +4,7 @@ use native.Mathlib.Omega.{arith}
 use mathlib.Core.Path.{_≡_, refl, sym, ap, _∙_, subst}
 use mathlib.Core.Bool.{true}
 use mathlib.Core.List.{List, [], _∷_, map}
-use mathlib.Core.Option.{Option, none}
-use lib.Dec.{eqb}
+use mathlib.Core.Option.{Option}
 use lib.IntN.{ℤ}
 use lib.ListN.{length, take, drop, length-append, length-map}
 use borrow.Author.Tests.{eq-eqb}
@@ -14,8 +13,8 @@ use Rattle.rules.specs.declared.Counts.{Counts}
 use Rattle.rules.specs.declared.Verdict.the-variants as verdict
 use Rattle.rules.specs.Limits.{full, firstLine, lineAfter, allowed}
 use Rattle.rules.specs.Memories.{memoriesOf}
-use Rattle.rules.specs.Rules.{wordsOf, Marked, accepted, refused, told, said, onMarked, refusedOr, markFrom, markRead}
-use Rattle.rules.specs.Computed.Reading.{readFrom, stopFrom}
+use Rattle.rules.specs.Rules.{wordsOf, Marked, accepted, refused, told, onMarked, refusedOr, markFrom, markRead}
+use Rattle.rules.specs.Reading.{readFrom, stopFrom}
 use Rattle.rules.proofs.Readings.{marked-apart, all-read, read-events, past-events}
 use Rattle.decimal.specs.Text.{over}
 use Rattle.records.specs.Records.{packed, valueIn}
@@ -27,7 +26,7 @@ use Rattle.trace.specs.Trace.{traceOf, eventsOf}
 use Rattle.trace.proofs.TraceLaws.{found-allowed, not-found}
 use Rattle.events.specs.declared.Read.{Read}
 use Rattle.events.specs.Events.{readings, partLines}
-use Rattle.events.specs.Computed.Reading.{Reads, eventsRead}
+use Rattle.events.specs.Reading.{Reads, eventsRead}
 use Rattle.events.proofs.LinedLaws.{Lined, read-lined}
 use Rattle.lines.specs.Lines.{splitOn}
 use Rattle.machine.specs.declared.Outcome.{Outcome}

@@ -9,7 +9,7 @@ use Rattle.rules.specs.declared.Event.{Event}
 use Rattle.rules.specs.Limits.{Limits, full, firstLine}
 use Rattle.rules.specs.Rules.{wordsOf, Marked, accepted, told, said, onMarked, refusedOr, markRead, pastRead}
 use Rattle.rules.specs.Memories.{memoriesOf, noMemories}
-use Rattle.rules.specs.Computed.Reading.{readFrom}
+use Rattle.rules.specs.Reading.{readFrom}
 use Rattle.decimal.specs.Text.{over}
 use Rattle.records.specs.Records.{packed, valueIn}
 use Rattle.trace.specs.Trace.{noCounts, noGuards, traceOf, eventsOf}

@@ -10,18 +10,16 @@ use lib.IntN.{ℤ, pos}
 use lib.ListN.{length, getD, length-reverse}
 use Rattle.rules.specs.declared.Event.{Event}
 use Rattle.rules.specs.declared.Counts.{Counts}
-use Rattle.rules.specs.Limits.{full, lineAfter, allowed, declared}
-use Rattle.rules.specs.Rules.{legal, accepted, markRead}
+use Rattle.rules.specs.Limits.{full, lineAfter, declared}
+use Rattle.rules.specs.Rules.{legal, accepted}
 use Rattle.rules.proofs.Bounds.{declared-bounds}
 use Rattle.rules.proofs.Laws.{few, legal-known, legal-before}
 use Rattle.rules.proofs.Marking.{mark-accepts}
-use Rattle.state.proofs.Kept.{up-to-full}
 use Rattle.records.specs.Records.{packed, valueIn, letterIn, threadIn, placeIn, rowLines, eventAt, rowEvents}
 use Rattle.rules.specs.Memories.{from}
 use Rattle.records.proofs.RecordLaws as Rec
 use Rattle.records.proofs.RowLaws.{Numbered, Small, row-lines, row-back, lines-events, lines-lettered}
 use Rattle.rules.proofs.From.{from-step, from-end, length-from}
-use Rattle.records.proofs.MarkedRows.{lines-named, row-accepted}
 use Rattle.serial.specs.Lists.{All}
 use Rattle.sections.specs.Demand3.{AcceptedTrace}
 use Rattle.sections.proofs.Valid.{Declared, to-declared}
@@ -118,13 +116,6 @@ module _ (h : Counts) (ws : List ℕ) (xs : List ℤ) where
   trace-fits events a q = record {
     lettered = lines-lettered h ws xs events q;
     accepted = subst (AcceptedTrace full h) (sym (lines-events h ws xs events q)) a;
-  }
-
-  -- marking accepts them
-  pub marked-fits : allowed full h ≡ true → markRead full h [] (rowLines h ws xs) ≡ accepted → Fits h ws xs
-  marked-fits a q = record {
-    lettered = lines-lettered h ws xs (rowEvents h ws xs) (lines-named full h ws xs q);
-    accepted = record { limits = up-to-full; head = a; marked = row-accepted full h ws xs q };
   }
 
 -- the records of an accepted trace whose events stand in their lines

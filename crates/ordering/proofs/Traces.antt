@@ -22,18 +22,17 @@ use Rattle.marking.proofs.Whole.{read-is, head-allowed, events-marked, events-n
 use Rattle.serial.specs.Lists.{All}
 use Rattle.sections.specs.Demand3.{AcceptedTrace}
 use Rattle.sections.specs.Order.{order}
-use Rattle.sections.specs.Entries.{entryCode, entryIn}
-use Rattle.sections.proofs.Demand3.{room}
+use Rattle.sections.specs.Entries.{entryIn}
 use Rattle.ordering.specs.declared.Ordering.{Ordering}
-use Rattle.ordering.specs.declared.Ordering.the-variants.{Ordered, NoOrder}
+use Rattle.ordering.specs.declared.Ordering.the-variants.{NoOrder}
 use Rattle.ordering.specs.declared.Outcome.{Outcome}
-use Rattle.ordering.specs.Answer.{guardOf, answerFor, entriesFor, Given}
+use Rattle.ordering.specs.Answer.{answerFor, entriesFor, Given}
 use Rattle.ordering.specs.Traces.{orderingOf, entriesOf, SerialTrace, OrdersTrace}
 use Rattle.ordering.specs.Computed.Parts.{Fits}
 use Rattle.state.proofs.Kept.{up-to-full}
 use Rattle.ordering.proofs.Rows.{packed-fits, packed-events}
-use Rattle.ordering.proofs.Answering.{untouched, Fit, answered-fit}
-use Rattle.ordering.proofs.Serial.{Small, small, fit-codes, demand-3-given}
+use Rattle.ordering.proofs.Answering.{untouched}
+use Rattle.ordering.proofs.Serial.{Small, small, demand-3-given}
 
 -- ---- a trace that is accepted
 
@@ -60,20 +59,6 @@ module _ (s : List ℕ) (a : markedOf full s ≡ accepted) where
     pub few : length (entriesOf full s) ≤ 1000
     pub small : All Small (order (traceOf full s .head) (eventsIn full s))
     pub back : map entryIn (entriesOf full s) ≡ order (traceOf full s .head) (eventsIn full s)
-
-  pub entries-few : (c : ℕ) → orderingOf full s ≡ Ordered c → Entries c
-  unfolding entriesOf
-  entries-few c q = by (answered-fit head guards events c (sym ordering-is ∙ q))
-    where
-      by : Fit head guards events c → Entries c
-      by f =
-          let n : length (entriesFor head events) ≡ length (order head events) = unfold entriesFor in length-map (order head events) entryCode in
-          record {
-            count = f .count ∙ sym n;
-            few = omega (arith, room full head (guardOf (guards .locks)) events accepted-trace (f .undenied), n);
-            small = small full head guards events accepted-trace (f .undenied);
-            back = fit-codes full head guards events accepted-trace (f .undenied);
-          }
 
 -- ---- what marking hands back
 

@@ -88,12 +88,6 @@ module _ (h : Counts) where
     pub front-value : take (length es) (map valueIn es ++ xs) ≡ map valueIn es
     front-value = take-at (map valueIn es) xs (length es) (length-map es valueIn)
 
-    pub front-lines : Numbered h 0 es → Small es → rowLines h (take (length es) (map packed es ++ ws)) (take (length es) (map valueIn es ++ xs)) ≡ map some es
-    front-lines k s = ap₂ (rowLines h) front-what front-value ∙ row-lines es k s
-
-    pub front-back : Numbered h 0 es → Small es → rowEvents h (take (length es) (map packed es ++ ws)) (take (length es) (map valueIn es ++ xs)) ≡ es
-    front-back k s = ap₂ (rowEvents h) front-what front-value ∙ row-back es k s
-
   -- ---- rows whose lines are all events
 
   module _ (ws : List ℕ) (xs : List ℤ) where

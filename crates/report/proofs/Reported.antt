@@ -36,8 +36,8 @@ use Rattle.ordering.specs.Answer.{guardOf, answerOf, answerFor, entriesFor, ord
 use Rattle.ordering.specs.Traces.{orderingOf, entriesOf, OrdersTrace}
 use Rattle.ordering.proofs.Traces.{accepted-trace}
 use Rattle.report.specs.declared.Report.{Report}
-use Rattle.report.specs.Report.{denialLines, orderLines, listingOf, recordsAfter, whatsAfter, valuesAfter, countOf, reportOf, shortReport, short, Reports, Fills}
-use Rattle.report.specs.Computed.Parts.{orderingLines, Lends}
+use Rattle.report.specs.Report.{Lends, denialLines, orderLines, listingOf, recordsAfter, whatsAfter, valuesAfter, countOf, reportOf, shortReport, short, Reports, Fills}
+use Rattle.report.specs.Computed.Parts.{orderingLines}
 use Rattle.report.proofs.Printed.{behind-order, refused-lines, accepted-lines, linesWith, marking-is, memory-lines, printed}
 
 -- ---- what is lent is enough

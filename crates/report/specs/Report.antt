@@ -11,7 +11,7 @@ use Rattle.rules.specs.Rules.{wordsOf, refused, told, said, numberIn, lineIn, o
 use Rattle.decimal.specs.Text.{over}
 use Rattle.records.specs.Records.{packed, valueIn}
 use Rattle.trace.specs.Trace.{traceOf}
-use Rattle.marking.specs.Marking.{markedOf, pastOf, eventsIn}
+use Rattle.marking.specs.Marking.{readIn, markedOf, pastOf, eventsIn}
 use Rattle.sections.specs.Denials.{Denial, fit, denied}
 use Rattle.sections.specs.Refusals.{denial}
 use Rattle.sections.specs.Order.{order}
@@ -98,6 +98,12 @@ pub record Fills (s whats : List ℕ) (values : List ℤ) (out list scratch : Li
   pub reports : Reports s (min (length whats) (length values)) out list scratch r out′ list′ scratch′
   pub fills : whats′ ≡ cond (short full (min (length whats) (length values)) out list scratch) whats (whatsAfter full s whats)
   pub beside : values′ ≡ cond (short full (min (length whats) (length values)) out list scratch) values (valuesAfter full s values)
+
+-- The same with two rows that are room for the records: those of the events that were read stand at their front, after a refusal too.
+pub record Lends (s : List ℕ) (places : ℕ) (what : List ℕ) (value : List ℤ) (out list scratch : List ℕ) (r : Report) (what′ : List ℕ) (value′ : List ℤ) (out′ list′ scratch′ : List ℕ) : Type 0 where
+  pub reports : Reports s places out list scratch r out′ list′ scratch′
+  pub keeps : what′ ≡ cond (short full places out list scratch) what (over (map packed (readIn full s)) what)
+  pub beside : value′ ≡ cond (short full places out list scratch) value (over (map valueIn (readIn full s)) value)
 
 -- ---- where no order is wanted: 7 asks records and output alone
 pub record Briefs (s whats : List ℕ) (values : List ℤ) (out : List ℕ) (r : Report) (whats′ : List ℕ) (values′ : List ℤ) (out′ : List ℕ) : Type 0 where

@@ -1,13 +1,13 @@
 -- The line of an event plays no part in the rules.
 use Prim.Native.Nat.{ℕ}
-use mathlib.Core.Path.{_≡_, refl, ap}
-use mathlib.Core.Bool.{Bool, cond}
+use mathlib.Core.Path.{_≡_, refl}
+use mathlib.Core.Bool.{cond}
 use mathlib.Core.List.{List, [], _∷_}
 use Rattle.rules.specs.declared.Event.{Event}
 use Rattle.rules.specs.declared.Counts.{Counts}
 use Rattle.rules.specs.Events.{is, onLock}
-use Rattle.rules.specs.Limits.{Limits, declared}
-use Rattle.rules.specs.Rules.{Words, noPartner, lockTaken, notHeld, pendingBars, notFresh, notStored, readBeforeWrite, notWritten, notUsable, differs, eightAlready, breaks, firstBroken, judge, answer}
+use Rattle.rules.specs.Limits.{declared}
+use Rattle.rules.specs.Rules.{Words, noPartner, lockTaken, notHeld, pendingBars, notFresh, notStored, readBeforeWrite, notWritten, notUsable, differs, eightAlready, breaks, firstBroken, judge}
 
 -- the event in another line
 abbrev pub inLine : ℕ → Event → Event
@@ -30,7 +30,3 @@ module _ (h : Counts) (w : Words) (n : ℕ) (e : Event) where
   pub declared-bare : declared h (inLine n e) ≡ declared h e
   unfolding declared onLock is
   declared-bare = refl
-
-  pub answer-bare : (m : Limits) → answer m h w (inLine n e) ≡ answer m h w e
-  unfolding answer
-  answer-bare m = rw (judge-bare, declared-bare) refl

@@ -2,18 +2,16 @@
 use Prim.Native.Nat.{ℕ, zero, suc, _≤_, _<_}
 use native.Mathlib.Omega.{arith}
 use native.Mathlib.Nat.{suc-ne-zero, not-suc-le-zero}
-use borrow.Author.Tests.{eqb-true, eqb-false, eq-eqb, leb-false, lt-leb, not-true}
-use mathlib.Core.Path.{_≡_, refl, sym, ap, _∙_, subst}
+use borrow.Author.Tests.{eqb-true, eqb-false, eq-eqb, leb-false, lt-leb}
+use mathlib.Core.Path.{_≡_, refl, sym, _∙_, subst}
 use mathlib.Core.Bool.{Bool, true, false, not, cond, _&&_, _||_, or-false}
-use mathlib.Core.List.{List, [], _∷_, _++_}
-use lib.Dec.{T, eqb, ltb, leb, eqb→eq}
-use lib.ListN.{length, drop}
+use mathlib.Core.List.{List, [], _∷_}
+use lib.Dec.{T, eqb, leb, eqb→eq}
+use lib.ListN.{length}
 use Rattle.rules.specs.declared.Event.{Event}
-use Rattle.rules.specs.Events.{A, B, K, L, N, P, R, S, U, W, letter, place, value, among, is, of, on}
-use Rattle.rules.specs.declared.Slot.{Slot}
+use Rattle.rules.specs.Events.{K, L, N, P, R, S, W, letter, among, is}
 use Rattle.rules.specs.declared.Counts.{Counts}
 use Rattle.rules.specs.Limits.{Limits, most, declared}
-use Rattle.rules.specs.Words.{by}
 use Rattle.rules.specs.Rules.{Words, wordsOf, none?, loc, held, some, noPartner, lockTaken, notHeld, eightAlready, breaks, rows, rowIn, firstBroken, judge, answer, verdict, Accepted, legal}
 
 -- ---- Booleans
@@ -150,11 +148,6 @@ pub is-among : (ks js : List ℕ) (e : Event) → T (allOf (among js) ks) → T 
 unfolding is
 is-among ks js e m h = each-among (among js) ks (letter (e .kind)) m h
 
--- and none of js, where none of ks is among js
-pub is-apart : (ks js : List ℕ) (e : Event) → T (allOf (λ n. not (among js n)) ks) → T (is ks e) → is js e ≡ false
-unfolding is
-is-apart ks js e m h = not-true (among js (letter (e .kind))) (is-true (each-among (λ n. not (among js n)) ks (letter (e .kind)) m h))
-
 -- rule n stands in the row of letter k
 abbrev pub inRow : ℕ → ℕ → Bool
 inRow n k = among (rowIn rows k) n
@@ -229,10 +222,6 @@ passed m c w e x p = go (leb (m .events) (w .events)) (declared c e) refl refl p
     go false true q r p = record { room = q; known = r; row = p }
     go false false q r p = absurd (suc-ne-zero 4 p)
 
-pub accepted-row : (m : Limits) (c : Counts) (e : Event) (es : List Event) → 0 < m .excess → T (Accepted m c (e ∷ es)) → judge c (wordsOf es) e ≡ 0
-unfolding verdict
-accepted-row m c e es x a = passed m c (wordsOf es) e x (accepted-last m c e es a) .row
-
 -- an accepted list is no longer than the limit
 pub few : (m : Limits) (c : Counts) (es : List Event) → 0 < m .excess → T (Accepted m c es) → length es ≤ m .events
 unfolding verdict wordsOf
@@ -279,14 +268,6 @@ legal-accepted m c [] l h = tt
 legal-accepted m c (e ∷ es) l h = accepted-cons m c e es (clear m c e es (legal-known c e es l) (legal-row c e es l) h) (legal-accepted m c es (legal-before c e es l) (omega arith))
 
 -- ---- a search over the numbers below n
-
-pub some-zero : (f : ℕ → Bool) → some 0 f ≡ false
-unfolding some
-some-zero f = refl
-
-pub some-not : (n : ℕ) (f : ℕ → Bool) → some n f ≡ false → f n ≡ false → some (suc n) f ≡ false
-unfolding some
-some-not n f p q = rw (q, p)
 
 pub some-has : (n : ℕ) (f : ℕ → Bool) (u : ℕ) → u < n → f u ≡ true → some n f ≡ true
 unfolding some

@@ -1,10 +1,9 @@
 -- The words after one more event, from the words before it alone: what a marker that keeps no list has to compute.
 -- `Simulation` proves that these are the words over the longer list.
-use Prim.Native.Nat.{ℕ, zero, suc, pred}
-use mathlib.Core.Bool.{Bool, true, false, not, cond, _&&_, _||_}
+use Prim.Native.Nat.{suc, pred}
+use mathlib.Core.Bool.{not, cond, _&&_, _||_}
 use mathlib.Core.List.{List, [], _∷_, _++_}
 use lib.Dec.{ltb}
-use lib.IntN.{ℤ, pos}
 use Rattle.rules.specs.declared.Event.{Event}
 use Rattle.rules.specs.Events.{A, B, L, P, R, S, W, value, is, on}
 use Rattle.rules.specs.declared.Slot.{Slot}

@@ -5,14 +5,14 @@ use mathlib.Core.Path.{_≡_, refl, sym, ap, _∙_, subst}
 use mathlib.Core.Bool.{Bool, true, false, not, cond, _&&_, _||_, and-false}
 use mathlib.Core.List.{List, [], _∷_, _++_, map, append-nil, nil≢cons, cons≢nil, head-eq-of-cons-eq, tail-eq-of-cons-eq}
 use mathlib.Core.Logic.{_⊎_, inl, inr}
-use mathlib.Core.Option.{none, some}
+use mathlib.Core.Option.{some}
 use lib.Dec.{T, eqb, ltb}
 use lib.ListN.{length, drop}
 use borrow.Author.Tests.{eqb-true, lt-ltb, le-ltb}
 use Rattle.rules.specs.declared.Event.{Event}
 use Rattle.rules.specs.declared.Slot.{Slot}
 use Rattle.rules.specs.declared.Counts.{Counts}
-use Rattle.rules.specs.Events.{A, B, K, L, N, P, R, S, W, letter, value, among, is, of, on, onLock, locks, unlocks, eqZ}
+use Rattle.rules.specs.Events.{A, K, L, N, P, R, S, W, letter, value, among, is, of, on, onLock, locks, unlocks, eqZ}
 use Rattle.rules.specs.Words.{latest, valueIn, letterIn, lastAt, count, slot, inOrder, first, by, locksBy, acquires, releases, reads, stores, copy, fresh, pending, announced, lastLock, lastWrite, usable, depth, main}
 use Rattle.rules.specs.Rules
 use Rattle.rules.specs.Rules.{wordsOf, none?, loc, noPartner, lockTaken, notHeld, pendingBars, notFresh, notStored, readBeforeWrite, unwritten, notWritten, notUsable, differs, eightAlready, breaks, rows, rowIn, firstBroken, judge}

@@ -1,10 +1,9 @@
 -- Marking the lines of a trace: as reading them first and marking the events that were read; and what an accepted trace has read.
 use Prim.Native.Nat.{ℕ, zero, suc, _<_}
-use native.Mathlib.Omega.{arith}
 use native.Mathlib.Nat.{not-suc-le-zero}
 use mathlib.Core.Path.{_≡_, refl, sym, ap, _∙_, subst}
 use mathlib.Core.Bool.{Bool, true, false, cond}
-use mathlib.Core.List.{List, [], _∷_, _++_, map, reverse, reverseAux, reverse-reverse}
+use mathlib.Core.List.{List, [], _∷_, map, reverse, reverseAux, reverse-reverse}
 use mathlib.Core.Option.{Option, none, some}
 use lib.Dec.{T, leb}
 use lib.ListN.{length}
@@ -12,7 +11,7 @@ use Rattle.rules.specs.declared.Event.{Event}
 use Rattle.rules.specs.declared.Counts.{Counts}
 use Rattle.rules.specs.Limits.{Limits, lineAfter}
 use Rattle.rules.specs.Rules.{wordsOf, answer, verdict, Marked, accepted, refused, refusedOr, unless, passing, markFrom, mark, markRead, pastRead, Accepted}
-use Rattle.rules.specs.Computed.Reading.{readFrom, stopFrom}
+use Rattle.rules.specs.Reading.{readFrom, stopFrom}
 use Rattle.rules.proofs.Laws.{accepted-cons}
 use Rattle.rules.proofs.Marking.{accepts-mark}
 

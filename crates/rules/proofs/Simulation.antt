@@ -1,23 +1,21 @@
 -- The words over a list one event longer are the words of `next`.
-use Prim.Native.Nat.{ℕ, zero, suc, pred, _+_, _-_, _≤_, _<_, zero-le, suc-le-suc}
+use Prim.Native.Nat.{ℕ, zero, suc, _+_, _-_, _≤_, _<_, zero-le, suc-le-suc}
 use native.Mathlib.Omega.{arith}
-use mathlib.Core.Path.{_≡_, refl, sym, ap, _∙_, subst}
-use mathlib.Core.Bool.{Bool, true, false, not, cond, _&&_, _||_}
+use mathlib.Core.Path.{_≡_, refl, subst}
+use mathlib.Core.Bool.{Bool, true, false, not, cond, _&&_}
 use mathlib.Core.List.{List, [], _∷_, _++_, append-nil}
-use mathlib.Core.Option.{Option, none, some}
-use lib.Dec.{T, eqb, ltb, eqb→eq}
-use lib.IntN.{ℤ, pos}
-use borrow.Author.Tests.{ltb-true, not-false}
+use mathlib.Core.Option.{some}
+use lib.Dec.{T, eqb→eq}
 use lib.ListN.{length, drop, length-append}
-use lib.Seq.{drop-append-le, drop-cons}
+use lib.Seq.{drop-append-le}
 use Rattle.rules.specs.declared.Event.{Event}
 use Rattle.rules.specs.declared.Kind.{Kind}
 use Rattle.rules.specs.declared.Kind.the-variants.{Use, Assign, Load, Store, Read, Write, Lock, Unlock, PrescientStore, PrescientAssign}
-use Rattle.rules.specs.Events.{A, B, K, L, N, P, R, S, U, W, letter, place, value, among, is, of, on, locks, unlocks}
+use Rattle.rules.specs.Events.{A, B, K, L, N, P, R, S, U, W, letter, value, among, is, of, on}
 use Rattle.rules.specs.declared.Slot.{Slot}
 use Rattle.rules.specs.declared.Counts.{Counts}
 use Rattle.rules.specs.Limits.{Limits}
-use Rattle.rules.specs.Words.{latest, valueIn, letterIn, lastAt, count, slot, inOrder, first, by, acquires, releases, reads, stores, copy, fresh, pending, announced, lastLock, lastWrite, usable, depth, main}
+use Rattle.rules.specs.Words.{latest, valueIn, letterIn, lastAt, count, slot, inOrder, by, reads, stores, copy, fresh, pending, announced, lastLock, lastWrite, usable, depth, main}
 use Rattle.rules.specs.Rules.{Words, wordsOf, none?, loc, judge, Accepted, legal}
 use Rattle.rules.proofs.Laws.{and-left, and-right, accepted-legal, legal-row, legal-before, load-partner, write-partner}
 use Rattle.rules.proofs.Next.{others, next}

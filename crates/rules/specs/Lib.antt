@@ -4,6 +4,5 @@ pub mod Words
 pub mod Rules
 pub mod Memories
 pub mod Projections
+pub mod Reading
 pub mod Traces
--- what is only computed
-pub mod Computed

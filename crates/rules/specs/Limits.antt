@@ -1,6 +1,6 @@
 -- The limits of document 01, each named once.
 use Prim.Native.Nat.{ℕ, _+_, _≤_, _<_}
-use mathlib.Core.Bool.{Bool, true, false, cond, _&&_, _||_}
+use mathlib.Core.Bool.{Bool, cond, _&&_, _||_}
 use lib.Dec.{ltb, leb}
 use mir.Syntax.{Width, w32}
 use Rattle.rules.specs.declared.Event.{Event}

@@ -1,8 +1,7 @@
 -- Document 01, "Short traces": the rows marked as proved, one table, and the 1-2-3 run. `proofs/ShortTraces.antt` proves the
 -- table by one theorem, and that the run is accepted.
 use Prim.Native.Nat.{ℕ, zero, suc}
-use mathlib.Core.Path.{_≡_, refl}
-use mathlib.Core.List.{List, [], _∷_, map, reverse}
+use mathlib.Core.List.{List, [], _∷_, reverse}
 use mathlib.Core.Option.{Option, none, some}
 use lib.IntN.{ℤ, pos}
 use Rattle.rules.specs.declared.Kind.{Kind}

@@ -1,18 +1,17 @@
 -- The words of the rules are the cells of the theory.
-use Prim.Native.Nat.{ℕ, zero, suc, pred, _≤_, _<_}
+use Prim.Native.Nat.{ℕ, suc}
 use native.Mathlib.Decide.{ℕ-discrete}
-use native.Mathlib.Omega.{arith}
 use mathlib.Core.Path.{_≡_, refl, sym, ap, _∙_, subst}
 use mathlib.Core.Logic.{ite}
-use mathlib.Core.Bool.{Bool, true, false, not, cond, _&&_, _||_}
-use mathlib.Core.List.{List, [], _∷_, _++_, map, tail, map-append}
-use lib.Dec.{T, eqb, ltb, eqb→eq, eqb-refl}
+use mathlib.Core.Bool.{Bool, true, false, cond}
+use mathlib.Core.List.{List, [], _∷_, map, tail, map-append}
+use lib.Dec.{T, eqb, eqb→eq, eqb-refl}
 use lib.IntN.{ℤ, pos}
 use lib.ListN.{length}
 use Rattle.rules.specs.declared.Event.{Event}
 use Rattle.rules.specs.declared.Kind.{Kind}
 use Rattle.rules.specs.declared.Kind.the-variants.{Use, Assign, Load, Store, Read, Write, Lock, Unlock, PrescientStore, PrescientAssign}
-use Rattle.rules.specs.Events.{A, B, K, L, N, P, R, S, U, W, letter, place, value, among, is, of, on, locks}
+use Rattle.rules.specs.Events.{B, value, is, of, on, locks}
 use Rattle.rules.specs.declared.Slot.{Slot}
 use Rattle.rules.specs.Words.{first, by, locksBy, latest, valueIn, letterIn, lastAt, count, inOrder, reads, stores, copy, fresh, pending, announced, lastLock, lastWrite, usable, main}
 use Rattle.rules.specs.Rules.{Words, wordsOf}

@@ -1,13 +1,13 @@
 -- Demand 3: an accepted trace with guards gets its order exactly when 20 to 22 deny none, and run whole in that order on the
 -- sequential memory the sections give every use its value and leave every variable its value in main memory.
-use Prim.Native.Nat.{ℕ, zero, suc, _*_, _≤_, _<_}
+use Prim.Native.Nat.{ℕ, _*_, _≤_, _<_}
 use native.Mathlib.Omega.{arith}
 use mathlib.Core.Path.{_≡_, refl, sym, ap, _∙_, subst}
-use mathlib.Core.Logic.{_⊎_, inl, inr}
+use mathlib.Core.Logic.{inl}
 use mathlib.Core.Bool.{Bool, true, false}
-use mathlib.Core.List.{List, [], _∷_, map, reverse, reverse-reverse}
+use mathlib.Core.List.{List, [], map, reverse, reverse-reverse}
 use lib.Dec.{T}
-use lib.IntN.{ℤ, pos}
+use lib.IntN.{pos}
 use lib.ListN.{length, length-map, length-reverse}
 use Rattle.rules.specs.declared.Event.{Event}
 use Rattle.rules.specs.declared.Counts.{Counts}
@@ -17,15 +17,13 @@ use Rattle.rules.specs.Rules.{mark, wordsOf, held, Accepted}
 use Rattle.rules.proofs.Laws.{accepted-legal, is-true, few}
 use Rattle.rules.proofs.Marking.{walk-accepts}
 use Rattle.serial.specs.Lists.{All}
-use Rattle.serial.specs.Sections.{Section}
 use Rattle.serial.proofs.Trace as Trace
 use Rattle.sections.specs.View.{view}
-use Rattle.sections.specs.Refusals.{unfinished, denial}
-use Rattle.sections.specs.Order.{sections, entry, order}
+use Rattle.sections.specs.Refusals.{denial}
+use Rattle.sections.specs.Order.{sections, order}
 use Rattle.sections.specs.Places.{holdsSome}
-use Rattle.sections.specs.CriticalSections.{Entry}
 use Rattle.sections.specs.Sequential.{serially, zeros, after, given, stated}
-use Rattle.sections.specs.Denials.{Denial, fit, denied, Orderly}
+use Rattle.sections.specs.Denials.{fit, Orderly}
 use Rattle.sections.specs.Demand3.{AcceptedTrace, Demand3}
 use Rattle.sections.proofs.Valid.{Valid, Declared, all-declared}
 use Rattle.sections.proofs.Ordered.{All-turn, some-witness, spans, serial-order, fit-from, orderly}

@@ -7,7 +7,7 @@ use mathlib.Core.Logic.{_⊎_, inl, inr}
 use mathlib.Core.Bool.{Bool, true, false, not, cond, _&&_, _||_, and-false, or-true, true≢false, false≢true}
 use mathlib.Core.List.{List, [], _∷_, map, reverse}
 use mathlib.Core.Option.{Option, none, some}
-use lib.Dec.{T, eqb, ltb}
+use lib.Dec.{T, eqb}
 use lib.ListN.{length, drop, length-reverse}
 use lib.Seq.{drop-length}
 use borrow.Author.Tests.{eq-eqb, ne-eqb, eqb-true, not-true}
@@ -26,14 +26,14 @@ use Rattle.serial.specs.Lists.{All}
 use Rattle.serial.proofs.Counted as H
 use Rattle.sections.specs.View.{view}
 use Rattle.sections.specs.Refusals.{afterUnlock, notUnder, lateLock, unfinished, denialFrom, denial}
-use Rattle.sections.specs.Places.{position, atPosition, soFar, eventAt, upTo, usesOrAssigns, unlocksBy, passes, lockAt, unlockAt, holdsSome, holding}
+use Rattle.sections.specs.Places.{position, atPosition, soFar, eventAt, upTo, usesOrAssigns, unlocksBy, passes, lockAt, holdsSome}
 use Rattle.sections.specs.Order.{lineOf}
-use Rattle.sections.specs.Denials.{Denial, fit, denied, Unguarded, LateLock, HeldAtEnd, PendingAtEnd, Unfinished, Clean, Orderly, Denies, unguarded, late}
+use Rattle.sections.specs.Denials.{Denial, fit, denied, Unguarded, LateLock, Unfinished, Clean, Orderly, Denies, unguarded, late}
 use Rattle.sections.specs.Denials as D
 use Rattle.sections.proofs.Valid.{Declared, Numbered}
 use Rattle.sections.proofs.Whole.{from-held, holds-below}
 use Rattle.sections.proofs.Ordered.{some-witness, lock-below, no-debt, All-turn}
-use Rattle.sections.proofs.Places.{position-line, position-after, position-last, position-up, position-to, position-ahead, locksAt, unlocksAt, holdsAfter, lock-line, unlock-line, holding-line, Here, at-place, nothing-past, so-far-all, length-so-far, lock-signal, unlock-signal, holds-more}
+use Rattle.sections.proofs.Places.{position-line, position-after, position-last, position-up, position-to, position-ahead, unlocksAt, holdsAfter, lock-line, unlock-line, holding-line, Here, at-place, nothing-past, so-far-all, length-so-far, lock-signal, unlock-signal, holds-more}
 
 -- ---- Booleans
 

@@ -1,13 +1,13 @@
 -- Each U, A and B of an orderly trace is taken by one section of its order.
 use Prim.Native.Nat.{ℕ, zero, suc, _+_, _-_, _≤_, _<_}
-use native.Mathlib.Decide.{ℕ-discrete, decLe, decLt}
+use native.Mathlib.Decide.{ℕ-discrete, decLt}
 use native.Mathlib.Omega.{arith}
 use mathlib.Core.Path.{_≡_, refl, sym, ap, _∙_, subst}
 use mathlib.Core.Logic.{_⊎_, inl, inr}
-use mathlib.Core.Bool.{Bool, true, false, cond, _&&_, true≢false, false≢true}
+use mathlib.Core.Bool.{Bool, true, false, cond, _&&_, true≢false}
 use mathlib.Core.List.{List, [], _∷_, reverse}
-use mathlib.Core.Option.{Option, none, some}
-use lib.Dec.{T, eqb, leb}
+use mathlib.Core.Option.{none, some}
+use lib.Dec.{eqb, leb}
 use borrow.Author.Tests.{eq-eqb, eqb-true, le-leb, leb-true}
 use lib.IntN.{ℤ}
 use lib.ListN.{length}
@@ -19,7 +19,7 @@ use Rattle.rules.specs.Rules.{loc, wordsOf, held}
 use Rattle.serial.specs.Lists.{All}
 use Rattle.serial.specs.Sections as Q
 use Rattle.serial.proofs.Stacks.{own}
-use Rattle.serial.proofs.Signals.{Runs, Step, Opened, Stack}
+use Rattle.serial.proofs.Signals.{Runs, Step, Stack}
 use Rattle.sections.specs.Places.{position, atPosition, soFar, eventAt, upTo, usesOrAssigns, lockAt, unlockAt, holding}
 use Rattle.sections.specs.CriticalSections.{Entry, CriticalSection, Member, Distinct, SerialOrder}
 use Rattle.sections.specs.Sequential.{takes, times}
@@ -28,7 +28,7 @@ use Rattle.sections.specs.Order.{sections, lineOf, order}
 use Rattle.sections.proofs.Valid.{Valid, Declared}
 use Rattle.sections.proofs.Whole.{from-held}
 use Rattle.sections.proofs.Ordered.{busy-some}
-use Rattle.sections.proofs.Places.{position-line, line-position, locksAt, unlocksAt, holdsAfter, nothing-past, all-so-far, holds-more}
+use Rattle.sections.proofs.Places.{line-position, locksAt, unlocksAt, holdsAfter, nothing-past, all-so-far, holds-more}
 use Rattle.sections.proofs.Steps.{steps, stack}
 use Rattle.sections.proofs.Listed.{Span, in-lines, listed}
 use Rattle.sections.proofs.Denied.{both-l, both-r, some-none, up-to-last}

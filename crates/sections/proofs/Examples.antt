@@ -1,14 +1,11 @@
 -- The theorem is not empty: document 01's listing, its example of sections that their first lock would order wrongly (here with an
 -- early store that is written before its assign), and a trace for each denial.
-use Prim.Native.Nat.{ℕ, zero, suc, _≤_, _<_}
+use Prim.Native.Nat.{ℕ}
 use native.Mathlib.Decide.{ℕ-discrete}
 use native.Mathlib.Omega.{arith}
 use mathlib.Core.Path.{_≡_, refl}
-use mathlib.Core.Bool.{Bool, true, false}
 use mathlib.Core.List.{List, [], _∷_}
-use lib.IntN.{ℤ, pos}
 use Rattle.rules.specs.declared.Event.{Event}
-use Rattle.rules.specs.declared.Counts.{Counts}
 use Rattle.rules.specs.Events.{is, of, on, onLock, locks, unlocks, eqZ}
 use Rattle.rules.specs.Limits.{full, firstLine, allowed, declared}
 use Rattle.rules.specs.Words.{latest, valueIn, letterIn, lastAt, count, inOrder, by, locksBy, acquires, releases, reads, stores, copy, fresh, pending, announced, lastLock, lastWrite, usable, depth, main}
@@ -17,7 +14,7 @@ use Rattle.rules.specs.Traces.{ev, U, A, L, S, R, W, P, B, K, N, two}
 use Rattle.serial.specs.Sections as Q
 use Rattle.sections.specs.Places.{usesOrAssigns, unlocksBy, holdsSome}
 use Rattle.sections.specs.CriticalSections.{Entry}
-use Rattle.sections.specs.Denials.{Denial, fit, denied}
+use Rattle.sections.specs.Denials.{fit, denied}
 use Rattle.sections.specs.Demand3.{AcceptedTrace, Demand3}
 use Rattle.sections.specs.Refusals.{afterUnlock, notUnder, lateLock, unfinished, denialFrom, denial}
 use Rattle.sections.specs.Order.{sections, order}

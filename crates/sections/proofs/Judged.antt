@@ -1,26 +1,26 @@
 -- An event that the rules accept is one that the theory allows.
 use Prim.Native.Nat.{ℕ, _≤_, _<_}
 use native.Mathlib.Decide.{ℕ-discrete}
-use mathlib.Core.Path.{_≡_, refl, sym, ap, _∙_, subst, subst₂}
+use mathlib.Core.Path.{_≡_, refl, sym, ap, subst, subst₂}
 use mathlib.Core.Logic.{ite}
-use mathlib.Core.Bool.{Bool, true, false, not, cond, _&&_, _||_, or-false, true≢false, false≢true}
-use mathlib.Core.List.{List, [], _∷_, _++_, map}
-use lib.Dec.{T, eqb, ltb}
-use lib.IntN.{ℤ, pos}
+use mathlib.Core.Bool.{Bool, true, false, not, _||_, or-false, true≢false, false≢true}
+use mathlib.Core.List.{List, [], _∷_, map}
+use lib.Dec.{ltb}
+use lib.IntN.{ℤ}
 use borrow.Author.Tests.{ltb-false}
 use Rattle.rules.specs.declared.Event.{Event}
 use Rattle.rules.specs.declared.Kind.{Kind}
 use Rattle.rules.specs.declared.Kind.the-variants.{Use, Assign, Load, Store, Read, Write, Lock, Unlock, PrescientStore, PrescientAssign}
-use Rattle.rules.specs.Events.{letter, value, among, is, eqZ}
+use Rattle.rules.specs.Events.{value, is, eqZ}
 use Rattle.rules.specs.declared.Slot.{Slot}
 use Rattle.rules.specs.Words.{first}
 use Rattle.rules.specs.declared.Counts.{Counts}
-use Rattle.rules.specs.Rules.{Words, none?, loc, some, onSome, readBeforeWrite, unwritten, noPartner, lockTaken, notHeld, pendingBars, notFresh, notStored, notWritten, notUsable, differs, eightAlready, breaks, rows, rowIn, judge}
+use Rattle.rules.specs.Rules.{Words, none?, some, readBeforeWrite, unwritten, noPartner, pendingBars, notFresh, notStored, notWritten, notUsable, differs, breaks, rows, rowIn, judge}
 use Rattle.rules.proofs.Laws.{or-false-left, or-false-right, row-kept, some-none}
 use Rattle.rules.proofs.Signed.{eqZ-true}
 use Rattle.serial.specs.Words as C
 use Rattle.serial.specs.Events as E
-use Rattle.sections.specs.View.{viewed, view}
+use Rattle.sections.specs.View.{viewed}
 use Rattle.sections.proofs.Cells.{cellOf, slotted, valued}
 
 untrue : (b : Bool) → not b ≡ false → b ≡ true

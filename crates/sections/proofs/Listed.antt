@@ -3,11 +3,10 @@ use Prim.Native.Nat.{ℕ, zero, suc, _-_, _≤_, _<_}
 use native.Mathlib.Decide.{ℕ-discrete, decLe}
 use native.Mathlib.Omega.{arith}
 use mathlib.Core.Path.{_≡_, refl, sym, ap, _∙_, subst}
-use mathlib.Core.Logic.{_⊎_, inl, inr, ite}
-use mathlib.Core.Bool.{Bool, true, false, cond, _&&_, and-false, true≢false, false≢true}
+use mathlib.Core.Logic.{_⊎_, inl, inr}
+use mathlib.Core.Bool.{Bool, true, false, cond, _&&_, and-false, false≢true}
 use mathlib.Core.List.{List, [], _∷_, map, reverse, reverseAux}
-use mathlib.Core.Option.{Option, none, some}
-use lib.Dec.{T, leb}
+use lib.Dec.{leb}
 use lib.IntN.{ℤ}
 use lib.ListN.{length}
 use borrow.Author.Tests.{le-leb}
@@ -18,16 +17,16 @@ use Rattle.serial.specs.Lists.{All}
 use Rattle.serial.specs.Sections as Q
 use Rattle.serial.proofs.Counted as H
 use Rattle.serial.proofs.Memory.{All-map}
-use Rattle.serial.proofs.Lines.{Falling, Traced, traced}
+use Rattle.serial.proofs.Lines.{Falling, traced}
 use Rattle.sections.specs.View.{view}
 use Rattle.sections.specs.Order.{sections, lineOf, entry, order}
-use Rattle.sections.specs.Places.{position, atPosition, lockAt, unlockAt, holding}
+use Rattle.sections.specs.Places.{position, atPosition, lockAt}
 use Rattle.sections.specs.CriticalSections.{Entry, CriticalSection, greatest, lockPoint, Member, Distinct, Rising, SerialOrder}
 use Rattle.sections.proofs.Valid.{Valid, Declared}
 use Rattle.sections.proofs.Ordered.{All-turn, sections-same}
 use Rattle.sections.proofs.Places.{position-line, position-before, line-position, position-up, position-to, position-ahead, locksAt, unlocksAt, holdsAfter, lock-line, unlock-line, holding-line, nothing-past, so-far-all}
 use Rattle.serial.proofs.Stacks.{own, own-mine, own-other}
-use Rattle.serial.proofs.Signals.{Runs, LastLock, Closed, Has, Ended, Stack}
+use Rattle.serial.proofs.Signals.{Runs, Closed, Has, Ended, Stack}
 use Rattle.sections.proofs.Steps.{stack}
 
 abbrev Section : Type 0

@@ -1,10 +1,9 @@
 -- The statement leaves nothing free: one answer, and one list, meets it.
-use Prim.Native.Nat.{ℕ, zero, suc, _+_, _≤_, _<_}
-use native.Mathlib.Decide.{decLt}
+use Prim.Native.Nat.{ℕ, _<_}
 use native.Mathlib.Omega.{arith}
 use mathlib.Core.Path.{_≡_, refl, sym, ap, ap₂, _∙_, subst}
-use mathlib.Core.Logic.{_⊎_, inl, inr}
-use mathlib.Core.Bool.{true, false, false≢true}
+use mathlib.Core.Logic.{inl, inr}
+use mathlib.Core.Bool.{true, false≢true}
 use mathlib.Core.List.{List, [], _∷_, map}
 use lib.ListN.{length}
 use Rattle.rules.specs.declared.Event.{Event}
@@ -17,7 +16,7 @@ use Rattle.rules.specs.Words.{locksBy}
 use Rattle.serial.specs.Lists.{All}
 use Rattle.sections.specs.CriticalSections.{Entry, CriticalSection, lockPoint, Member, Rising, SerialOrder}
 use Rattle.sections.specs.Places.{usesOrAssigns, lockAt}
-use Rattle.sections.specs.Denials.{Denial, fit, denied, Unguarded, LateLock, Unfinished, Clean, Orderly, Denies, unguarded, late}
+use Rattle.sections.specs.Denials.{Denial, fit, denied, Unguarded, LateLock, Clean, Denies, unguarded, late}
 use Rattle.sections.specs.Denials as D
 use Rattle.sections.specs.Demand3.{Demand3}
 use Rattle.sections.proofs.Denied.{unguarded-below, late-below}

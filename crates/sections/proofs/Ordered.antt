@@ -1,21 +1,21 @@
 -- A trace that no refusal of 10 to 22 meets has a serial order.
-use Prim.Native.Nat.{ℕ, zero, suc, pred, _+_, _-_, _*_, _≤_, _<_}
+use Prim.Native.Nat.{ℕ, zero, suc, pred, _-_, _≤_, _<_}
 use native.Mathlib.Decide.{ℕ-discrete, decLt}
 use native.Mathlib.Omega.{arith}
-use mathlib.Core.Path.{_≡_, refl, sym, ap, _∙_, subst, subst₂}
+use mathlib.Core.Path.{_≡_, refl, sym, _∙_, subst}
 use mathlib.Core.Logic.{_⊎_, inl, inr, ite}
-use mathlib.Core.Bool.{Bool, true, false, not, cond, _&&_, _||_, or-false, or-true, true≢false, false≢true}
-use mathlib.Core.List.{List, [], _∷_, _++_, map, reverse, reverseAux}
-use mathlib.Core.Option.{Option, none, some}
-use lib.Dec.{T, eqb, ltb, eqb→eq}
+use mathlib.Core.Bool.{Bool, true, false, not, cond, _&&_, _||_, or-true, true≢false, false≢true}
+use mathlib.Core.List.{List, [], _∷_, map, reverse, reverseAux}
+use mathlib.Core.Option.{some}
+use lib.Dec.{T, eqb}
 use lib.IntN.{ℤ, pos}
 use lib.ListN.{length}
 use Rattle.rules.specs.declared.Event.{Event}
 use Rattle.rules.specs.declared.Kind.{Kind}
 use Rattle.rules.specs.declared.Kind.the-variants.{Use, Assign, Load, Store, Read, Write, Lock, Unlock, PrescientStore, PrescientAssign}
-use Rattle.rules.specs.Events.{A, B, K, L, N, P, R, S, U, W, letter, is, of, on, locks, unlocks}
+use Rattle.rules.specs.Events.{A, B, P, R, is, of, on, locks, unlocks}
 use Rattle.rules.specs.declared.Counts.{Counts}
-use Rattle.rules.specs.Words.{by, count, pending, main, latest, letterIn}
+use Rattle.rules.specs.Words.{by, pending, main, latest, letterIn}
 use Rattle.rules.specs.Rules as Rules
 use Rattle.rules.specs.Rules.{wordsOf, held}
 use Rattle.rules.specs.Limits.{lineAfter}
@@ -23,7 +23,6 @@ use Rattle.rules.proofs.Laws.{is-true, and-left, and-right, or-false-left, or-f
 use Rattle.serial.specs.Words as C
 use Rattle.serial.specs.Events as E
 use Rattle.serial.specs.Sections as Q
-use Rattle.serial.proofs.Order.{proj}
 use Rattle.serial.proofs.Counted as H
 use Rattle.serial.specs.Entry.{Entry as Span, entry as span}
 use Rattle.serial.specs.Lists.{All}

@@ -1,13 +1,13 @@
 -- The run and the sequential memory over the rules' own events are the theory's over their views.
-use Prim.Native.Nat.{ℕ, zero, suc, _≤_, _<_}
+use Prim.Native.Nat.{ℕ, suc, _≤_}
 use native.Mathlib.Decide.{ℕ-discrete, decLe}
 use native.Mathlib.Omega.{arith}
-use mathlib.Core.Path.{_≡_, refl, sym, ap, ap₂, _∙_, subst}
+use mathlib.Core.Path.{_≡_, refl, sym, ap, ap₂, _∙_}
 use mathlib.Core.Logic.{ite}
-use mathlib.Core.Bool.{Bool, true, false, cond, _&&_}
+use mathlib.Core.Bool.{cond, _&&_}
 use mathlib.Core.List.{List, [], _∷_, _++_, map}
 use lib.Dec.{eqb, leb}
-use lib.IntN.{ℤ, pos}
+use lib.IntN.{ℤ}
 use borrow.Author.Tests.{le-leb, lt-leb, eq-eqb, ne-eqb}
 use Rattle.rules.specs.declared.Event.{Event}
 use Rattle.rules.specs.declared.Counts.{Counts}
@@ -15,15 +15,14 @@ use Rattle.rules.specs.declared.Kind.{Kind}
 use Rattle.rules.specs.declared.Kind.the-variants.{Use, Assign, Load, Store, Read, Write, Lock, Unlock, PrescientStore, PrescientAssign}
 use Rattle.rules.specs.Limits.{firstLine}
 use Rattle.rules.proofs.Bounds.{first-line-low}
-use Rattle.rules.specs.Events.{A, B, U, place, value, is, of, on}
-use Rattle.serial.specs.Entry.{Entry as Span, entry as span}
+use Rattle.rules.specs.Events.{U, place, value, is, of, on}
+use Rattle.serial.specs.Entry.{entry as span}
 use Rattle.serial.specs.Sections.{Section}
 use Rattle.serial.specs.Events as E
 use Rattle.serial.specs.Words as C
 use Rattle.serial.proofs.Lines.{join}
 use Rattle.serial.proofs.Trace as Trace
 use Rattle.sections.specs.View.{viewed, view}
-use Rattle.sections.specs.CriticalSections.{Entry}
 use Rattle.sections.specs.Order.{lineOf, entry}
 use Rattle.sections.specs.Sequential.{takes, partFrom, part, serially, assign, after, given, stated}
 use Rattle.sections.proofs.Ordered.{whose}

@@ -4,9 +4,9 @@ use native.Mathlib.Decide.{ℕ-discrete}
 use native.Mathlib.Omega.{arith}
 use mathlib.Core.Path.{_≡_, refl, sym, ap, _∙_, subst}
 use mathlib.Core.Logic.{_⊎_, inl, inr}
-use mathlib.Core.Bool.{Bool, true, false, cond, _&&_, and-false, true≢false, false≢true}
+use mathlib.Core.Bool.{Bool, true, false, _&&_, and-false, true≢false, false≢true}
 use mathlib.Core.List.{List, [], _∷_, map, reverse}
-use mathlib.Core.Option.{Option, none, some}
+use mathlib.Core.Option.{some}
 use lib.Dec.{T, eqb}
 use lib.IntN.{ℤ}
 use lib.ListN.{length}
@@ -16,10 +16,9 @@ use Rattle.rules.specs.declared.Kind.{Kind}
 use Rattle.rules.specs.declared.Kind.the-variants.{Use, Assign, Load, Store, Read, Write, Lock, Unlock, PrescientStore, PrescientAssign}
 use Rattle.rules.specs.declared.Counts.{Counts}
 use Rattle.rules.specs.Events.{is, of, locks, unlocks}
-use Rattle.rules.specs.Words.{locksBy, acquires, releases, count, depth}
+use Rattle.rules.specs.Words.{locksBy, depth}
 use Rattle.rules.specs.Rules as Rules
 use Rattle.rules.specs.Rules.{wordsOf}
-use Rattle.rules.proofs.Simulation.{Paired}
 use Rattle.serial.specs.Events as E
 use Rattle.serial.specs.Lists.{All}
 use Rattle.serial.specs.Sections as Q
@@ -27,11 +26,11 @@ use Rattle.serial.proofs.Counted as H
 use Rattle.sections.specs.View.{viewed, view}
 use Rattle.sections.specs.Order.{told, sections}
 use Rattle.sections.specs.Places.{soFar, unlocksBy, holdsSome}
-use Rattle.sections.proofs.Valid.{Valid, pairs, Declared}
+use Rattle.sections.proofs.Valid.{Valid, Declared}
 use Rattle.sections.proofs.Ordered.{whose, locking, unlocking, busy-some, some-busy, holds-lock}
-use Rattle.sections.proofs.Places.{locksAt, unlocksAt, holdsAfter, Here, at-place, length-so-far, valid-so-far, all-so-far, lock-signal, unlock-signal, holds-more}
-use Rattle.serial.proofs.Stacks.{own, grow, rest, front, own-push, own-next-other, own-next-lock, own-next-open}
-use Rattle.serial.proofs.Signals.{Step, Ended, Stack, none-yet, other-busy, out, opening, raising, going}
+use Rattle.sections.proofs.Places.{locksAt, unlocksAt, holdsAfter, Here, at-place, length-so-far, all-so-far, lock-signal, unlock-signal, holds-more}
+use Rattle.serial.proofs.Stacks.{own, grow, own-push, own-next-other, own-next-lock, own-next-open}
+use Rattle.serial.proofs.Signals.{Step, Stack, none-yet, other-busy, out, opening, raising, going}
 
 as-lock : (u t ln : ℕ) (k : Kind) → locksBy u (record { thread = t; line = ln; kind = k }) ≡ true → (l : ℕ) × (viewed t k ≡ E.lock 0 u l)
 unfolding locksBy locks is of

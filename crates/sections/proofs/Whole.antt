@@ -1,17 +1,17 @@
 -- Demand 3 from the rules' own acceptance.
-use Prim.Native.Nat.{ℕ, zero, suc, pred, _-_, _≤_, _<_}
+use Prim.Native.Nat.{ℕ, suc, pred, _-_, _<_}
 use native.Mathlib.Decide.{ℕ-discrete}
 use native.Mathlib.Omega.{arith}
-use mathlib.Core.Path.{_≡_, refl, sym, ap, _∙_, subst, subst₂}
-use mathlib.Core.Bool.{Bool, true, false, not, cond, _&&_, _||_, or-false, true≢false, false≢true}
-use mathlib.Core.List.{List, [], _∷_, _++_, map}
-use lib.Dec.{T, eqb, ltb, eqb→eq}
-use lib.IntN.{ℤ, pos}
+use mathlib.Core.Path.{_≡_, refl, sym, ap, _∙_, subst}
+use mathlib.Core.Bool.{Bool, true, false, not, cond, _&&_, true≢false}
+use mathlib.Core.List.{List, [], _∷_, map}
+use lib.Dec.{T, eqb, eqb→eq}
+use lib.IntN.{pos}
 use borrow.Author.Tests.{lt-ltb, ltb-true}
 use Rattle.rules.specs.declared.Event.{Event}
 use Rattle.rules.specs.declared.Kind.{Kind}
 use Rattle.rules.specs.declared.Kind.the-variants.{Use, Assign, Load, Store, Read, Write, Lock, Unlock, PrescientStore, PrescientAssign}
-use Rattle.rules.specs.Events.{A, B, K, L, N, P, R, S, U, W, letter, is, of, on, locks, unlocks}
+use Rattle.rules.specs.Events.{K, is, of, on, locks, unlocks}
 use Rattle.rules.specs.declared.Counts.{Counts}
 use Rattle.rules.specs.Words.{acquires, releases, depth}
 use Rattle.rules.specs.Rules.{Words, wordsOf, loc, held, judge}
@@ -23,7 +23,7 @@ use Rattle.serial.proofs.Counted as H
 use Rattle.serial.specs.Lists.{All}
 use Rattle.sections.specs.View.{viewed, view}
 use Rattle.sections.proofs.Valid.{Valid, before, row, Declared}
-use Rattle.sections.proofs.Cells.{cellOf, cells, mains, eqb-yes, eqb-no}
+use Rattle.sections.proofs.Cells.{cells, mains, eqb-yes, eqb-no}
 use Rattle.sections.proofs.Judged.{allowed}
 
 -- the rows hold, as the theory words them

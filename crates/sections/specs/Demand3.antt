@@ -8,7 +8,7 @@ use Rattle.rules.specs.declared.Event.{Event}
 use Rattle.rules.specs.declared.Counts.{Counts}
 use Rattle.rules.specs.Limits.{Limits, UpToFull, allowed}
 use Rattle.rules.specs.Words.{main}
-use Rattle.rules.specs.Rules.{Marked, accepted, mark}
+use Rattle.rules.specs.Rules.{accepted, mark}
 use Rattle.sections.specs.Places.{eventAt, usesOrAssigns}
 use Rattle.sections.specs.CriticalSections.{Entry, SerialOrder}
 use Rattle.sections.specs.Sequential.{serially, times, zeros, after, given, stated}

@@ -1,7 +1,7 @@
 -- The lines of a trace: the event in a line, the events up to a line, and what a thread holds after it. Entries, denials and all
 -- that follows here speak of lines; `position` alone goes from a line to the place of its event in the list.
 use Prim.Native.Nat.{ℕ, zero, suc, _-_}
-use mathlib.Core.Bool.{Bool, true, false, _&&_}
+use mathlib.Core.Bool.{Bool, false, _&&_}
 use mathlib.Core.List.{List, [], _∷_, reverse}
 use mathlib.Core.Option.{Option, none, some}
 use lib.ListN.{take}

@@ -1,6 +1,6 @@
 -- The refusals 20 to 22 computed, over the list of earlier events, the latest first. What they say is stated in `Denials`.
 use Prim.Native.Nat.{ℕ}
-use mathlib.Core.Bool.{Bool, true, false, not, cond, _&&_, _||_}
+use mathlib.Core.Bool.{Bool, false, not, cond, _&&_, _||_}
 use mathlib.Core.List.{List, [], _∷_}
 use lib.ListN.{length}
 use Rattle.rules.specs.declared.Event.{Event}

@@ -1,13 +1,13 @@
 -- The order computed: document 01's listing, and its example of sections ordered by their first lock.
 use Prim.Native.Nat.{ℕ}
-use native.Mathlib.Decide.{ℕ-discrete, decLt, decLe}
+use native.Mathlib.Decide.{ℕ-discrete, decLt}
 use mathlib.Core.Path.{_≡_, refl}
 use mathlib.Core.List.{List, [], _∷_}
-use Rattle.serial.specs.Events.{Kind, Use, Assign, Load, Store, Read, Write, PrescientStore, PrescientAssign, Event, lock, unlock, mem}
-use Rattle.serial.specs.Sections.{push, current, without, next, flat, sections}
+use Rattle.serial.specs.Events.{Use, Assign, Load, Store, Read, Write, Event, lock, unlock, mem}
+use Rattle.serial.specs.Sections.{push, current, without, next, sections}
 use Rattle.serial.proofs.Counted.{held, Holds, ever, look, holds-some?, counted}
 use Rattle.serial.specs.Entry.{Entry}
-use Rattle.serial.proofs.Trace.{order, serially, between, given, stated, after}
+use Rattle.serial.proofs.Trace.{order}
 
 listing : List (Event ℕ)
 listing =

@@ -1,17 +1,17 @@
 -- In the trace's own order: under a guard that 20 and 22 speak of, each use has the value of the latest A or B before it,
 -- by any thread, and where nobody holds the guard main memory is that value too. 21 is not needed here.
-use Prim.Native.Nat.{ℕ, zero, suc, _≤_, _<_}
+use Prim.Native.Nat.{ℕ, suc}
 use native.Mathlib.Decide.{ℕ-discrete}
 use native.Mathlib.Omega.{arith}
-use mathlib.Core.Path.{_≡_, refl, sym, _∙_, ap, subst}
+use mathlib.Core.Path.{_≡_, refl, sym, _∙_, subst}
 use mathlib.Core.Logic.{_⊎_, inl, inr, ite}
-use mathlib.Core.Bool.{Bool, true, false, _||_, true≢false, false≢true}
-use mathlib.Core.List.{List, [], _∷_, _++_, tail, cons≢nil}
+use mathlib.Core.Bool.{Bool, true, false, true≢false, false≢true}
+use mathlib.Core.List.{List, [], _∷_, cons≢nil}
 use lib.ListN.{length}
 use Rattle.serial.specs.Events.{Kind, Use, Assign, Load, Store, Read, Write, PrescientStore, PrescientAssign, Event, lock, unlock, idle, mem, thread}
 use Rattle.serial.specs.Sections.{Locks, Exclusive, Under}
 use Rattle.serial.proofs.Order.{mutex}
-use Rattle.serial.specs.Words.{Slot, Cell, Act, own, other, locks, unlocks, nothing, Touch, at, elsewhere, touch, seenBy, act, oldest, change, written, assigned, through, guarded, guardedAt, uses, Allowed, empty, cell, main, plain, Accepted}
+use Rattle.serial.specs.Words.{Act, own, locks, unlocks, nothing, Touch, at, elsewhere, touch, seenBy, act, change, written, assigned, through, guarded, guardedAt, uses, Allowed, cell, main, plain, Accepted}
 use Rattle.serial.proofs.Memory.{Good, Facts, asks, loud, actOn, advance}
 
 module _ {X : Type 0} where

@@ -1,15 +1,14 @@
 -- The sections by their places in the trace: a section's events are its thread's, from the first line to the last, and
 -- the list falls (the latest first) by the positions of the last K's.
-use Prim.Native.Nat.{ℕ, zero, suc, _≤_, _<_}
+use Prim.Native.Nat.{ℕ, suc, _≤_, _<_}
 use native.Mathlib.Decide.{ℕ-discrete, decLe}
 use native.Mathlib.Omega.{arith}
 use mathlib.Core.Path.{_≡_, refl, sym, _∙_, ap, subst}
 use mathlib.Core.Logic.{_⊎_, inl, inr, ite}
-use mathlib.Core.Bool.{Bool, true, false}
-use mathlib.Core.List.{List, [], _∷_, _++_}
+use mathlib.Core.List.{List, [], _∷_}
 use lib.ListN.{length}
 use Rattle.serial.specs.Events.{Event, lock, unlock, idle, mem, thread}
-use Rattle.serial.specs.Sections.{Section, opened, grown, raised, blank, push, current, without, next, flat, Locks, Busy, sections}
+use Rattle.serial.specs.Sections.{Section, opened, grown, raised, push, current, without, next, Locks, Busy, sections}
 use Rattle.serial.specs.Lists.{All}
 use Rattle.serial.proofs.Memory.{All-map}
 

@@ -1,17 +1,15 @@
 -- The guard's promise: while a thread holds a variable's guard, main memory with what that thread has still to write is
 -- the plain memory; while nobody holds it, main memory is the plain memory.
-use Prim.Native.Nat.{ℕ, zero, suc, _≤_, _<_}
-use native.Mathlib.Decide.{ℕ-discrete}
+use Prim.Native.Nat.{ℕ, suc, _≤_, _<_}
 use native.Mathlib.Omega.{arith}
-use mathlib.Core.Path.{_≡_, refl, sym, _∙_, ap, subst}
-use mathlib.Core.Logic.{_⊎_, inl, inr, ite}
+use mathlib.Core.Path.{_≡_, refl, sym, _∙_, subst}
+use mathlib.Core.Logic.{_⊎_, inl, inr}
 use mathlib.Core.Bool.{Bool, true, false, _||_, true≢false, false≢true}
 use mathlib.Core.List.{List, [], _∷_, _++_, tail, cons≢nil}
-use lib.ListN.{length}
 use lib.Dec.{T, ltb, ltb→lt}
-use Rattle.serial.specs.Events.{Kind, Use, Assign, Load, Store, Read, Write, PrescientStore, PrescientAssign, Event, lock, unlock, mem, thread}
+use Rattle.serial.specs.Events.{Kind, Use, Assign, Load, Store, Read, Write, PrescientStore, PrescientAssign}
 use Rattle.serial.specs.Lists.{All}
-use Rattle.serial.specs.Words.{Slot, Cell, Act, own, other, locks, unlocks, nothing, Touch, at, elsewhere, touch, seenBy, act, oldest, change, written, assigned, through, guarded, guardedAt, uses, Allowed, empty, cell, main, plain, Accepted}
+use Rattle.serial.specs.Words.{Slot, Cell, Act, own, other, locks, unlocks, nothing, at, oldest, change, written, assigned, Allowed}
 
 pub All-snoc : {A : Type 0} (P : A → Type 0) (l : List A) (a : A) → All P l → P a → All P (l ++ (a ∷ []))
 All-snoc P [] a h p = (p, tt)

@@ -1,15 +1,14 @@
 -- Reordering by last K keeps each variable's events.
-use Prim.Native.Nat.{ℕ, zero, suc}
+use Prim.Native.Nat.{ℕ, suc}
 use native.Mathlib.Decide.{ℕ-discrete}
 use mathlib.Core.Path.{_≡_, refl, sym, _∙_, ap}
 use mathlib.Core.Logic.{_⊎_, inl, inr, ite}
 use mathlib.Core.Bool.{Bool, true, false}
-use mathlib.Core.List.{List, [], _∷_, _++_, append-assoc, cons≢nil}
+use mathlib.Core.List.{List, [], _∷_, _++_, cons≢nil}
 use native.Mathlib.Omega.{arith}
 use lib.ListN.{length}
-use lib.Dec.{T}
 use Rattle.serial.specs.Events.{Event, lock, unlock, idle, mem, thread}
-use Rattle.serial.specs.Sections.{Section, opened, grown, raised, blank, push, current, without, next, flat, Locks, Busy, Shrunk, sections, Exclusive, TwoPhase, Under}
+use Rattle.serial.specs.Sections.{Section, opened, grown, raised, push, current, without, next, flat, Locks, Busy, Shrunk, sections, Exclusive, TwoPhase, Under}
 
 abbrev pub keep : {A : Type 0} → Bool → A → List A → List A
 keep true a l = a ∷ l

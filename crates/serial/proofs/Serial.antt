@@ -1,18 +1,15 @@
 -- Demand 3 over lists that are the latest first: run whole in the order of their last K, the sections give every use its
 -- value in the trace and leave every variable its value in main memory.
-use Prim.Native.Nat.{ℕ, zero, suc, _≤_, _<_}
+use Prim.Native.Nat.{ℕ}
 use native.Mathlib.Decide.{ℕ-discrete}
-use native.Mathlib.Omega.{arith}
-use mathlib.Core.Path.{_≡_, refl, sym, _∙_, ap, subst}
-use mathlib.Core.Logic.{_⊎_, inl, inr, ite}
-use mathlib.Core.Bool.{Bool, true, false, _||_, true≢false, false≢true}
-use mathlib.Core.List.{List, [], _∷_, _++_}
-use lib.ListN.{length}
+use mathlib.Core.Path.{_≡_, refl, sym, _∙_, ap}
+use mathlib.Core.Logic.{ite}
+use mathlib.Core.Bool.{true, false, true≢false}
+use mathlib.Core.List.{List, [], _∷_}
 use Rattle.serial.specs.Events.{Kind, Use, Assign, Load, Store, Read, Write, PrescientStore, PrescientAssign, Event, lock, unlock, idle, mem, thread}
-use Rattle.serial.specs.Sections.{Section, flat, Locks, Exclusive, TwoPhase, Under, sections}
+use Rattle.serial.specs.Sections.{flat, Locks, Exclusive, TwoPhase, Under, sections}
 use Rattle.serial.proofs.Order.{keep, proj, Kept, kept}
-use Rattle.serial.specs.Words.{Cell, Act, own, other, Touch, at, elsewhere, touch, seenBy, act, assigned, through, guarded, guardedAt, uses, Allowed, cell, main, plain, Accepted}
-use Rattle.serial.proofs.Memory.{Good}
+use Rattle.serial.specs.Words.{own, Touch, at, elsewhere, touch, seenBy, act, assigned, through, guarded, guardedAt, uses, Allowed, cell, main, plain, Accepted}
 use Rattle.serial.proofs.Guard.{Covered, Guarded, guarded-holds, covered-back}
 
 module _ {X : Type 0} where

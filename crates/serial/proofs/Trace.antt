@@ -1,21 +1,19 @@
 -- Demand 3 as document 01 words it: over the trace's list of events, the oldest first, and an order that is a list of
 -- sections by thread, first and last position. Positions count from 1; an event's line is its position plus 2.
-use Prim.Native.Nat.{ℕ, zero, suc, _≤_, _<_}
+use Prim.Native.Nat.{ℕ, suc, _<_}
 use native.Mathlib.Decide.{ℕ-discrete, decLe}
-use native.Mathlib.Omega.{arith}
-use mathlib.Core.Path.{_≡_, refl, sym, _∙_, ap, ap₂, subst}
-use mathlib.Core.Logic.{_⊎_, inl, inr, ite}
+use mathlib.Core.Path.{_≡_, refl, sym, _∙_, ap, ap₂}
+use mathlib.Core.Logic.{ite}
 use mathlib.Core.Bool.{Bool, true, false}
 use mathlib.Core.List.{List, [], _∷_, _++_, map, reverse, reverseAux, reverse-append, reverse-reverse, append-assoc, append-nil}
 use lib.ListN.{length}
 use Rattle.serial.specs.Events.{Kind, Use, Assign, Load, Store, Read, Write, PrescientStore, PrescientAssign, Event, lock, unlock, idle, mem, thread}
 use Rattle.serial.specs.Sections.{Section, flat, Locks, Exclusive, TwoPhase, Under, sections}
-use Rattle.serial.proofs.Order.{keep, proj, Kept, kept}
+use Rattle.serial.proofs.Order.{keep, proj, kept}
 use Rattle.serial.specs.Entry.{Entry, entry}
 use Rattle.serial.specs.Words.{Touch, at, elsewhere, touch, assigned, through, uses, main, plain, Accepted}
 use Rattle.serial.specs.Lists.{All}
-use Rattle.serial.proofs.Memory.{All-map}
-use Rattle.serial.proofs.Lines.{join, taken, Placed, Traced, traced}
+use Rattle.serial.proofs.Lines.{join, taken, Placed, traced}
 use Rattle.serial.proofs.Serial.{Fits, Right, Ended, serial}
 
 module _ {X : Type 0} where

@@ -1,6 +1,6 @@
 -- What the rules 10 to 19 read of the earlier events, for one thread and one variable, as one cell that each event
 -- changes. X is the type of the values, z the value before any.
-use Prim.Native.Nat.{ℕ, zero, suc, _≤_, _<_}
+use Prim.Native.Nat.{ℕ, suc, _≤_}
 use native.Mathlib.Decide.{ℕ-discrete}
 use mathlib.Core.Path.{_≡_}
 use mathlib.Core.Logic.{ite}
@@ -8,7 +8,7 @@ use mathlib.Core.Bool.{Bool, true, false, _||_}
 use mathlib.Core.List.{List, [], _∷_, _++_, tail}
 use lib.ListN.{length}
 use lib.Dec.{ltb}
-use Rattle.serial.specs.Events.{Kind, Use, Assign, Load, Store, Read, Write, PrescientStore, PrescientAssign, Event, lock, unlock, idle, mem, thread}
+use Rattle.serial.specs.Events.{Kind, Use, Assign, Load, Store, Read, Write, PrescientStore, PrescientAssign, Event, lock, unlock, idle, mem}
 
 pub record Slot (X : Type 0) : Type 0 where
   pub position : ℕ

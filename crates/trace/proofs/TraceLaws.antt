@@ -10,11 +10,10 @@ use lib.Dec.{eqb, ltb}
 use lib.ListN.{length, getD, take, drop, set, length-take, length-drop, drop-of-length-le}
 use lib.Seq.{drop-cons, length-take-le, take-take, take-add, drop-at}
 use Rattle.rules.specs.declared.Counts.{Counts}
-use Rattle.rules.specs.declared.Verdict.{Verdict}
 use Rattle.rules.specs.Limits.{Limits, allowed}
 use Rattle.rules.specs.Rules.{Marked, accepted, refused, said}
 use Rattle.lines.specs.Lines.{before, upTo, splitOn, letter}
-use Rattle.lines.proofs.FieldLaws.{up-le, ended-drop}
+use Rattle.lines.proofs.FieldLaws.{up-le}
 use Rattle.decimal.specs.declared.Natural.{Natural}
 use Rattle.decimal.specs.declared.Natural.the-variants as natural
 use Rattle.decimal.specs.Decimal.{naturalOf}
@@ -24,7 +23,7 @@ use Rattle.trace.specs.declared.Headed.{Headed}
 use Rattle.trace.specs.declared.GuardLine.{GuardLine}
 use Rattle.trace.specs.declared.Guards.{Guards}
 use Rattle.trace.specs.declared.Trace.{Trace}
-use Rattle.trace.specs.Trace.{tooLong, wrongHead, wrongGuards, checkAt, lastLine, trailerNumber, trailerOf, noHead, checkHead, headOf, badLine, lockLine, lockOf, locksFrom, guardsOf, unfound, withGuards, secondOf, behindHead, firstOf, behindTrailer, traceOf, found, eventsOf}
+use Rattle.trace.specs.Trace.{tooLong, wrongHead, wrongGuards, checkAt, lastLine, trailerNumber, trailerOf, noHead, checkHead, headOf, badLine, lockLine, lockOf, locksFrom, guardsOf, unfound, withGuards, secondOf, behindHead, firstOf, behindTrailer, traceOf, found}
 
 pub trailer-none : (s : List ℕ) → length s ≡ 0 → trailer.Wrong ≡ trailerOf s
 unfolding trailerOf
@@ -234,18 +233,3 @@ part-drop a e s h k =
     let m : e ≡ a + (e - a) = omega arith in
     sym (ap (λ (i : ℕ). drop a (take i s)) m ∙ ap (drop a) (take-add a (e - a) s)
     ∙ drop-at (take a s) (take (e - a) (drop a s)) a (length-take-le a s (omega arith)))
-
--- The events are whole lines: the part is empty or ends in byte 10.
-pub events-ended : (m : Limits) (s : List ℕ) → upTo 10 (eventsOf s (traceOf m s)) ≡ length (eventsOf s (traceOf m s))
-unfolding eventsOf
-events-ended m s =
-    let t = traceOf m s in
-    let w = lies m s in
-    let p = part-drop (t .from) (t .to) s (w .start) (w .end) in
-    let n : upTo 10 (take (t .to) s) ≡ length (take (t .to) s) = w .ended ∙ sym (length-take-le (t .to) s (w .end)) in
-    rw (p) (ended-drop 10 (t .from) (take (t .to) s) n)
-
--- there is no part where nothing is found
-pub events-none : (s : List ℕ) (v : Verdict) → eventsOf s (unfound v) ≡ []
-unfolding eventsOf
-events-none s v = refl

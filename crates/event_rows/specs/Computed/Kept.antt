@@ -2,11 +2,11 @@
 use Prim.Native.Nat.{ℕ}
 use mathlib.Core.Path.{_≡_}
 use mathlib.Core.List.{List}
-use lib.IntN.{ℤ, pos}
+use lib.IntN.{pos}
 use lib.ListN.{replicate}
 use Rattle.rules.specs.Limits.{full}
 use Rattle.trace.specs.Trace.{traceOf}
-use Rattle.report.specs.Computed.Parts.{Lends}
+use Rattle.report.specs.Report.{Lends}
 use Rattle.event_rows.specs.declared.Kept.{Kept}
 
 pub record Keeps (s : List ℕ) (places : ℕ) (out list scratch : List ℕ) (r : Kept) (out′ list′ scratch′ : List ℕ) : Type 0 where

@@ -19,7 +19,6 @@ use Rattle.records.specs.Records.{letterIn, eventAt, rowEvents}
 use Rattle.serial.specs.Sections.{Section}
 use Rattle.sections.specs.Demand3.{AcceptedTrace}
 use Rattle.sections.specs.Denials.{Denial, fit, denied}
-use Rattle.sections.specs.CriticalSections.{Entry}
 use Rattle.sections.specs.Order.{sections, entry}
 use Rattle.sections.specs.Entries.{entryCode}
 use Rattle.ordering.specs.Answer.{entriesFor}

@@ -9,7 +9,7 @@ use Rattle.rules.specs.declared.Event.{Event}
 use Rattle.rules.specs.declared.Counts.{Counts}
 use Rattle.rules.specs.Limits.{full, firstLine}
 use Rattle.rules.specs.Rules.{told}
-use Rattle.rules.specs.Computed.Reading.{readFrom, stopFrom}
+use Rattle.rules.specs.Reading.{readFrom, stopFrom}
 use Rattle.decimal.specs.Text.{over}
 use Rattle.records.specs.Records.{packed, valueIn}
 use Rattle.events.specs.declared.Read.{Read}
