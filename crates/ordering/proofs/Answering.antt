@@ -3,7 +3,7 @@ use Prim.Native.Nat.{ℕ, _≤_}
 use native.Mathlib.Omega.{arith}
 use mathlib.Core.Path.{_≡_, refl, sym, _∙_, ap, ap₂}
 use mathlib.Core.Bool.{Bool, true, false, cond}
-use mathlib.Core.List.{List}
+use mathlib.Core.List.{List, []}
 use borrow.Author.Tests.{ltb-false}
 use lib.Dec.{ltb}
 use lib.IntN.{ℤ}
@@ -16,16 +16,19 @@ use Rattle.rules.specs.Limits.{full, orderShort}
 use Rattle.rules.proofs.Laws.{or-false-left, or-false-right}
 use Rattle.decimal.specs.Text.{over}
 use Rattle.trace.specs.declared.Guards.{Guards}
-use Rattle.records.specs.Records.{rowEvents}
+use Rattle.records.specs.Records.{eventAt, rowEvents}
+use Rattle.rules.specs.Memories.{from}
 use Rattle.sections.specs.Denials.{Denial, fit, denied}
-use Rattle.sections.specs.Refusals.{denial}
+use Rattle.sections.specs.Refusals.{unfinished, denial}
+use Rattle.sections.proofs.Ordered.{orderly, fit-from}
 use Rattle.sections.specs.Order.{order}
 use Rattle.sections.specs.Entries.{entryCode}
 use Rattle.sections.proofs.Demand3.{room}
 use Rattle.ordering.specs.declared.Ordering.{Ordering}
 use Rattle.ordering.specs.declared.Ordering.the-variants.{Ordered, Unordered, NoOrder}
 use Rattle.ordering.specs.Answer.{guardOf, answerOf, answerFor, entriesFor, ordered, Given}
-use Rattle.ordering.specs.Computed.Parts.{Fits, toldAs, Orders, Written}
+use Rattle.ordering.specs.Computed.Parts.{Fits, past, toldAs, Orders, Written}
+use Rattle.ordering.proofs.Rows.{past-all}
 
 -- nothing is written
 pub untouched : (a : Ordering) (xs list scratch : List ℕ) (r : Ordering) → a ≡ r → ordered r ≡ false → Given a xs list scratch r list scratch
@@ -92,12 +95,18 @@ unfolding toldAs
 is-fit v fit p q = refl
 is-fit v (denied n m) p q = cc
 
+-- at its end nothing is held or owed
+ended-rows : (h : Counts) (guard : ℕ → ℕ) (ws : List ℕ) (xs : List ℤ) → denial h guard (rowEvents h ws xs) ≡ fit → unfinished h (past (eventAt h ws xs) (length ws)) ≡ false
+unfolding rowEvents denial orderly
+ended-rows h guard ws xs p = ap (unfinished h) (past-all (eventAt h ws xs) (length ws)) ∙ fit-from h guard [] (from (eventAt h ws xs) 0 (length ws)) p tt .1
+
 -- enough is lent for it
 pub orders : (h : Counts) (guard : ℕ → ℕ) (ws : List ℕ) (xs : List ℤ) (list scratch : List ℕ) → Fits h ws xs → orderShort full (length list) (length scratch) ≡ false
     → denial h guard (rowEvents h ws xs) ≡ fit → Orders h ws xs list scratch
 unfolding orderShort entriesFor
 orders h guard ws xs list scratch f s p = record {
   fits = f;
+  ended = ended-rows h guard ws xs p;
   room =
       let a : 1000 ≤ length list = ltb-false (length list) 1000 (or-false-left (ltb (length list) 1000) (ltb (length scratch) 2000) s) in
       let c = length-map (order h (rowEvents h ws xs)) entryCode in

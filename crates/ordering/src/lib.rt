@@ -7,10 +7,10 @@ ghost use lib.ListN.{length, replicate, take};
 ghost use Rattle.rules.specs.Limits.{full, orderShort, lineAfter};
 ghost use Rattle.rules.specs.declared.Verdict.the-variants.{Refused};
 ghost use Rattle.rules.specs.Rules.{some};
-ghost use Rattle.records.specs.Records.{rowEvents};
-ghost use Rattle.sections.specs.Refusals.{denial};
+ghost use Rattle.records.specs.Records.{eventAt, rowEvents};
+ghost use Rattle.sections.specs.Refusals.{unfinished, denial};
 ghost use Rattle.ordering.specs.Answer.{guardOf, answerFor, entriesFor, Given};
-ghost use Rattle.ordering.specs.Computed.Parts.{Fits, guardCell, underIn, levelAfter, pendingAfter, lateAfter, pendingIn, unfinishedIn, toldAs, codeOf, firstAfter, atTop, atEvent, topAfter, Filled, unlessZero, nonzero, Put, Orders, Written};
+ghost use Rattle.ordering.specs.Computed.Parts.{Fits, past, guardCell, underIn, levelAfter, pendingAfter, lateAfter, pendingIn, unfinishedIn, toldAs, codeOf, firstAfter, atTop, atEvent, topAfter, Filled, unlessZero, nonzero, Put, Orders, Written};
 ghost use Rattle.ordering.specs.Traces.{OrdersTrace};
 use marking::Marking;
 use rules::Counts;
@@ -192,9 +192,10 @@ fn top_after(k: u8, i: usize, j: usize) -> usize
     if k == b'K' { i } else { j }
 }
 
-// The second pass: each section at the index of its last K, 0 elsewhere.
+// The second pass: each section at the index of its last K, 0 elsewhere. Events other than K and N are passed over.
 fn fill(h: Counts, what: &[u32], value: &[Value], scratch: &mut [u64])
     requires { ⌜ Fits h (now what) (now value) ⌝ }
+    requires { ⌜ unfinished h (past (eventAt h (now what) (now value)) (length (now what))) ≡ false ⌝ }
     requires { ⌜ full .scratch ≤ length (now scratch) ⌝ }
     ensures { λ _. ⌜ Filled h (now (what .entry)) (now (value .entry)) (now (scratch .exit)) ⌝ }
 {
@@ -205,20 +206,25 @@ fn fill(h: Counts, what: &[u32], value: &[Value], scratch: &mut [u64])
     while i < what.len() {
         let w = what[i];
         let k = records::letter_in(w);
-        let t = records::thread_in(w);
-        let depth = depths[t];
-        let b = 0 < depth;
-        let j = top[t];
-        let x = scratch[j];
-        let line = rules::line_after(h, i as u32);
-        let a = first_after(k, b, first[t], line);
-        let code = encode(t, a, line);
-        scratch[j] = at_top(k, b, x, code);
-        scratch[i] = at_event(k, code);
-        first[t] = a;
-        top[t] = top_after(k, i, j);
-        depths[t] = level_after(depth, k);
-        i += 1;
+        if rules::is_lock_letter(k) {
+            let t = records::thread_in(w);
+            let depth = depths[t];
+            let b = 0 < depth;
+            let j = top[t];
+            let x = scratch[j];
+            let line = rules::line_after(h, i as u32);
+            let a = first_after(k, b, first[t], line);
+            let code = encode(t, a, line);
+            scratch[j] = at_top(k, b, x, code);
+            scratch[i] = at_event(k, code);
+            first[t] = a;
+            top[t] = top_after(k, i, j);
+            depths[t] = level_after(depth, k);
+            i += 1;
+        } else {
+            scratch[i] = 0;
+            i += 1;
+        }
     }
 }
 

@@ -1,13 +1,14 @@
 -- `ordering::fill` meets its contract: one turn of the loop is one event more. Assumes nothing.
 use Prim.Native.Nat.{_-_}
 use native.Mathlib.Omega.{arith}
-use mathlib.Core.Path.{_≡_, refl}
-use lib.ListN.{length, length-set}
+use mathlib.Core.Path.{_≡_, refl, sym, _∙_}
+use lib.ListN.{length, getD, length-set}
 use denote.Ref.{now}
 use borrow.Author.Needs.{needs}
-use Rattle.rules.proofs.Bounds.{first-line-high}
+use Rattle.rules.proofs.Bounds.{first-line-high, allowed-bounds}
+use Rattle.records.specs.Records.{threadIn}
 use Rattle.ordering.proofs.Rows.{reads-at}
-use Rattle.ordering.proofs.Filling.{Filling, filling-start, filling-end, Turn, early, top-in, depth-fits, first-fits, filling-more}
+use Rattle.ordering.proofs.Filling.{Filling, filling-start, filling-end, Turn, early, top-in, depth-fits, first-fits, filling-other, filling-more}
 use Rattle.ordering.proofs.fill.Statement.{statement}
 use Rattle.ordering.proofs.fill.Tie as tie
 
@@ -17,18 +18,30 @@ Inv-loop h what value scratch₀ depths₀ first₀ top₀ i₀ scratch depths f
 abbrev μ-loop : tie.MeasureT-loop
 μ-loop h what value scratch₀ depths₀ first₀ top₀ i₀ scratch depths first top i = length what - i
 
--- ---- the event at i
+-- ---- the event at i: a lock or unlock, or another
 
 abbrev Here : Type 0
 Here = tie.After-thread-in Inv-loop μ-loop
 
-turn : (c : Here) → Turn (c .before .before .before .before .before .before .before .args .h) (now (c .before .before .before .before .before .before .before .args .what)) (now (c .before .before .before .before .before .before .before .args .value)) (c .before .before .before .before .loop .scratch) (c .before .before .before .before .loop .depths) (c .before .before .before .before .loop .first) (c .before .before .before .before .loop .top) (c .before .before .before .before .loop .i) (c .before .letter-in .result) (c .thread-in .result)
+turn : (c : Here) → Turn (c .before .before .before .before .before .before .before .before .before .args .h) (now (c .before .before .before .before .before .before .before .before .before .args .what)) (now (c .before .before .before .before .before .before .before .before .before .args .value)) (c .before .before .before .before .before .before .loop .scratch) (c .before .before .before .before .before .before .loop .depths) (c .before .before .before .before .before .before .loop .first) (c .before .before .before .before .before .before .loop .top) (c .before .before .before .before .before .before .loop .i) (c .before .before .before .letter-in .result) (c .thread-in .result)
 turn c = record {
-  fits = c .before .before .before .before .before .before .before .pre .0;
-  filling = c .before .before .before .before .loop .inv .0;
-  more = c .before .before .before .loop-test .taken;
-  room = omega (arith, c .before .before .before .before .before .before .before .pre .1, c .before .before .before .before .loop .inv .1);
-  reads = reads-at (c .before .before .before .before .before .before .before .args .h) (now (c .before .before .before .before .before .before .before .args .what)) (now (c .before .before .before .before .before .before .before .args .value)) (c .before .before .before .before .before .before .before .pre .0) (c .before .before .before .before .loop .i) (c .before .before .before .loop-test .taken) (c .before .letter-in .result) (c .thread-in .result) _ (c .before .letter-in .ensures) (c .thread-in .ensures) refl;
+  fits = c .before .before .before .before .before .before .before .before .before .pre .0;
+  filling = c .before .before .before .before .before .before .loop .inv .0;
+  more = c .before .before .before .before .before .loop-test .taken;
+  room = omega (arith, c .before .before .before .before .before .before .before .before .before .pre .1 .1, c .before .before .before .before .before .before .loop .inv .1);
+  reads = reads-at (c .before .before .before .before .before .before .before .before .before .args .h) (now (c .before .before .before .before .before .before .before .before .before .args .what)) (now (c .before .before .before .before .before .before .before .before .before .args .value)) (c .before .before .before .before .before .before .before .before .before .pre .0) (c .before .before .before .before .before .before .loop .i) (c .before .before .before .before .before .loop-test .taken) (c .before .before .before .letter-in .result) (c .thread-in .result) _ (c .before .before .before .letter-in .ensures) (c .thread-in .ensures) refl;
+}
+
+abbrev Passed : Type 0
+Passed = tie.Else1 Inv-loop μ-loop
+
+other : (c : Passed) → Turn (c .before .before .before .before .before .before .before .before .args .h) (now (c .before .before .before .before .before .before .before .before .args .what)) (now (c .before .before .before .before .before .before .before .before .args .value)) (c .before .before .before .before .before .loop .scratch) (c .before .before .before .before .before .loop .depths) (c .before .before .before .before .before .loop .first) (c .before .before .before .before .before .loop .top) (c .before .before .before .before .before .loop .i) (c .before .before .letter-in .result) (threadIn (getD (now (c .before .before .before .before .before .before .before .before .args .what)) (c .before .before .before .before .before .loop .i) 0))
+other c = record {
+  fits = c .before .before .before .before .before .before .before .before .pre .0;
+  filling = c .before .before .before .before .before .loop .inv .0;
+  more = c .before .before .before .before .loop-test .taken;
+  room = omega (arith, c .before .before .before .before .before .before .before .before .pre .1 .1, c .before .before .before .before .before .loop .inv .1);
+  reads = reads-at (c .before .before .before .before .before .before .before .before .args .h) (now (c .before .before .before .before .before .before .before .before .args .what)) (now (c .before .before .before .before .before .before .before .before .args .value)) (c .before .before .before .before .before .before .before .before .pre .0) (c .before .before .before .before .before .loop .i) (c .before .before .before .before .loop-test .taken) (c .before .before .letter-in .result) (threadIn (getD (now (c .before .before .before .before .before .before .before .before .args .what)) (c .before .before .before .before .before .loop .i) 0)) _ (c .before .before .letter-in .ensures) (refl) refl;
 }
 
 -- ---- the answers
@@ -44,6 +57,9 @@ shared-slice-read-w c = search needs
 
 letter-in-requires : tie.Need-letter-in-requires Inv-loop μ-loop
 letter-in-requires c κs = search needs
+
+is-lock-letter-requires : tie.Need-is-lock-letter-requires Inv-loop μ-loop
+is-lock-letter-requires c κs = search needs
 
 thread-in-requires : tie.Need-thread-in-requires Inv-loop μ-loop
 thread-in-requires c κs = search needs
@@ -84,7 +100,7 @@ first-after-requires c κs = search needs
 encode-requires : tie.Need-encode-requires Inv-loop μ-loop
 encode-requires c κs = (
   turn (c .before .before .before) .reads .thread-low,
-  (first-fits (turn (c .before .before .before)) (c .before .line-after .ensures) (c .first-after .ensures), omega (arith, c .before .line-after .ensures, early (turn (c .before .before .before)), first-line-high (c .before .before .before .before .before .before .before .before .before .before .args .h))),
+  (first-fits (turn (c .before .before .before)) (c .before .line-after .ensures) (c .first-after .ensures), omega (arith, c .before .line-after .ensures, early (turn (c .before .before .before)), first-line-high (c .before .before .before .before .before .before .before .before .before .before .before .before .args .h))),
 )
 
 at-top-requires : tie.Need-at-top-requires Inv-loop μ-loop
@@ -103,7 +119,7 @@ mul-scratch-2 : tie.Need-mul-scratch-2 Inv-loop μ-loop
 mul-scratch-2 c = omega (arith, early (turn (c .before .before .before .before .before .before)))
 
 slice-write-scratch-2 : tie.Need-slice-write-scratch-2 Inv-loop μ-loop
-slice-write-scratch-2 c = rw (length-set (c .before .before .before .before .before .before .before .before .before .before .loop .scratch) _ (c .before .at-top .result)) (omega (arith, early (turn (c .before .before .before .before .before .before)), turn (c .before .before .before .before .before .before) .room))
+slice-write-scratch-2 c = rw (length-set (c .before .before .before .before .before .before .before .before .before .before .before .before .loop .scratch) _ (c .before .at-top .result)) (omega (arith, early (turn (c .before .before .before .before .before .before)), turn (c .before .before .before .before .before .before) .room))
 
 mul-first : tie.Need-mul-first Inv-loop μ-loop
 mul-first c = omega (arith, turn (c .before .before .before .before .before .before) .reads .thread-low)
@@ -136,13 +152,30 @@ loop-less : tie.Need-loop-less Inv-loop μ-loop
 loop-less c = search needs
 
 loop-again : tie.Need-loop-again Inv-loop μ-loop
-loop-again c = filling-more (turn (c .before .before .before .before .before .before .before .before)) (c .before .before .before .before .before .before .line-after .ensures) (c .before .before .before .before .before .first-after .ensures) (c .before .before .before .before .encode .ensures) (c .before .before .before .at-top .ensures) (c .before .before .at-event .ensures) (c .before .top-after .ensures) (c .level-after .ensures) (c .before .before .before .before .before .before .before .before .before .before .before .before .loop .inv .1)
+loop-again c = filling-more (turn (c .before .before .before .before .before .before .before .before)) (c .before .before .before .before .before .before .line-after .ensures) (c .before .before .before .before .before .first-after .ensures) (c .before .before .before .before .encode .ensures) (c .before .before .before .at-top .ensures) (c .before .before .at-event .ensures) (c .before .top-after .ensures) (c .level-after .ensures) (c .before .before .before .before .before .before .before .before .before .before .before .before .before .before .loop .inv .1)
+
+mul-scratch-3 : tie.Need-mul-scratch-3 Inv-loop μ-loop
+mul-scratch-3 c = omega (arith, early (other c))
+
+slice-write-scratch-3 : tie.Need-slice-write-scratch-3 Inv-loop μ-loop
+slice-write-scratch-3 c = omega (arith, early (other c), other c .room)
+
+add-i-2 : tie.Need-add-i-2 Inv-loop μ-loop
+add-i-2 c = search needs
+
+loop-less-2 : tie.Need-loop-less-2 Inv-loop μ-loop
+loop-less-2 c = search needs
+
+loop-again-2 : tie.Need-loop-again-2 Inv-loop μ-loop
+loop-again-2 c = filling-other (other c) (sym (c .before .is-lock-letter .ensures) ∙ c .if1 .left) (c .before .before .before .before .before .loop .inv .1)
 
 same-length : tie.Need-same-length Inv-loop μ-loop
 same-length c = c .before .loop .inv .1
 
 returns : tie.Need-returns Inv-loop μ-loop
-returns c = filling-end _ _ _ (c .before .loop .inv .0) (c .loop-test .left)
+returns c =
+    let a = c .before .before .before .before in
+    filling-end _ _ _ (c .before .loop .inv .0) (allowed-bounds (a .args .h) (a .pre .0 .accepted .head) .0) (a .pre .1 .0) (c .loop-test .left)
 
 pub fill-spec : {M : Type 1} → statement M
 fill-spec =
@@ -154,6 +187,7 @@ fill-spec =
     mul-w
     shared-slice-read-w
     letter-in-requires
+    is-lock-letter-requires
     thread-in-requires
     mul-depth
     array-read-depth
@@ -184,5 +218,10 @@ fill-spec =
     add-i
     loop-less
     loop-again
+    mul-scratch-3
+    slice-write-scratch-3
+    add-i-2
+    loop-less-2
+    loop-again-2
     same-length
     returns)

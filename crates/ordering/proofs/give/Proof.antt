@@ -9,7 +9,7 @@ use Rattle.ordering.proofs.give.Statement.{statement}
 use Rattle.ordering.proofs.give.Tie as tie
 
 fill-requires : tie.Need-fill-requires
-fill-requires c κs = (c .before .before .before .before .pre .fits, c .before .before .before .before .pre .places)
+fill-requires c κs = let o = c .before .before .before .before .pre in (o .fits, (o .ended, o .places))
 
 slice-reshare-prefix-gather : tie.Need-slice-reshare-prefix-gather
 slice-reshare-prefix-gather c =

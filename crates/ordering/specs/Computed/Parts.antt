@@ -18,6 +18,7 @@ use Rattle.decimal.specs.Text.{over}
 use Rattle.records.specs.Records.{letterIn, eventAt, rowEvents}
 use Rattle.serial.specs.Sections.{Section}
 use Rattle.sections.specs.Demand3.{AcceptedTrace}
+use Rattle.sections.specs.Refusals.{unfinished}
 use Rattle.sections.specs.Denials.{Denial, fit, denied}
 use Rattle.sections.specs.Order.{sections, entry}
 use Rattle.sections.specs.Entries.{entryCode}
@@ -108,9 +109,10 @@ pub record Put (xs list : List ℕ) (c r : ℕ) (list′ : List ℕ) : Type 0 wh
   pub count : r ≡ c + length xs
   pub lists : list′ ≡ take c list ++ (xs ++ drop r list)
 
--- two rows, with room for their order
+-- two rows at whose end nothing is held or owed, with room for their order
 pub record Orders (h : Counts) (what : List ℕ) (value : List ℤ) (list scratch : List ℕ) : Type 0 where
   pub fits : Fits h what value
+  pub ended : unfinished h (past (eventAt h what value) (length what)) ≡ false
   pub room : length (entriesFor h (rowEvents h what value)) ≤ length list
   pub places : full .scratch ≤ length scratch
 
