@@ -19,7 +19,7 @@ use Rattle.rules.proofs.From.{from-step, from-end}
 use Rattle.rules.proofs.Laws.{or-false-left, or-false-right}
 use Rattle.rules.proofs.Letters.{eqb-turn, declared-by}
 use Rattle.rules.proofs.Bounds.{allowed-bounds}
-use Rattle.records.specs.Records.{letterIn, threadIn, placeIn, lineIn, rowLines, unpacked, eventAt}
+use Rattle.records.specs.Records.{letterIn, threadIn, placeIn, recordAt, rowLines, unpacked, eventAt}
 use Rattle.records.proofs.RecordLaws.{event-some, event-none, letter-is, place-is, value-is}
 use Rattle.state.specs.declared.State.{State}
 use Rattle.state.specs.State.{wordsIn}
@@ -45,7 +45,7 @@ pub record Running (s₀ : State) (ws : List ℕ) (xs : List ℤ) (s : State) (t
   pub shape : Shape s
   pub ranged : inRange full s ≡ true
   pub tallied : Tallied s ts
-  pub same : walk full s (from (lineIn (s₀ .counts) ws xs) i (length ws - i)) ≡ walk full s₀ (rowLines (s₀ .counts) ws xs)
+  pub same : walk full s (from (recordAt (s₀ .counts) ws xs) i (length ws - i)) ≡ walk full s₀ (rowLines (s₀ .counts) ws xs)
 
 pub running-start : (s : State) (ts : List Tally) (ws : List ℕ) (xs : List ℤ) → Ready s ts → Running s ws xs s ts 0
 unfolding rowLines
@@ -59,13 +59,13 @@ running-start s ts ws xs r =
       shape = r .shape;
       ranged = r .ranged;
       tallied = tallied-from s ts (r .counted);
-      same = let z : length ws - 0 ≡ length ws = omega arith in ap (λ (n : ℕ). walk full s (from (lineIn (s .counts) ws xs) 0 n)) z;
+      same = let z : length ws - 0 ≡ length ws = omega arith in ap (λ (n : ℕ). walk full s (from (recordAt (s .counts) ws xs) 0 n)) z;
     }
 
 -- behind the last record
 pub running-end : {s₀ : State} {ws : List ℕ} {xs : List ℤ} {s : State} {ts : List Tally} {i : ℕ} → Running s₀ ws xs s ts i → length ws ≤ i → unchanged s accepted ≡ walk full s₀ (rowLines (s₀ .counts) ws xs)
 unfolding walk
-running-end {s₀} {ws} {xs} {s} {ts} {i} r h = ap (λ (l : List (Option Event)). walk full s l) (sym (from-end (lineIn (s₀ .counts) ws xs) i (length ws) h)) ∙ r .same
+running-end {s₀} {ws} {xs} {s} {ts} {i} r h = ap (λ (l : List (Option Event)). walk full s l) (sym (from-end (recordAt (s₀ .counts) ws xs) i (length ws) h)) ∙ r .same
 
 -- a turn: the record at i has this letter, thread, and variable or lock
 pub record Turn (s₀ : State) (ws : List ℕ) (xs : List ℤ) (s : State) (ts : List Tally) (i k t v : ℕ) : Type 0 where
@@ -92,17 +92,17 @@ module _ {s₀ : State} {ws : List ℕ} {xs : List ℤ} {s : State} {ts : List T
   x = getD xs i (pos 0)
 
   abbrev rest : List (Option Event)
-  rest = from (lineIn (s₀ .counts) ws xs) (suc i) (length ws - suc i)
+  rest = from (recordAt (s₀ .counts) ws xs) (suc i) (length ws - suc i)
 
   abbrev pub here : Event
   here = eventAt (s₀ .counts) ws xs i
 
-  opened : walk full s (lineIn (s₀ .counts) ws xs i ∷ rest) ≡ whole
-  opened = ap (λ (l : List (Option Event)). walk full s l) (sym (from-step (lineIn (s₀ .counts) ws xs) i (length ws) (u .more))) ∙ r .same
+  opened : walk full s (recordAt (s₀ .counts) ws xs i ∷ rest) ≡ whole
+  opened = ap (λ (l : List (Option Event)). walk full s l) (sym (from-step (recordAt (s₀ .counts) ws xs) i (length ws) (u .more))) ∙ r .same
 
   -- 4: the number is no letter
   pub turn-none : isLetter k ≡ false → unchanged s (refused 4 line) ≡ whole
-  unfolding lineIn walk
+  unfolding recordAt walk
   turn-none l = ap (λ (y : Option Event). walk full s (y ∷ rest)) (sym (event-none (lineAfter (s₀ .counts) i) w x (ap isLetter (sym (u .letter)) ∙ l))) ∙ opened
 
   module _ (l : isLetter k ≡ true) where
@@ -110,7 +110,7 @@ module _ {s₀ : State} {ws : List ℕ} {xs : List ℤ} {s : State} {ts : List T
     named = ap isLetter (sym (u .letter)) ∙ l
 
     stepping : onwards (stepWith s here (answer full (s .counts) (wordsIn s) here)) (λ z. walk full z rest) ≡ whole
-    unfolding lineIn eventAt walk
+    unfolding recordAt eventAt walk
     stepping =
         ap (λ (a : Answer). onwards a (λ z. walk full z rest)) (sym (step-ranged full s here (r .ranged)))
         ∙ ap (λ (y : Option Event). walk full s (y ∷ rest)) (sym (event-some (lineAfter (s₀ .counts) i) w x named)) ∙ opened

@@ -16,7 +16,7 @@ use Rattle.rules.specs.Events.{K, N, place, is, among, onLock}
 use Rattle.rules.specs.Limits.{Limits, full, lineAfter, allowed, declared}
 use Rattle.rules.specs.Rules.{Marked, refused, wordsOf, answer, verdict, unless, markRead, passing, pastRead}
 use Rattle.rules.proofs.Bounds.{allowed-bounds, declared-bounds}
-use Rattle.records.specs.Records.{held, packed, valueIn, rowLines}
+use Rattle.records.specs.Records.{capped, packed, valueIn, rowLines}
 use Rattle.records.proofs.RowLaws.{Numbered, lines-held}
 use Rattle.records.proofs.RecordLaws.{held-same, held-over, holds, heldEvent, held-event}
 
@@ -26,14 +26,14 @@ heldLine none = none
 heldLine (some e) = some (heldEvent e)
 
 -- a count that is allowed does not reach 255
-held-below : (n c : ℕ) → c ≤ 255 → ltb (held n) c ≡ ltb n c
+held-below : (n c : ℕ) → c ≤ 255 → ltb (capped n) c ≡ ltb n c
 held-below n c h = go (decLt n 255)
   where
-    go : Dec (n < 255) → ltb (held n) c ≡ ltb n c
+    go : Dec (n < 255) → ltb (capped n) c ≡ ltb n c
     go (yes q) = ap (λ (i : ℕ). ltb i c) (held-same n q)
     go (no q) =
         let z : 255 ≤ n = omega (arith, q) in
-        le-ltb (held n) c (omega (arith, held-over n z)) ∙ sym (le-ltb n c (omega arith))
+        le-ltb (capped n) c (omega (arith, held-over n z)) ∙ sym (le-ltb n c (omega arith))
 
 module _ (h : Counts) (a : allowed full h ≡ true) where
   on-held : (e : Event) → onLock (heldEvent e) ≡ onLock e

@@ -12,7 +12,7 @@ use Rattle.rules.specs.declared.Counts.{Counts}
 use Rattle.rules.specs.Events.{isLetter}
 use Rattle.rules.specs.Limits.{Limits, lineAfter}
 use Rattle.rules.specs.Rules.{Marked, accepted, refused, verdict, unless, markFrom, mark, markRead}
-use Rattle.records.specs.Records.{letterIn, lineIn, rowLines, eventAt, rowEvents}
+use Rattle.records.specs.Records.{letterIn, recordAt, rowLines, eventAt, rowEvents}
 use Rattle.rules.specs.Memories.{from}
 use Rattle.records.proofs.RecordLaws.{event-some, event-none}
 
@@ -28,21 +28,21 @@ module _ (m : Limits) (h : Counts) where
   accepted-rest (suc n) line r p = cc
 
   module _ (ws : List ℕ) (xs : List ℤ) where
-    named : (i n : ℕ) (past : List Event) → markRead m h past (from (lineIn h ws xs) i n) ≡ accepted → from (lineIn h ws xs) i n ≡ map some (from (eventAt h ws xs) i n)
-    unfolding markRead from lineIn eventAt
+    named : (i n : ℕ) (past : List Event) → markRead m h past (from (recordAt h ws xs) i n) ≡ accepted → from (recordAt h ws xs) i n ≡ map some (from (eventAt h ws xs) i n)
+    unfolding markRead from recordAt eventAt
     named i zero past p = refl
     named i (suc n) past p = go (isLetter (letterIn (getD ws i 0))) refl (named (suc i) n)
       where
         go : (b : Bool) → isLetter (letterIn (getD ws i 0)) ≡ b
-            → ((past : List Event) → markRead m h past (from (lineIn h ws xs) (suc i) n) ≡ accepted → from (lineIn h ws xs) (suc i) n ≡ map some (from (eventAt h ws xs) (suc i) n))
-            → lineIn h ws xs i ∷ from (lineIn h ws xs) (suc i) n ≡ some (eventAt h ws xs i) ∷ map some (from (eventAt h ws xs) (suc i) n)
+            → ((past : List Event) → markRead m h past (from (recordAt h ws xs) (suc i) n) ≡ accepted → from (recordAt h ws xs) (suc i) n ≡ map some (from (eventAt h ws xs) (suc i) n))
+            → recordAt h ws xs i ∷ from (recordAt h ws xs) (suc i) n ≡ some (eventAt h ws xs i) ∷ map some (from (eventAt h ws xs) (suc i) n)
         go true l r =
-            let x : lineIn h ws xs i ≡ some (eventAt h ws xs i) = event-some (lineAfter h i) (getD ws i 0) (getD xs i (pos 0)) l in
-            let q : markRead m h past (some (eventAt h ws xs i) ∷ from (lineIn h ws xs) (suc i) n) ≡ accepted = sym (ap (λ (o : Option Event). markRead m h past (o ∷ from (lineIn h ws xs) (suc i) n)) x) ∙ p in
+            let x : recordAt h ws xs i ≡ some (eventAt h ws xs i) = event-some (lineAfter h i) (getD ws i 0) (getD xs i (pos 0)) l in
+            let q : markRead m h past (some (eventAt h ws xs i) ∷ from (recordAt h ws xs) (suc i) n) ≡ accepted = sym (ap (λ (o : Option Event). markRead m h past (o ∷ from (recordAt h ws xs) (suc i) n)) x) ∙ p in
             λ j. x j ∷ r (eventAt h ws xs i ∷ past) (accepted-rest (verdict m h past (eventAt h ws xs i)) (lineAfter h (length past)) _ q) j
         go false l r =
-            let x : lineIn h ws xs i ≡ none = event-none (lineAfter h i) (getD ws i 0) (getD xs i (pos 0)) l in
-            let q : refused 4 (lineAfter h (length past)) ≡ accepted = sym (ap (λ (o : Option Event). markRead m h past (o ∷ from (lineIn h ws xs) (suc i) n)) x) ∙ p in
+            let x : recordAt h ws xs i ≡ none = event-none (lineAfter h i) (getD ws i 0) (getD xs i (pos 0)) l in
+            let q : refused 4 (lineAfter h (length past)) ≡ accepted = sym (ap (λ (o : Option Event). markRead m h past (o ∷ from (recordAt h ws xs) (suc i) n)) x) ∙ p in
             let z : _≡_ {A = ℕ} 0 1 = cc in
             absurd (omega arith)
 

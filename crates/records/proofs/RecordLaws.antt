@@ -14,22 +14,22 @@ use Rattle.rules.specs.declared.Kind.the-variants.{Use, Assign, Load, Store, Re
 use Rattle.rules.specs.declared.Named.{Named}
 use Rattle.rules.specs.declared.Named.the-variants as named
 use Rattle.rules.specs.Events.{A, B, K, L, N, P, R, S, U, W, letter, place, value, isLetter, isLockLetter, kindOf, eventWith}
-use Rattle.records.specs.Records.{held, whatOf, packed, valueIn, letterIn, threadIn, placeIn, eventIn, orRead, unpacked}
+use Rattle.records.specs.Records.{capped, whatOf, packed, valueIn, letterIn, threadIn, placeIn, eventIn, orRead, unpacked}
 
 -- ---- numbers held at 255
 
-pub held-same : (n : ℕ) → n < 255 → held n ≡ n
-unfolding held
+pub held-same : (n : ℕ) → n < 255 → capped n ≡ n
+unfolding capped
 held-same n h = rw (lt-ltb n 255 h)
 
-pub held-over : (n : ℕ) → 255 ≤ n → held n ≡ 255
-unfolding held
+pub held-over : (n : ℕ) → 255 ≤ n → capped n ≡ 255
+unfolding capped
 held-over n h = rw (le-ltb n 255 h)
 
-pub held-low : (n : ℕ) → held n < 256
+pub held-low : (n : ℕ) → capped n < 256
 held-low n = go (decLt n 255)
   where
-    go : Dec (n < 255) → held n < 256
+    go : Dec (n < 255) → capped n < 256
     go (yes q) = omega (arith, held-same n q)
     go (no q) = let z : 255 ≤ n = omega (arith, q) in omega (arith, held-over n z)
 
@@ -40,18 +40,18 @@ unfolding letterIn whatOf
 letter-back k t p h =
     let a = held-low t in
     let b = held-low p in
-    let q : (k * 65536 + held t * 256 + held p) / 65536 ≡ k = omega arith in
+    let q : (k * 65536 + capped t * 256 + capped p) / 65536 ≡ k = omega arith in
     rw (q, lt-ltb k 256 h)
 
-pub thread-back : (k t p : ℕ) → threadIn (whatOf k t p) ≡ held t
+pub thread-back : (k t p : ℕ) → threadIn (whatOf k t p) ≡ capped t
 unfolding threadIn whatOf
 thread-back k t p =
     let a = held-low t in
     let b = held-low p in
-    let q : (k * 65536 + held t * 256 + held p) / 256 ≡ k * 256 + held t = omega arith in
+    let q : (k * 65536 + capped t * 256 + capped p) / 256 ≡ k * 256 + capped t = omega arith in
     ap (λ (n : ℕ). n % 256) q ∙ omega arith
 
-pub place-back : (k t p : ℕ) → placeIn (whatOf k t p) ≡ held p
+pub place-back : (k t p : ℕ) → placeIn (whatOf k t p) ≡ capped p
 unfolding placeIn whatOf
 place-back k t p =
     let b = held-low p in
@@ -135,25 +135,25 @@ module _ (line w : ℕ) (x : ℤ) (e : isLetter (letterIn w) ≡ true) where
 
 -- the event with its thread, and its variable or lock, held at 255
 unfoldable pub heldKind : Kind → Kind
-heldKind (Use v x) = Use (held v) x
-heldKind (Assign v x) = Assign (held v) x
-heldKind (Load v x) = Load (held v) x
-heldKind (Store v x) = Store (held v) x
-heldKind (Read v x) = Read (held v) x
-heldKind (Write v x) = Write (held v) x
-heldKind (Lock l) = Lock (held l)
-heldKind (Unlock l) = Unlock (held l)
-heldKind (PrescientStore v x) = PrescientStore (held v) x
-heldKind (PrescientAssign v x) = PrescientAssign (held v) x
+heldKind (Use v x) = Use (capped v) x
+heldKind (Assign v x) = Assign (capped v) x
+heldKind (Load v x) = Load (capped v) x
+heldKind (Store v x) = Store (capped v) x
+heldKind (Read v x) = Read (capped v) x
+heldKind (Write v x) = Write (capped v) x
+heldKind (Lock l) = Lock (capped l)
+heldKind (Unlock l) = Unlock (capped l)
+heldKind (PrescientStore v x) = PrescientStore (capped v) x
+heldKind (PrescientAssign v x) = PrescientAssign (capped v) x
 
 unfoldable pub heldEvent : Event → Event
-heldEvent e = record { thread = held (e .thread); line = e .line; kind = heldKind (e .kind) }
+heldEvent e = record { thread = capped (e .thread); line = e .line; kind = heldKind (e .kind) }
 
 -- what holding keeps of a kind
 pub record Holds (k : Kind) : Type 0 where
-  pub kind : kindOf (letter k) (held (place k)) (value k) ≡ named.Of (heldKind k)
+  pub kind : kindOf (letter k) (capped (place k)) (value k) ≡ named.Of (heldKind k)
   pub letters : letter (heldKind k) ≡ letter k
-  pub places : place (heldKind k) ≡ held (place k)
+  pub places : place (heldKind k) ≡ capped (place k)
   pub low : letter k < 256
   pub small : place k < 255 → heldKind k ≡ k
 
@@ -178,11 +178,11 @@ module _ (e : Event) where
   unfolding packed
   packed-letter = letter-back (letter k) (e .thread) (place k) (holds k .low)
 
-  pub packed-thread : threadIn (packed e) ≡ held (e .thread)
+  pub packed-thread : threadIn (packed e) ≡ capped (e .thread)
   unfolding packed
   packed-thread = thread-back (letter k) (e .thread) (place k)
 
-  pub packed-place : placeIn (packed e) ≡ held (place k)
+  pub packed-place : placeIn (packed e) ≡ capped (place k)
   unfolding packed
   packed-place = place-back (letter k) (e .thread) (place k)
 

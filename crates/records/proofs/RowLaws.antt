@@ -15,7 +15,7 @@ use Rattle.rules.specs.Events.{place, isLetter}
 use Rattle.rules.specs.Limits.{lineAfter}
 use Rattle.rules.specs.Memories.{from}
 use Rattle.rules.proofs.From.{from-is}
-use Rattle.records.specs.Records.{packed, valueIn, letterIn, eventIn, lineIn, rowLines, unpacked, eventAt, rowEvents}
+use Rattle.records.specs.Records.{packed, valueIn, letterIn, eventIn, recordAt, rowLines, unpacked, eventAt, rowEvents}
 use Rattle.records.proofs.RecordLaws.{event-some, event-none, heldEvent, held-some, held-unpacked, held-event}
 
 -- ---- the rows of a list of events
@@ -53,11 +53,11 @@ module _ (h : Counts) where
 
     -- the lines are the events, with thread and place held
     pub lines-held : rowLines h (map packed es) (map valueIn es) ≡ map some (map heldEvent es)
-    unfolding rowLines lineIn
+    unfolding rowLines recordAt
     lines-held =
-        ap (from (lineIn h (map packed es) (map valueIn es)) 0) (same-length (λ (e : Event). some (heldEvent e)))
-        ∙ from-is (lineIn h (map packed es) (map valueIn es)) none (map (λ (e : Event). some (heldEvent e)) es) 0
-        (λ j q. let z : 0 + j ≡ j = omega arith in ap (lineIn h (map packed es) (map valueIn es)) z ∙ rw z at (at-place eventIn (λ (e : Event). some (heldEvent e)) none held-some es 0 k j (omega (arith, q, length-map es (λ (e : Event). some (heldEvent e))))))
+        ap (from (recordAt h (map packed es) (map valueIn es)) 0) (same-length (λ (e : Event). some (heldEvent e)))
+        ∙ from-is (recordAt h (map packed es) (map valueIn es)) none (map (λ (e : Event). some (heldEvent e)) es) 0
+        (λ j q. let z : 0 + j ≡ j = omega arith in ap (recordAt h (map packed es) (map valueIn es)) z ∙ rw z at (at-place eventIn (λ (e : Event). some (heldEvent e)) none held-some es 0 k j (omega (arith, q, length-map es (λ (e : Event). some (heldEvent e))))))
         ∙ held-lines es
       where
         held-lines : (l : List Event) → map (λ (e : Event). some (heldEvent e)) l ≡ map some (map heldEvent l)
@@ -96,8 +96,8 @@ module _ (h : Counts) where
       events : from (eventAt h ws xs) i n ≡ es
       lettered : (j : ℕ) → i ≤ j → j < i + n → isLetter (letterIn (getD ws j 0)) ≡ true
 
-    names : (i n : ℕ) (es : List Event) → from (lineIn h ws xs) i n ≡ map some es → Names i n es
-    unfolding from lineIn eventAt
+    names : (i n : ℕ) (es : List Event) → from (recordAt h ws xs) i n ≡ map some es → Names i n es
+    unfolding from recordAt eventAt
     names i zero [] q = record { events = refl; lettered = λ j a b. absurd (omega arith) }
     names i zero (e ∷ es) q = absurd (nil≢cons q)
     names i (suc n) [] q = absurd (nil≢cons (sym q))

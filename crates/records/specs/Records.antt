@@ -18,12 +18,12 @@ use Rattle.rules.specs.Limits.{lineAfter}
 use Rattle.rules.specs.Memories.{from}
 
 -- a number held at 255, which no head declares
-unfoldable pub held : ℕ → ℕ
-held n = cond (ltb n 255) n 255
+unfoldable pub capped : ℕ → ℕ
+capped n = cond (ltb n 255) n 255
 
 -- what an event is, from its letter, thread, and variable or lock
 unfoldable pub whatOf : ℕ → ℕ → ℕ → ℕ
-whatOf k t p = k * 65536 + held t * 256 + held p
+whatOf k t p = k * 65536 + capped t * 256 + capped p
 
 -- the record of an event: what it is, and its value
 unfoldable pub packed : Event → ℕ
@@ -47,12 +47,12 @@ unfoldable pub eventIn : ℕ → ℕ → ℤ → Option Event
 eventIn line w x = eventWith line (threadIn w) (kindOf (letterIn w) (placeIn w) x)
 
 -- the line of the record at place i of two rows
-unfoldable pub lineIn : Counts → List ℕ → List ℤ → ℕ → Option Event
-lineIn h ws xs i = eventIn (lineAfter h i) (getD ws i 0) (getD xs i (pos 0))
+unfoldable pub recordAt : Counts → List ℕ → List ℤ → ℕ → Option Event
+recordAt h ws xs i = eventIn (lineAfter h i) (getD ws i 0) (getD xs i (pos 0))
 
 -- the lines of two rows
 unfoldable pub rowLines : Counts → List ℕ → List ℤ → List (Option Event)
-rowLines h ws xs = from (lineIn h ws xs) 0 (length ws)
+rowLines h ws xs = from (recordAt h ws xs) 0 (length ws)
 
 -- the same as events, where each number names a kind; another stands for a read
 abbrev pub orRead : Named → ℕ → ℤ → Kind

@@ -1,14 +1,14 @@
 // Records: an event as two plain numbers. Their layout is in specs/Records.antt.
 ghost use mathlib.Core.Path.{_≡_};
 ghost use Prim.Native.Nat.{_<_};
-ghost use Rattle.records.specs.Records.{held, whatOf, packed, letterIn, threadIn, placeIn, unpacked};
+ghost use Rattle.records.specs.Records.{capped, whatOf, packed, letterIn, threadIn, placeIn, unpacked};
 use rules::Event;
 use rules::Named;
 use rules::Value;
 
 // A number held at 255.
 fn hold(n: usize) -> u32
-    ensures { λ r. ⌜ r ≡ held n ⌝ }
+    ensures { λ r. ⌜ r ≡ capped n ⌝ }
 {
     if n < 255 { n as u32 } else { 255 }
 }

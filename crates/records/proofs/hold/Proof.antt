@@ -1,7 +1,7 @@
 -- `records::hold` meets its contract. Assumes nothing.
 use borrow.Author.Needs.{needs}
 use borrow.Author.Tests.{lt-ltb, le-ltb}
-use Rattle.records.specs.Records.{held}
+use Rattle.records.specs.Records.{capped}
 use Rattle.records.proofs.hold.Statement.{statement}
 use Rattle.records.proofs.hold.Tie as tie
 
@@ -9,11 +9,11 @@ cast-result : tie.Need-cast-result
 cast-result c = search needs
 
 returns : tie.Need-returns
-unfolding held
+unfolding capped
 returns c = rw (lt-ltb _ _ (c .if1 .taken))
 
 returns-2 : tie.Need-returns-2
-unfolding held
+unfolding capped
 returns-2 c = rw (le-ltb _ _ (c .if1 .left))
 
 pub hold-spec : {M : Type 1} → statement M
