@@ -1,7 +1,9 @@
 // One event judged from the parts of a state that it looks at, and what it leaves of them. Nothing here sees a whole state; what a turn
 // answers is in specs/Computed/Turns.antt, and proofs/Turned.antt proves that it is the row of the rules and the state after the event.
 ghost use mathlib.Core.Path.{_≡_};
-ghost use Prim.Native.Nat.{max};
+ghost use mathlib.Core.List.{[]};
+ghost use Prim.Native.Nat.{_<_, max};
+ghost use lib.ListN.{getD};
 ghost use Rattle.rules.specs.Events.{A as Assign, B, K, L, N, P, R, S, W};
 ghost use Rattle.state.specs.State.{noSlot, depthOf};
 ghost use Rattle.state.specs.Step.{pushed, popped, nextCell};
@@ -17,6 +19,7 @@ ghost use Rattle.judging.specs.Computed.Checks.{
   unlockChecks,
   prescientStoreChecks,
   prescientAssignChecks,
+  table,
   firstOf,
 };
 ghost use Rattle.judging.specs.Computed.Turns.{holdFor, useRule, cellTurn, readsTurn, storesTurn, lockTurn, eitherOf, turnOf};
@@ -265,6 +268,14 @@ const ROWS: [[u8; 5]; 10] = [
     [10, 18, 0, 0, 0],
 ];
 
+// The row at a place of the table.
+fn row_at(i: usize) -> [u8; 5]
+    requires { ⌜ i < 10 ⌝ }
+    ensures { λ r. ⌜ r ≡ getD table i [] ⌝ }
+{
+    ROWS[i]
+}
+
 // The number of a row at its first broken check; 0 where none is.
 fn first_of(b: Checks, row: [u8; 5]) -> u8
     ensures { λ r. ⌜ r ≡ firstOf b row ⌝ }
@@ -416,7 +427,7 @@ pub fn use_rule(c: Cell, locked: u32, x: Value) -> u8
     ensures { λ r. ⌜ r ≡ useRule c locked x ⌝ }
 {
     let b = use_checks(c, locked, x);
-    let row = ROWS[0];
+    let row = row_at(0);
     first_of(b, row)
 }
 
@@ -437,7 +448,7 @@ pub fn cell_turn(c: Cell, locked: u32, k: u8, x: Value, p: u32) -> CellTurn
     }
     if k == b'B' {
         let b = prescient_assign_checks(c, x);
-        let row = ROWS[9];
+        let row = row_at(9);
         let rule = first_of(b, row);
         let d = prescient_assigned(c, x, p);
         return CellTurn {
@@ -464,7 +475,7 @@ pub fn reads_turn(
     let s = oldest(q, front);
     if k == b'L' {
         let b = load_checks(c, s, x);
-        let row = ROWS[2];
+        let row = row_at(2);
         let rule = first_of(b, row);
         let d = loaded(c, s, x, p);
         return ReadsTurn {
@@ -475,7 +486,7 @@ pub fn reads_turn(
     }
     if k == b'R' {
         let b = read_checks(c, main, x);
-        let row = ROWS[4];
+        let row = row_at(4);
         let rule = first_of(b, row);
         let d = has_read(c, s, x, p);
         let new = Slot {
@@ -512,7 +523,7 @@ pub fn stores_turn(
         let q = c.stores;
         let s = oldest(q, front);
         let b = write_checks(c, s, x);
-        let row = ROWS[5];
+        let row = row_at(5);
         let rule = first_of(b, row);
         let d = has_written(c, x, p);
         let m = Main { value: x };
@@ -529,7 +540,7 @@ pub fn stores_turn(
     };
     if k == b'S' {
         let b = store_checks(c, locked, x);
-        let row = ROWS[3];
+        let row = row_at(3);
         let rule = first_of(b, row);
         let d = stored(c, x, p);
         return StoresTurn {
@@ -541,7 +552,7 @@ pub fn stores_turn(
     }
     if k == b'P' {
         let b = prescient_store_checks(c);
-        let row = ROWS[8];
+        let row = row_at(8);
         let rule = first_of(b, row);
         let d = prescient_stored(c, x, p);
         return StoresTurn {
@@ -573,7 +584,7 @@ pub fn lock_turn(
 {
     if k == b'K' {
         let b = lock_checks(a, threads, any, t);
-        let row = ROWS[6];
+        let row = row_at(6);
         let rule = first_of(b, row);
         let h = taken(a, t);
         return LockTurn {
@@ -584,7 +595,7 @@ pub fn lock_turn(
     }
     if k == b'N' {
         let b = unlock_checks(a, any, t);
-        let row = ROWS[7];
+        let row = row_at(7);
         let rule = first_of(b, row);
         let h = left(a, t);
         return LockTurn {

@@ -7,7 +7,7 @@ use Rattle.state.proofs.Letters.{not-letter}
 use borrow.Author.Needs.{needs}
 use mathlib.Core.Path.{refl}
 use Rattle.rules.specs.Rules.{rows, rowIn}
-use Rattle.judging.specs.Computed.Checks.{rowOf}
+use Rattle.judging.specs.Computed.Checks.{rowOf, table}
 use Rattle.judging.proofs.cell_turn.Statement.{statement}
 use Rattle.judging.proofs.cell_turn.Tie as tie
 
@@ -15,21 +15,21 @@ use-rule-requires : tie.Need-use-rule-requires
 use-rule-requires c κs = search needs
 
 returns : tie.Need-returns
-unfolding useRule cellTurn nextCell rowOf rows rowIn
+unfolding useRule cellTurn nextCell rowOf table rows rowIn
 returns c = rw (c .use-rule .ensures, c .before .if1 .taken, toZ-ofZ valueWidth (c .before .before .args .x) (c .before .before .fits .x)) refl
 
 assigned-requires : tie.Need-assigned-requires
 assigned-requires c κs = search needs
 
 returns-2 : tie.Need-returns-2
-unfolding useRule cellTurn nextCell rowOf rows rowIn
+unfolding useRule cellTurn nextCell rowOf table rows rowIn
 returns-2 c = rw (c .assigned .ensures, c .before .if2 .taken, toZ-ofZ valueWidth (c .before .before .before .args .x) (c .before .before .before .fits .x)) refl
 
 prescient-assign-checks-requires : tie.Need-prescient-assign-checks-requires
 prescient-assign-checks-requires c κs = search needs
 
-array-copy-out-row : tie.Need-array-copy-out-row
-array-copy-out-row c = search needs
+row-at-requires : tie.Need-row-at-requires
+row-at-requires c κs = search needs
 
 first-of-requires : tie.Need-first-of-requires
 first-of-requires c κs = search needs
@@ -38,11 +38,11 @@ prescient-assigned-requires : tie.Need-prescient-assigned-requires
 prescient-assigned-requires c κs = search needs
 
 returns-3 : tie.Need-returns-3
-unfolding useRule cellTurn nextCell rowOf rows rowIn
-returns-3 c = rw (c .prescient-assigned .ensures, c .before .first-of .ensures, c .before .before .before .prescient-assign-checks .ensures, c .before .before .before .before .if3 .taken, toZ-ofZ valueWidth (c .before .before .before .before .before .before .before .args .x) (c .before .before .before .before .before .before .before .fits .x)) refl
+unfolding useRule cellTurn nextCell rowOf table rows rowIn
+returns-3 c = rw (c .prescient-assigned .ensures, c .before .first-of .ensures, c .before .before .row-at .ensures, c .before .before .before .prescient-assign-checks .ensures, c .before .before .before .before .if3 .taken, toZ-ofZ valueWidth (c .before .before .before .before .before .before .before .args .x) (c .before .before .before .before .before .before .before .fits .x)) refl
 
 returns-4 : tie.Need-returns-4
-unfolding useRule cellTurn nextCell rowOf rows rowIn
+unfolding useRule cellTurn nextCell rowOf table rows rowIn
 returns-4 c = simp (not-letter (c .before .before .if1 .left), not-letter (c .before .if2 .left), not-letter (c .if3 .left)) refl
 
 pub cell-turn-spec : {M : Type 1} → statement M
@@ -54,7 +54,7 @@ cell-turn-spec =
     assigned-requires
     returns-2
     prescient-assign-checks-requires
-    array-copy-out-row
+    row-at-requires
     first-of-requires
     prescient-assigned-requires
     returns-3

@@ -7,7 +7,7 @@ use Rattle.state.proofs.Letters.{not-letter}
 use borrow.Author.Needs.{needs}
 use mathlib.Core.Path.{refl}
 use Rattle.rules.specs.Rules.{rows, rowIn}
-use Rattle.judging.specs.Computed.Checks.{rowOf}
+use Rattle.judging.specs.Computed.Checks.{rowOf, table}
 use Rattle.judging.proofs.reads_turn.Statement.{statement}
 use Rattle.judging.proofs.reads_turn.Tie as tie
 
@@ -17,8 +17,8 @@ oldest-requires c κs = search needs
 load-checks-requires : tie.Need-load-checks-requires
 load-checks-requires c κs = search needs
 
-array-copy-out-row : tie.Need-array-copy-out-row
-array-copy-out-row c = search needs
+row-at-requires : tie.Need-row-at-requires
+row-at-requires c κs = search needs
 
 first-of-requires : tie.Need-first-of-requires
 first-of-requires c κs = search needs
@@ -27,14 +27,14 @@ loaded-requires : tie.Need-loaded-requires
 loaded-requires c κs = search needs
 
 returns : tie.Need-returns
-unfolding readsTurn readsWith nextCell readAfter rowOf rows rowIn
-returns c = rw (c .loaded .ensures, c .before .first-of .ensures, c .before .before .before .load-checks .ensures, c .before .before .before .before .before .oldest .ensures, c .before .before .before .before .if1 .taken, toZ-ofZ valueWidth (c .before .before .before .before .before .before .before .args .x) (c .before .before .before .before .before .before .before .fits .x)) refl
+unfolding readsTurn readsWith nextCell readAfter rowOf table rows rowIn
+returns c = rw (c .loaded .ensures, c .before .first-of .ensures, c .before .before .row-at .ensures, c .before .before .before .load-checks .ensures, c .before .before .before .before .before .oldest .ensures, c .before .before .before .before .if1 .taken, toZ-ofZ valueWidth (c .before .before .before .before .before .before .before .args .x) (c .before .before .before .before .before .before .before .fits .x)) refl
 
 read-checks-requires : tie.Need-read-checks-requires
 read-checks-requires c κs = search needs
 
-array-copy-out-row-2 : tie.Need-array-copy-out-row-2
-array-copy-out-row-2 c = search needs
+row-at-requires-2 : tie.Need-row-at-requires-2
+row-at-requires-2 c κs = search needs
 
 first-of-requires-2 : tie.Need-first-of-requires-2
 first-of-requires-2 c κs = search needs
@@ -43,11 +43,11 @@ has-read-requires : tie.Need-has-read-requires
 has-read-requires c κs = search needs
 
 returns-2 : tie.Need-returns-2
-unfolding readsTurn readsWith nextCell readAfter rowOf rows rowIn
-returns-2 c = rw (c .has-read .ensures, c .before .first-of2 .ensures, c .before .before .before .read-checks .ensures, c .before .before .before .before .if2 .taken, toZ-ofZ valueWidth (c .before .before .before .before .before .before .before .before .args .x) (c .before .before .before .before .before .before .before .before .fits .x)) refl
+unfolding readsTurn readsWith nextCell readAfter rowOf table rows rowIn
+returns-2 c = rw (c .has-read .ensures, c .before .first-of2 .ensures, c .before .before .row-at2 .ensures, c .before .before .before .read-checks .ensures, c .before .before .before .before .if2 .taken, toZ-ofZ valueWidth (c .before .before .before .before .before .before .before .before .args .x) (c .before .before .before .before .before .before .before .before .fits .x)) refl
 
 returns-3 : tie.Need-returns-3
-unfolding readsTurn readsWith nextCell readAfter rowOf rows rowIn
+unfolding readsTurn readsWith nextCell readAfter rowOf table rows rowIn
 returns-3 c = simp (not-letter (c .before .if1 .left), not-letter (c .if2 .left)) refl
 
 pub reads-turn-spec : {M : Type 1} → statement M
@@ -56,12 +56,12 @@ reads-turn-spec =
     (tie.spec
     oldest-requires
     load-checks-requires
-    array-copy-out-row
+    row-at-requires
     first-of-requires
     loaded-requires
     returns
     read-checks-requires
-    array-copy-out-row-2
+    row-at-requires-2
     first-of-requires-2
     has-read-requires
     returns-2

@@ -7,7 +7,7 @@ use Rattle.state.proofs.Letters.{not-letter}
 use borrow.Author.Needs.{needs}
 use mathlib.Core.Path.{refl}
 use Rattle.rules.specs.Rules.{rows, rowIn}
-use Rattle.judging.specs.Computed.Checks.{rowOf}
+use Rattle.judging.specs.Computed.Checks.{rowOf, table}
 use Rattle.judging.proofs.stores_turn.Statement.{statement}
 use Rattle.judging.proofs.stores_turn.Tie as tie
 
@@ -17,8 +17,8 @@ oldest-requires c κs = search needs
 write-checks-requires : tie.Need-write-checks-requires
 write-checks-requires c κs = search needs
 
-array-copy-out-row : tie.Need-array-copy-out-row
-array-copy-out-row c = search needs
+row-at-requires : tie.Need-row-at-requires
+row-at-requires c κs = search needs
 
 first-of-requires : tie.Need-first-of-requires
 first-of-requires c κs = search needs
@@ -27,14 +27,14 @@ has-written-requires : tie.Need-has-written-requires
 has-written-requires c κs = search needs
 
 returns : tie.Need-returns
-unfolding storesTurn storesWith nextCell storeAfter mainAfter rowOf rows rowIn
-returns c = rw (c .has-written .ensures, c .before .first-of .ensures, c .before .before .before .write-checks .ensures, c .before .before .before .before .oldest .ensures, c .before .before .before .before .before .before .if1 .taken, toZ-ofZ valueWidth (c .before .before .before .before .before .before .before .args .x) (c .before .before .before .before .before .before .before .fits .x)) refl
+unfolding storesTurn storesWith nextCell storeAfter mainAfter rowOf table rows rowIn
+returns c = rw (c .has-written .ensures, c .before .first-of .ensures, c .before .before .row-at .ensures, c .before .before .before .write-checks .ensures, c .before .before .before .before .oldest .ensures, c .before .before .before .before .before .before .if1 .taken, toZ-ofZ valueWidth (c .before .before .before .before .before .before .before .args .x) (c .before .before .before .before .before .before .before .fits .x)) refl
 
 store-checks-requires : tie.Need-store-checks-requires
 store-checks-requires c κs = search needs
 
-array-copy-out-row-2 : tie.Need-array-copy-out-row-2
-array-copy-out-row-2 c = search needs
+row-at-requires-2 : tie.Need-row-at-requires-2
+row-at-requires-2 c κs = search needs
 
 first-of-requires-2 : tie.Need-first-of-requires-2
 first-of-requires-2 c κs = search needs
@@ -43,14 +43,14 @@ stored-requires : tie.Need-stored-requires
 stored-requires c κs = search needs
 
 returns-2 : tie.Need-returns-2
-unfolding storesTurn storesWith nextCell storeAfter mainAfter rowOf rows rowIn
-returns-2 c = rw (c .stored .ensures, c .before .first-of2 .ensures, c .before .before .before .store-checks .ensures, c .before .before .before .before .if2 .taken, toZ-ofZ valueWidth (c .before .before .before .before .before .before .args .x) (c .before .before .before .before .before .before .fits .x)) refl
+unfolding storesTurn storesWith nextCell storeAfter mainAfter rowOf table rows rowIn
+returns-2 c = rw (c .stored .ensures, c .before .first-of2 .ensures, c .before .before .row-at2 .ensures, c .before .before .before .store-checks .ensures, c .before .before .before .before .if2 .taken, toZ-ofZ valueWidth (c .before .before .before .before .before .before .args .x) (c .before .before .before .before .before .before .fits .x)) refl
 
 prescient-store-checks-requires : tie.Need-prescient-store-checks-requires
 prescient-store-checks-requires c κs = search needs
 
-array-copy-out-row-3 : tie.Need-array-copy-out-row-3
-array-copy-out-row-3 c = search needs
+row-at-requires-3 : tie.Need-row-at-requires-3
+row-at-requires-3 c κs = search needs
 
 first-of-requires-3 : tie.Need-first-of-requires-3
 first-of-requires-3 c κs = search needs
@@ -59,11 +59,11 @@ prescient-stored-requires : tie.Need-prescient-stored-requires
 prescient-stored-requires c κs = search needs
 
 returns-3 : tie.Need-returns-3
-unfolding storesTurn storesWith nextCell storeAfter mainAfter rowOf rows rowIn
-returns-3 c = rw (c .prescient-stored .ensures, c .before .first-of3 .ensures, c .before .before .before .prescient-store-checks .ensures, c .before .before .before .before .if3 .taken, toZ-ofZ valueWidth (c .before .before .before .before .before .before .before .args .x) (c .before .before .before .before .before .before .before .fits .x)) refl
+unfolding storesTurn storesWith nextCell storeAfter mainAfter rowOf table rows rowIn
+returns-3 c = rw (c .prescient-stored .ensures, c .before .first-of3 .ensures, c .before .before .row-at3 .ensures, c .before .before .before .prescient-store-checks .ensures, c .before .before .before .before .if3 .taken, toZ-ofZ valueWidth (c .before .before .before .before .before .before .before .args .x) (c .before .before .before .before .before .before .before .fits .x)) refl
 
 returns-4 : tie.Need-returns-4
-unfolding storesTurn storesWith nextCell storeAfter mainAfter rowOf rows rowIn
+unfolding storesTurn storesWith nextCell storeAfter mainAfter rowOf table rows rowIn
 returns-4 c = simp (not-letter (c .before .before .if1 .left), not-letter (c .before .if2 .left), not-letter (c .if3 .left)) refl
 
 pub stores-turn-spec : {M : Type 1} → statement M
@@ -72,17 +72,17 @@ stores-turn-spec =
     (tie.spec
     oldest-requires
     write-checks-requires
-    array-copy-out-row
+    row-at-requires
     first-of-requires
     has-written-requires
     returns
     store-checks-requires
-    array-copy-out-row-2
+    row-at-requires-2
     first-of-requires-2
     stored-requires
     returns-2
     prescient-store-checks-requires
-    array-copy-out-row-3
+    row-at-requires-3
     first-of-requires-3
     prescient-stored-requires
     returns-3

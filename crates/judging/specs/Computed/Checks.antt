@@ -1,7 +1,7 @@
 -- The checks of each row, from the parts of a state that an event looks at.
 use Prim.Native.Nat.{ℕ, _+_, _-_}
 use mathlib.Core.Bool.{Bool, false, not, cond, _&&_, _||_}
-use mathlib.Core.List.{List, _++_}
+use mathlib.Core.List.{List, _++_, map}
 use lib.Dec.{eqb, ltb, leb}
 use lib.IntN.{ℤ}
 use lib.ListN.{length, getD, replicate}
@@ -72,9 +72,12 @@ prescientAssignChecks c x = five (not (c .pending)) (not (eqZ x (c .announced)))
 abbrev pub filled : List ℕ → List ℕ
 filled ns = ns ++ replicate (5 - length ns) 0
 
--- the row of a letter
+-- the row of a letter, and the table of all rows
 unfoldable pub rowOf : ℕ → List ℕ
 rowOf k = filled (rowIn rows k)
+
+unfoldable pub table : List (List ℕ)
+table = map (λ r. filled (r .checks)) rows
 
 -- the rule of a row at its first broken check, 0 where none is
 abbrev pub firstOf : Checks → List ℕ → ℕ
