@@ -1,5 +1,5 @@
-/* A whole trace marked into lent memory, and one step over a state that the caller keeps. Link target/staticlib/libc_api.a for a trace
-   and libc_step.a for a step; tests/library writes both. Numbers are document 01's: a refusal's number, and a line of the trace. */
+/* A whole trace marked into lent memory, and one step over a state that the caller keeps. Link target/staticlib/libc_api.a, which
+   `rt staticlib c_api` writes. Numbers are document 01's: a refusal's number, and a line of the trace. */
 #ifndef DABZHONI_H
 #define DABZHONI_H
 

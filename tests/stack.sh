@@ -15,7 +15,7 @@ stack=target/c_program/stack
 
 mkdir -p target/c_program
 tests/library &&
-    cc -std=c11 -O1 -Wall -Wextra -Werror -Iinclude -o $stack tests/c_program/stack.c target/staticlib/lib{c_api,c_step}.a -pthread &&
+    cc -std=c11 -O1 -Wall -Wextra -Werror -Iinclude -o $stack tests/c_program/stack.c target/staticlib/libc_api.a -pthread &&
     cargo build --release --offline --quiet --manifest-path tests/marker_a/Cargo.toml || exit 2
 [ -x target/bin/mark ] || rt check mark > /dev/null || exit 2
 

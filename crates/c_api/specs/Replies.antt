@@ -1,15 +1,45 @@
--- What a program in C is told of a whole trace, in plain numbers.
+-- What a program in C is told in plain numbers: of one step, and of a whole trace.
 use Prim.Native.Nat.{ℕ}
 use mathlib.Core.Path.{_≡_}
 use mathlib.Core.List.{List}
 use lib.IntN.{ℤ}
+use Rattle.rules.specs.declared.Verdict.{Verdict}
+use Rattle.rules.specs.declared.Named.{Named}
+use Rattle.rules.specs.declared.Named.the-variants.{Nothing, Of}
+use Rattle.rules.specs.Events.{kindOf}
+use Rattle.rules.specs.Limits.{full, lineAfter}
 use Rattle.rules.specs.Rules.{told, numberIn, lineIn}
+use Rattle.state.specs.declared.State.{State}
+use Rattle.machine.specs.declared.Answer.{Answer}
+use Rattle.machine.specs.Stepped.{stepped}
 use Rattle.ordering.specs.declared.Ordering.{Ordering}
 use Rattle.ordering.specs.declared.Ordering.the-variants.{Ordered, Unordered, NoOrder}
 use Rattle.report.specs.declared.Report.{Report}
 use Rattle.report.specs.Report.{Fills, Briefs}
+use Rattle.c_api.specs.declared.Reply.{Reply}
+use Rattle.c_api.specs.declared.StepReply.{StepReply}
 use Rattle.c_api.specs.declared.OrderReply.{OrderReply}
 use Rattle.c_api.specs.declared.MarkReply.{MarkReply}
+
+-- the number of a refusal and its line: both are 0 where nothing is refused
+unfoldable pub replyOf : Verdict → Reply
+replyOf v = record { number = numberIn (told v); line = lineIn (told v) }
+
+-- ---- one step
+
+abbrev pub answered : Answer → StepReply
+answered a = record { reply = replyOf (a .verdict); state = a .state }
+
+-- 4. Line is no event of the form above: a letter that is none of the ten, and the state stays as it was
+abbrev pub onNamed : State → ℕ → Named → StepReply
+onNamed s t Nothing = record { reply = record { number = 4; line = lineAfter (s .counts) (s .events) }; state = s }
+onNamed s t (Of k) = answered (stepped full s (record { thread = t; line = lineAfter (s .counts) (s .events); kind = k }))
+
+-- one step: letter, thread, variable or lock, value
+unfoldable pub stepReply : State → ℕ → ℕ → ℕ → ℤ → StepReply
+stepReply s k t p x = onNamed s t (kindOf k p x)
+
+-- ---- a whole trace
 
 -- an order has so many sections; a denied one has a number, 20 to 22, and a line
 abbrev pub orderReply : Ordering → OrderReply
@@ -17,12 +47,12 @@ orderReply (Ordered c) = record { sections = c; denial = 0; line = 0 }
 orderReply (Unordered number line) = record { sections = 0; denial = number; line = line }
 orderReply NoOrder = record { sections = 0; denial = 0; line = 0 }
 
-abbrev pub withOrder : Report → OrderReply → MarkReply
-withOrder r o = record { number = numberIn (told (r .verdict)); line = lineIn (told (r .verdict)); events = r .events; written = r .written; sections = o .sections; denial = o .denial; «denial_line» = o .line }
+abbrev pub withOrder : Report → Reply → OrderReply → MarkReply
+withOrder r v o = record { number = v .number; line = v .line; events = r .events; written = r .written; sections = o .sections; denial = o .denial; «denial_line» = o .line }
 
--- the numbers of a report: its refusal, both 0 where nothing is refused, the events of an accepted trace, the length of the listing, and the order
+-- the numbers of a report: its refusal, the events of an accepted trace, the length of the listing, and the order
 unfoldable pub markReply : Report → MarkReply
-markReply r = withOrder r (orderReply (r .ordering))
+markReply r = withOrder r (replyOf (r .verdict)) (orderReply (r .ordering))
 
 -- where an order is wanted: the numbers of the report, and what the lent memory holds
 pub record MarkReplies (s whats : List ℕ) (values : List ℤ) (out list scratch : List ℕ) (r : MarkReply) (whats′ : List ℕ) (values′ : List ℤ) (out′ list′ scratch′ : List ℕ) : Type 0 where

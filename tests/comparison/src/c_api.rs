@@ -87,14 +87,10 @@ pub struct Marked {
 
 const _: () = assert!(std::mem::size_of::<Marked>() == 56);
 
-#[link(name = "c_step", kind = "static")]
+#[link(name = "c_api", kind = "static")]
 extern "C" {
     fn dabzhoni_initial(state: *mut State, threads: usize, variables: usize, locks: usize);
     fn dabzhoni_step(state: *mut State, letter: u8, thread: usize, place: usize, value: i32) -> Reply;
-}
-
-#[link(name = "c_api", kind = "static")]
-extern "C" {
     fn dabzhoni_mark(
         paper: *const u8,
         paper_len: usize,

@@ -1,4 +1,4 @@
--- `c_step::dabzhoni_initial` meets its contract: a walk of its MIR, by hand. The borrow is opened, the state that `state::initial` returns is stored whole, and the borrow is closed at it.
+-- `c_api::dabzhoni_initial` meets its contract: a walk of its MIR, by hand. The borrow is opened, the state that `state::initial` returns is stored whole, and the borrow is closed at it.
 -- All that the walk knows of `initial` is its contract. Assumes nothing.
 use mathlib.Core.Path.{_≡_, refl, ap}
 use Prim.Native.Nat.{ℕ, _<_, _^_}
@@ -49,10 +49,10 @@ use Rattle.state.proofs.initial as initial
 use Rattle.state.proofs.initial.Symbol as initial-def
 use Rattle.state.proofs.initial.Symbol.{name as #initial}
 use Rattle.state.proofs.initial.Met as initial-thm
-use Rattle.c_step.proofs.dabzhoni_initial.Key.{name as #begin}
-use Rattle.c_step.proofs.dabzhoni_initial as begin
-use Rattle.c_step.proofs.dabzhoni_initial.Statement as stated
-use Rattle.c_step.proofs.dabzhoni_initial.Code as code
+use Rattle.c_api.proofs.dabzhoni_initial.Key.{name as #begin}
+use Rattle.c_api.proofs.dabzhoni_initial as begin
+use Rattle.c_api.proofs.dabzhoni_initial.Statement as stated
+use Rattle.c_api.proofs.dabzhoni_initial.Code as code
 
 abbrev Arg : Type 0
 Arg = RefT State × (ℕ × (ℕ × (ℕ × Unit {0})))

@@ -1,4 +1,4 @@
--- `c_step::dabzhoni_step` meets its contract: a walk of its MIR, by hand. The borrow is opened, the whole state is copied out of memory and passed to `step_numbers` by value, and the state that it returns is stored back whole; the borrow is closed at it.
+-- `c_api::dabzhoni_step` meets its contract: a walk of its MIR, by hand. The borrow is opened, the whole state is copied out of memory and passed to `step_numbers` by value, and the state that it returns is stored back whole; the borrow is closed at it.
 -- All that the walk knows of `step_numbers` is its contract. Assumes nothing.
 use mathlib.Core.Path.{_≡_, refl, ap}
 use Prim.Native.Nat.{ℕ, _<_, _^_}
@@ -46,21 +46,21 @@ use Rattle.rules.specs.Limits.{valueWidth}
 use Rattle.state.specs.declared.State.{State}
 use Rattle.state.proofs.State as T
 use Rattle.state.proofs.State.Laws as T′
-use Rattle.c_step.specs.Replies.{stepReply}
-use Rattle.c_step.specs.declared.StepReply.{StepReply}
-use Rattle.c_step.specs.declared.Reply.{Reply}
-use Rattle.c_step.proofs.StepReply as S
-use Rattle.c_step.proofs.StepReply.Laws as S′
-use Rattle.c_step.proofs.Reply as R
-use Rattle.c_step.proofs.Reply.Laws as R′
-use Rattle.c_step.proofs.step_numbers as numbers
-use Rattle.c_step.proofs.step_numbers.Symbol as numbers-def
-use Rattle.c_step.proofs.step_numbers.Symbol.{name as #numbers}
-use Rattle.c_step.proofs.step_numbers.Met as numbers-thm
-use Rattle.c_step.proofs.dabzhoni_step.Key.{name as #step}
-use Rattle.c_step.proofs.dabzhoni_step as step
-use Rattle.c_step.proofs.dabzhoni_step.Statement as stated
-use Rattle.c_step.proofs.dabzhoni_step.Code as code
+use Rattle.c_api.specs.Replies.{stepReply}
+use Rattle.c_api.specs.declared.StepReply.{StepReply}
+use Rattle.c_api.specs.declared.Reply.{Reply}
+use Rattle.c_api.proofs.StepReply as S
+use Rattle.c_api.proofs.StepReply.Laws as S′
+use Rattle.c_api.proofs.Reply as R
+use Rattle.c_api.proofs.Reply.Laws as R′
+use Rattle.c_api.proofs.step_numbers as numbers
+use Rattle.c_api.proofs.step_numbers.Symbol as numbers-def
+use Rattle.c_api.proofs.step_numbers.Symbol.{name as #numbers}
+use Rattle.c_api.proofs.step_numbers.Met as numbers-thm
+use Rattle.c_api.proofs.dabzhoni_step.Key.{name as #step}
+use Rattle.c_api.proofs.dabzhoni_step as step
+use Rattle.c_api.proofs.dabzhoni_step.Statement as stated
+use Rattle.c_api.proofs.dabzhoni_step.Code as code
 
 abbrev Arg : Type 0
 Arg = RefT State × (ℕ × (ℕ × (ℕ × (ℤ × Unit {0}))))
@@ -171,4 +171,4 @@ dabzhoni-step-spec 𝓤 H 𝓜 𝓖 𝓡 =
     entered 𝓤 H (tripleOf 𝓤 H (𝓖 .A) step.signature (step.spec 𝓤 H (𝓖 .A) (𝓜 .mem) (𝓡 .run)))
     (tables 𝓤 H 𝓜 𝓡 code.env .C) (tables 𝓤 H 𝓜 𝓡 code.env .Λ) #step code.function (code.unfolded 𝓤 H 𝓜 𝓡)
     (step-meets 𝓤 H (𝓖 .A) (givenOf 𝓤 H 𝓜 𝓖) (𝓜 .mem) (𝓡 .run) (tablesOf 𝓤 H 𝓜 (tables 𝓤 H 𝓜 𝓡 code.env))
-    (cited 𝓤 H (Numbers 𝓤 H (𝓖 .A) (𝓜 .mem) (𝓡 .run)) 𝓜 𝓡 code.env #numbers numbers-def.routine code.calls-c-step·step-numbers (numbers-thm.met 𝓤 H 𝓜 𝓖 𝓡)))
+    (cited 𝓤 H (Numbers 𝓤 H (𝓖 .A) (𝓜 .mem) (𝓡 .run)) 𝓜 𝓡 code.env #numbers numbers-def.routine code.calls-c-api·step-numbers (numbers-thm.met 𝓤 H 𝓜 𝓖 𝓡)))

@@ -10,8 +10,8 @@ use Rattle.rules.specs.Limits.{full, lineAfter}
 use Rattle.state.specs.declared.State.{State}
 use Rattle.machine.specs.declared.Answer.{Answer}
 use Rattle.machine.specs.Stepped.{stepped}
-use Rattle.c_step.specs.declared.Reply.{Reply}
-use Rattle.c_step.specs.Replies.{replyOf, answered, onNamed, stepReply}
+use Rattle.c_api.specs.declared.Reply.{Reply}
+use Rattle.c_api.specs.Replies.{replyOf, answered, onNamed, stepReply}
 
 module _ (s : State) (k t p : ℕ) (x y : ℤ) (same : y ≡ x) (n : Named) (named : n ≡ kindOf k p y) (line : ℕ) (at : line ≡ lineAfter (s .counts) (s .events)) where
   at-name : onNamed s t n ≡ stepReply s k t p x

@@ -1,9 +1,9 @@
--- `c_step::reply_of` meets its contract. Assumes nothing.
+-- `c_api::reply_of` meets its contract. Assumes nothing.
 use mathlib.Core.Path.{refl}
 use borrow.Author.Needs.{needs}
-use Rattle.c_step.specs.Replies.{replyOf}
-use Rattle.c_step.proofs.reply_of.Statement.{statement}
-use Rattle.c_step.proofs.reply_of.Tie as tie
+use Rattle.c_api.specs.Replies.{replyOf}
+use Rattle.c_api.proofs.reply_of.Statement.{statement}
+use Rattle.c_api.proofs.reply_of.Tie as tie
 
 number-of-requires : tie.Need-number-of-requires
 number-of-requires c κs = search needs

@@ -1,10 +1,10 @@
--- `c_step::step_numbers` meets its contract. Assumes nothing.
+-- `c_api::step_numbers` meets its contract. Assumes nothing.
 use borrow.Author.Needs.{needs}
 use mir.ValLaws.{toZ-ofZ}
 use Rattle.rules.specs.Limits.{valueWidth}
-use Rattle.c_step.proofs.StepLaws.{none-named, one-named}
-use Rattle.c_step.proofs.step_numbers.Statement.{statement}
-use Rattle.c_step.proofs.step_numbers.Tie as tie
+use Rattle.c_api.proofs.StepLaws.{none-named, one-named}
+use Rattle.c_api.proofs.step_numbers.Statement.{statement}
+use Rattle.c_api.proofs.step_numbers.Tie as tie
 
 line-after-requires : tie.Need-line-after-requires
 line-after-requires c κs = search needs
