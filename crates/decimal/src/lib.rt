@@ -32,6 +32,9 @@ pub struct Reached {
 
 const CAP: usize = 9223372036854775809;
 
+// One digit more stays below the cap.
+const PLAIN: usize = 100000000000000000;
+
 // A value is from -LIMIT to LIMIT - 1.
 const LIMIT: usize = 2147483648;
 
@@ -43,6 +46,9 @@ fn push_digit(n: usize, d: usize) -> usize
     requires { ⌜ (n ≤ cap) × (d < 10) ⌝ }
     ensures { λ r. ⌜ r ≡ min cap (n * 10 + d) ⌝ }
 {
+    if n < PLAIN {
+        return n * 10 + d;
+    }
     if (CAP - d) / 10 < n { CAP } else { n * 10 + d }
 }
 

@@ -1,4 +1,4 @@
--- The loop over the lines of a part: the events that were read so far lie over the rows, and the lines from here on are left.
+-- The loop over the lines from a place on: the events that were read so far lie over the rows, and the lines from here on are left.
 use Prim.Native.Nat.{ℕ, suc, _≤_, _<_, _+_}
 use native.Mathlib.Omega.{arith}
 use native.Mathlib.Numerals.{add-one}
@@ -39,30 +39,30 @@ row-length f es row o q h = ap length q ∙ over-length (map f es) o (omega (ari
 abbrev left : Counts → List ℕ → ℕ → ℕ → List (Option Event)
 left h s at n = readings (lineAfter h n) (partLines (drop at s))
 
--- after n events, at the line that starts at `at`, with the rows as they were at the start and as they are now
-pub record Turn (h : Counts) (s : List ℕ) (what₀ : List ℕ) (value₀ : List ℤ) (what : List ℕ) (value : List ℤ) (at n : ℕ) : Type 0 where
+-- after n events, at the line that starts at `at`, with the rows as they were at the start, at `from`, and as they are now
+pub record Turn (h : Counts) (s : List ℕ) (from : ℕ) (what₀ : List ℕ) (value₀ : List ℤ) (what : List ℕ) (value : List ℤ) (at n : ℕ) : Type 0 where
   pub past : List Event
   pub count : length past ≡ n
   pub small : n ≤ full .events
-  pub read : eventsRead h s ≡ past ++ readFrom full n (left h s at n)
-  pub stop : stopFrom full h 0 (linesRead h s) ≡ stopFrom full h n (left h s at n)
+  pub read : eventsRead h (drop from s) ≡ past ++ readFrom full n (left h s at n)
+  pub stop : stopFrom full h 0 (linesRead h (drop from s)) ≡ stopFrom full h n (left h s at n)
   pub what-is : what ≡ over (map packed past) what₀
   pub value-is : value ≡ over (map valueIn past) value₀
 
-pub turn-start : (h : Counts) (s : List ℕ) (what : List ℕ) (value : List ℤ) → Turn h s what value what value 0 0
-turn-start h s what value =
+pub turn-start : (h : Counts) (s : List ℕ) (from : ℕ) (what : List ℕ) (value : List ℤ) → Turn h s from what value what value from 0
+turn-start h s from what value =
     let e : firstLine h ≡ lineAfter h 0 = omega arith in
     record {
       past = [];
       count = refl;
       small = omega arith;
-      read = ap (λ (l : ℕ). readFrom full 0 (readings l (partLines s))) e;
-      stop = ap (λ (l : ℕ). stopFrom full h 0 (readings l (partLines s))) e;
+      read = ap (λ (l : ℕ). readFrom full 0 (readings l (partLines (drop from s)))) e;
+      stop = ap (λ (l : ℕ). stopFrom full h 0 (readings l (partLines (drop from s)))) e;
       what-is = refl;
       value-is = refl;
     }
 
-module _ {h : Counts} {s what₀ what : List ℕ} {value₀ value : List ℤ} {at n : ℕ} (t : Turn h s what₀ value₀ what value at n) where
+module _ {h : Counts} {s what₀ what : List ℕ} {value₀ value : List ℤ} {from at n : ℕ} (t : Turn h s from what₀ value₀ what value at n) where
   -- the rows keep their lengths
   pub turn-what : full .events ≤ length what₀ → length what ≡ length what₀
   turn-what i = row-length packed (t .past) what what₀ (t .what-is) (omega (arith, t .count, t .small))
@@ -76,10 +76,10 @@ module _ {h : Counts} {s what₀ what : List ℕ} {value₀ value : List ℤ} {a
 
   -- an event: one record more, and the next line
   pub turn-more : (l : Line) (w : ℕ) (x : ℤ) → l ≡ lineAt s at → (l .letter ≡ 0 → ⊥) → n < full .events → full .events ≤ length what₀ → full .events ≤ length value₀
-      → w ≡ whatOf (l .letter) (l .thread) (l .place) → x ≡ l .value → Turn h s what₀ value₀ (set what n w) (set value n x) (l .next) (n + 1)
+      → w ≡ whatOf (l .letter) (l .thread) (l .place) → x ≡ l .value → Turn h s from what₀ value₀ (set what n w) (set value n x) (l .next) (n + 1)
   turn-more l w x e z i a b p q = by (here (lineAfter h n) s at (λ y. z (ap (λ (l : Line). l .letter) e ∙ y)))
     where
-      by : Here (lineAfter h n) s at (lineAt s at) → Turn h s what₀ value₀ (set what n w) (set value n x) (l .next) (n + 1)
+      by : Here (lineAfter h n) s at (lineAt s at) → Turn h s from what₀ value₀ (set what n w) (set value n x) (l .next) (n + 1)
       by v = record {
         past = t .past ++ (v .event ∷ []);
         count = length-append (t .past) (v .event ∷ []) ∙ ap (λ (k : ℕ). k + 1) (t .count);
@@ -106,9 +106,9 @@ module _ {h : Counts} {s what₀ what : List ℕ} {value₀ value : List ℤ} {a
 
   -- the end: nothing more is read
   finish : (rest : List (Option Event)) (v : Verdict) → left h s at n ≡ rest → readFrom full n rest ≡ [] → told v ≡ stopFrom full h n rest
-      → Reads h s (record { count = n; verdict = v }) what₀ what value₀ value
+      → Reads h (drop from s) (record { count = n; verdict = v }) what₀ what value₀ value
   finish rest v q r e =
-      let all : eventsRead h s ≡ t .past = t .read ∙ ap (λ (ls : List Event). t .past ++ ls) (ap (readFrom full n) q ∙ r) ∙ append-nil (t .past) in
+      let all : eventsRead h (drop from s) ≡ t .past = t .read ∙ ap (λ (ls : List Event). t .past ++ ls) (ap (readFrom full n) q ∙ r) ∙ append-nil (t .past) in
       record {
         count = sym (t .count) ∙ ap length (sym all);
         verdict = e ∙ ap (stopFrom full h n) (sym q) ∙ sym (t .stop);
@@ -116,19 +116,19 @@ module _ {h : Counts} {s what₀ what : List ℕ} {value₀ value : List ℤ} {a
         value-is = t .value-is ∙ ap (λ (es : List Event). over (map valueIn es) value₀) (sym all);
       }
 
-  pub turn-end : length s ≤ at → Reads h s (record { count = n; verdict = Accepted }) what₀ what value₀ value
+  pub turn-end : length s ≤ at → Reads h (drop from s) (record { count = n; verdict = Accepted }) what₀ what value₀ value
   turn-end i = finish [] Accepted (ap (readings (lineAfter h n)) (part-none s at i) ∙ (unfold readings in refl)) (unfold readFrom in refl) (unfold stopFrom in refl)
 
   -- a line that is no event
   pub turn-wrong : (l : Line) (line : ℕ) → l ≡ lineAt s at → at < length s → l .letter ≡ 0 → line ≡ lineAfter h n
-      → Reads h s (record { count = n; verdict = Refused 4 line }) what₀ what value₀ value
+      → Reads h (drop from s) (record { count = n; verdict = Refused 4 line }) what₀ what value₀ value
   turn-wrong l line e i z k =
       let v = wrong-here (lineAfter h n) s at i (sym (ap (λ (l : Line). l .letter) e) ∙ z) in
       finish (none ∷ v .rest) (Refused 4 line) (v .lines) (unfold readFrom in refl) (unfold stopFrom in ap (λ (j : ℕ). told (Refused 4 j)) k)
 
   -- an event more than there may be
   pub turn-full : (l : Line) (line : ℕ) → l ≡ lineAt s at → (l .letter ≡ 0 → ⊥) → full .events ≤ n → line ≡ lineAfter h n
-      → Reads h s (record { count = n; verdict = Refused 9 line }) what₀ what value₀ value
+      → Reads h (drop from s) (record { count = n; verdict = Refused 9 line }) what₀ what value₀ value
   turn-full l line e z i k =
       let v = here (lineAfter h n) s at (λ y. z (ap (λ (l : Line). l .letter) e ∙ y)) in
       finish (some (v .event) ∷ readings (suc (lineAfter h n)) (partLines (drop (lineAt s at .next) s))) (Refused 9 line) (v .lines)

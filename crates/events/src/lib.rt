@@ -139,15 +139,15 @@ fn line_at(s: &[u8], at: usize) -> Line
     }
 }
 
-// The events of the lines of a part, one record for each at the front of the two rows.
-fn read_into(h: Counts, part: &[u8], what: &mut [u32], value: &mut [Value]) -> Read
+// The events of the lines from a place on, one record for each at the front of the two rows.
+fn read_into(h: Counts, s: &[u8], from: usize, what: &mut [u32], value: &mut [Value]) -> Read
     requires { ⌜ (full .events ≤ length (now what)) × (full .events ≤ length (now value)) ⌝ }
-    ensures { λ r. ⌜ Reads h (now (part .entry)) r (now (what .entry)) (now (what .exit)) (now (value .entry)) (now (value .exit)) ⌝ }
+    ensures { λ r. ⌜ Reads h (drop from (now (s .entry))) r (now (what .entry)) (now (what .exit)) (now (value .entry)) (now (value .exit)) ⌝ }
 {
-    let mut at: usize = 0;
+    let mut at = from;
     let mut n: usize = 0;
-    while at < part.len() {
-        let l = line_at(part, at);
+    while at < s.len() {
+        let l = line_at(s, at);
         let k = l.letter;
         if k == 0 {
             let wrong = Verdict::Refused(4, rules::line_after(h, n as u32));
@@ -176,10 +176,16 @@ fn read_into(h: Counts, part: &[u8], what: &mut [u32], value: &mut [Value]) -> R
     }
 }
 
-// The events of the lines of a part, one record for each at the front of the two rows: until a line that is no event, or an event more
-// than 2,000.
-pub fn read_lines(h: Counts, part: &[u8], what: &mut [u32; 2000], value: &mut [Value; 2000]) -> Read
-    ensures { λ r. ⌜ Reads h (now (part .entry)) r (now (what .entry)) (now (what .exit)) (now (value .entry)) (now (value .exit)) ⌝ }
+// The events of the lines from a place on, one record for each at the front of the two rows: until a line that is no event, or an event
+// more than 2,000.
+pub fn read_lines(
+    h: Counts,
+    s: &[u8],
+    from: usize,
+    what: &mut [u32; 2000],
+    value: &mut [Value; 2000],
+) -> Read
+    ensures { λ r. ⌜ Reads h (drop from (now (s .entry))) r (now (what .entry)) (now (what .exit)) (now (value .entry)) (now (value .exit)) ⌝ }
 {
-    read_into(h, part, what, value)
+    read_into(h, s, from, what, value)
 }

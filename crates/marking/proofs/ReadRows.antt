@@ -23,7 +23,7 @@ use Rattle.records.proofs.HeldMarks.{row-marks, row-past}
 use Rattle.trace.specs.declared.Guards.{Guards}
 use Rattle.trace.specs.declared.Trace.{Trace}
 use Rattle.trace.specs.Trace.{traceOf, eventsOf}
-use Rattle.trace.proofs.TraceLaws.{found-allowed, not-found}
+use Rattle.trace.proofs.TraceLaws.{found-allowed, not-found, lies, part-drop}
 use Rattle.events.specs.declared.Read.{Read}
 use Rattle.events.specs.Events.{readings, partLines}
 use Rattle.events.specs.Reading.{Reads, eventsRead}
@@ -198,11 +198,14 @@ module _ (s : List ℕ) (t : Trace) (f : t ≡ traceOf full s) where
   marks-unfound what value n line v r e = unfound s what value n line (sym found-is ∙ ap told v) r e
 
   pub marks-found : (what what′ : List ℕ) (value value′ : List ℤ) (read : Read) (r : Marking)
-      → t .verdict ≡ verdict.Accepted → Reads (t .head) (eventsOf s t) read what what′ value value′ → r ≡ readMarking (t .head) (t .guards) read what′ value′
+      → t .verdict ≡ verdict.Accepted → Reads (t .head) (drop (t .from) (take (t .to) s)) read what what′ value value′ → r ≡ readMarking (t .head) (t .guards) read what′ value′
       → Marks s what value r what′ value′
   marks-found what what′ value value′ read r v d e =
-      subst (λ (x : Trace). Reads (x .head) (eventsOf s x) read what what′ value value′ → r ≡ readMarking (x .head) (x .guards) read what′ value′ → Marks s what value r what′ value′) (sym f)
-      (λ d′ e′. marks-read s (sym found-is ∙ ap told v) what what′ value value′ read d′ r e′) d e
+      subst (λ (x : Trace). Reads (x .head) (drop (x .from) (take (x .to) s)) read what what′ value value′ → r ≡ readMarking (x .head) (x .guards) read what′ value′ → Marks s what value r what′ value′) (sym f)
+      (λ d′ e′. marks-read s (sym found-is ∙ ap told v) what what′ value value′ read (subst (λ p. Reads (traceOf full s .head) p read what what′ value value′) (sym part) d′) r e′) d e
+    where
+      part : eventsOf s (traceOf full s) ≡ drop (traceOf full s .from) (take (traceOf full s .to) s)
+      part = unfold eventsOf in part-drop (traceOf full s .from) (traceOf full s .to) s (lies full s .start) (lies full s .end)
 
 -- the rows have room for what was read
 low : {X : Type 0} (p : Event → X) (es : List Event) (o o′ : List X) → o′ ≡ over (map p es) o → length es ≤ length o′

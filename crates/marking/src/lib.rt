@@ -89,7 +89,7 @@ pub fn mark(bytes: &[u8], what: &mut [u32; 2000], value: &mut [Value; 2000]) -> 
     let h = t.head;
     let from = t.from;
     let to = t.to;
-    let read = events::read_lines(h, &bytes[from..to], what, value);
+    let read = events::read_lines(h, &bytes[..to], from, what, value);
     let guards = t.guards;
     mark_read(h, guards, read, what, value)
 }

@@ -9,13 +9,13 @@ use Rattle.events.proofs.read_into.Statement.{statement}
 use Rattle.events.proofs.read_into.Tie as tie
 
 abbrev Inv-loop : tie.InvT-loop
-Inv-loop h part what₀ value₀ at₀ n₀ what value at n = Turn h part what₀ value₀ what value at n
+Inv-loop h s from what₀ value₀ at₀ n₀ what value at n = Turn h s from what₀ value₀ what value at n
 
 abbrev μ-loop : tie.MeasureT-loop
-μ-loop h part what₀ value₀ at₀ n₀ what value at n = length part - at
+μ-loop h s from what₀ value₀ at₀ n₀ what value at n = length s - at
 
 loop-holds : tie.Need-loop-holds Inv-loop μ-loop
-loop-holds c = turn-start (c .before .before .args .h) (now (c .before .before .args .part)) (now (c .before .before .args .what)) (now (c .before .before .args .value))
+loop-holds c = turn-start (c .before .before .args .h) (now (c .before .before .args .s)) (c .before .before .args .from) (now (c .before .before .args .what)) (now (c .before .before .args .value))
 
 line-at-requires : tie.Need-line-at-requires Inv-loop μ-loop
 line-at-requires c κs = search needs

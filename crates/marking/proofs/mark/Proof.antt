@@ -1,9 +1,9 @@
 -- `marking::mark` meets its contract: it reads the lines of the trace that it finds into the rows and marks these. Assumes nothing.
-use mathlib.Core.Path.{ap}
+use mathlib.Core.Path.{sym, ap}
 use native.Mathlib.Omega.{arith}
+use lib.Seq.{length-take-le}
 use denote.Ref.{now}
 use Rattle.trace.specs.declared.Trace.{Trace}
-use Rattle.trace.specs.Trace.{eventsOf}
 use Rattle.trace.proofs.TraceLaws.{lies}
 use Rattle.rules.specs.Limits.{full}
 use Rattle.marking.proofs.ReadRows.{marks-unfound, marks-found, reads-low}
@@ -29,20 +29,10 @@ returns c =
 enum-told : tie.Need-enum-told
 enum-told c = search needs
 
-sub-read-lines : tie.Need-sub-read-lines
-sub-read-lines c =
-    let w = lies full (now (c .before .before .before .before .before .args .bytes)) in
-    omega (arith, w .start, w .end, ap (λ (q : Trace). q .from) (c .before .before .before .find .ensures), ap (λ (q : Trace). q .to) (c .before .before .before .find .ensures))
-
-part-read-lines-start : tie.Need-part-read-lines-start
-part-read-lines-start c =
-    let w = lies full (now (c .before .before .before .before .before .args .bytes)) in
-    omega (arith, w .start, w .end, ap (λ (q : Trace). q .from) (c .before .before .before .find .ensures), ap (λ (q : Trace). q .to) (c .before .before .before .find .ensures))
-
-part-read-lines-end : tie.Need-part-read-lines-end
-part-read-lines-end c =
-    let w = lies full (now (c .before .before .before .before .before .args .bytes)) in
-    omega (arith, w .start, w .end, ap (λ (q : Trace). q .from) (c .before .before .before .find .ensures), ap (λ (q : Trace). q .to) (c .before .before .before .find .ensures))
+slice-aggregate-read-lines : tie.Need-slice-aggregate-read-lines
+slice-aggregate-read-lines c =
+    let s = now (c .before .before .before .before .before .before .args .bytes) in
+    sym (length-take-le _ s (omega (arith, lies full s .end, ap (λ (q : Trace). q .to) (c .before .before .before .before .find .ensures))))
 
 read-lines-requires : tie.Need-read-lines-requires
 read-lines-requires c κs = search needs
@@ -52,12 +42,11 @@ mark-read-requires c κs =
     reads-low _ _ _ _ _ _ _ (c .before .before .before .before .before .read-lines .ensures)
 
 returns-2 : tie.Need-returns-2
-unfolding eventsOf
 returns-2 c =
     let a = c .before .before .before .before .before .before .before .before .before .before .before .before .before .before .before .args in
     let t = c .before .before .before .before .before .before .before .before .before .before .before .before .before .find in
     let r = c .before .before .before .before .before .before .read-lines in
-    marks-found (now (a .bytes)) (t .result) (t .ensures) (now (a .what)) (r .last .1 .1 .0) (now (a .value)) (r .last .1 .1 .1 .0) (r .result) (c .mark-read .result) (c .before .before .before .before .before .before .before .before .before .before .before .enum-told .given .1) (r .ensures) (c .mark-read .ensures)
+    marks-found (now (a .bytes)) (t .result) (t .ensures) (now (a .what)) (r .last .1 .1 .1 .0) (now (a .value)) (r .last .1 .1 .1 .1 .0) (r .result) (c .mark-read .result) (c .before .before .before .before .before .before .before .before .before .before .before .enum-told .given .1) (r .ensures) (c .mark-read .ensures)
 
 pub mark-spec : {M : Type 1} → statement M
 mark-spec =
@@ -68,9 +57,7 @@ mark-spec =
     refuse-requires
     returns
     enum-told
-    sub-read-lines
-    part-read-lines-start
-    part-read-lines-end
+    slice-aggregate-read-lines
     read-lines-requires
     mark-read-requires
     returns-2)
