@@ -1,24 +1,20 @@
--- The sections by the position of their last K: what one event does to them.
+-- The sections by the position of their last K, and the current section of a thread after one event more.
 use Prim.Native.Nat.{ℕ, suc, _<_, _≤_}
 use native.Mathlib.Decide.{ℕ-discrete}
 use native.Mathlib.Omega.{arith}
-use mathlib.Core.Path.{_≡_, refl, sym, _∙_, ap, ap₂, subst}
+use mathlib.Core.Path.{_≡_, refl, sym, _∙_}
 use mathlib.Core.Logic.{ite}
 use mathlib.Core.Bool.{Bool, true, false, not, cond, _&&_, false≢true}
 use mathlib.Core.List.{List, [], _∷_}
-use lib.Dec.{eqb}
 use lib.IntN.{ℤ}
-use lib.ListN.{length, getD, set, length-set}
-use lib.Seq.{getD-set-same, getD-set-other, set-getD}
-use borrow.Author.Tests.{eq-eqb, ne-eqb}
+use borrow.Author.Tests.{ne-eqb}
 use Rattle.rules.specs.declared.Counts.{Counts}
 use Rattle.serial.specs.Events as E
 use Rattle.serial.specs.Lists.{All}
 use Rattle.serial.specs.Sections.{Section, opened, grown, raised, push, current, without}
-use Rattle.serial.proofs.Lines.{either, Falling}
-use Rattle.sections.specs.Order.{lineOf, entry}
-use Rattle.sections.specs.Entries.{entryCode}
-use Rattle.ordering.specs.Computed.Parts.{codeOf, bucket}
+use Rattle.serial.proofs.Lines.{either}
+use Rattle.sections.specs.Order.{lineOf}
+use Rattle.ordering.specs.Computed.Parts.{bucket}
 
 abbrev pub Below : ℕ → List (Section ℤ) → Type 0
 Below n ss = All (λ (r : Section ℤ). r .top < n) ss
@@ -49,32 +45,6 @@ module _ (hd : Counts) where
   unfolding bucket
   bucket-above [] n q l h = refl
   bucket-above (s ∷ ss) n q l h = rw (ne-eqb (s .top) q (λ e. omega (arith, e, l .0, h))) (bucket-above ss n q (l .1) h)
-
-  without-bucket : (t a b q : ℕ) (ss : List (Section ℤ)) → Falling ss → Latest t a b ss → bucket hd (without t ss) q ≡ cond (eqb (suc b) q) 0 (bucket hd ss q)
-  unfolding Latest Falling bucket without
-  without-bucket t a b q [] f h = absurd h
-  without-bucket t a b q (s ∷ ss) f h = step (ℕ-discrete (s .owner) t) h (ℕ-discrete (s .top) q) (without-bucket t a b q ss (f .1))
-    where
-      step : (d : Dec (s .owner ≡ t)) → either d ((lineOf hd (s .first) ≡ a) × (s .top ≡ suc b)) (Latest t a b ss) → Dec (s .top ≡ q)
-          → (Latest t a b ss → bucket hd (without t ss) q ≡ cond (eqb (suc b) q) 0 (bucket hd ss q))
-          → bucket hd (ite {C = List (Section ℤ)} d ss (s ∷ without t ss)) q ≡ cond (eqb (suc b) q) 0 (cond (eqb (s .top) q) (entryCode (entry hd s)) (bucket hd ss q))
-      step (yes p) h (yes e) r = rw (eq-eqb (suc b) q (sym (h .1) ∙ e)) (bucket-above ss (s .top) q (f .0) (omega (arith, e)))
-      step (yes p) h (no e) r = rw (ne-eqb (suc b) q (λ x. e (h .1 ∙ x)), ne-eqb (s .top) q e)
-      step (no p) h (yes e) r = rw (ne-eqb (suc b) q (λ x. omega (arith, x, e, latest-below t a b (s .top) ss (f .0) h)), eq-eqb (s .top) q e)
-      step (no p) h (no e) r = rw (ne-eqb (s .top) q e) (r h)
-
-  push-bucket : (t n a b q : ℕ) (e : E.Event ℤ) (ss : List (Section ℤ)) → Falling ss → Latest t a b ss → bucket hd (push t n e ss) q ≡ cond (eqb (suc b) q) (codeOf t a (lineOf hd n)) (bucket hd ss q)
-  unfolding Latest Falling bucket push
-  push-bucket t n a b q e [] f h = absurd h
-  push-bucket t n a b q e (s ∷ ss) f h = step (ℕ-discrete (s .owner) t) h (ℕ-discrete (s .top) q) (push-bucket t n a b q e ss (f .1))
-    where
-      step : (d : Dec (s .owner ≡ t)) → either d ((lineOf hd (s .first) ≡ a) × (s .top ≡ suc b)) (Latest t a b ss) → Dec (s .top ≡ q)
-          → (Latest t a b ss → bucket hd (push t n e ss) q ≡ cond (eqb (suc b) q) (codeOf t a (lineOf hd n)) (bucket hd ss q))
-          → bucket hd (ite {C = List (Section ℤ)} d (grown n e s ∷ ss) (s ∷ push t n e ss)) q ≡ cond (eqb (suc b) q) (codeOf t a (lineOf hd n)) (cond (eqb (s .top) q) (entryCode (entry hd s)) (bucket hd ss q))
-      step (yes p) h (yes x) r = rw (eq-eqb (suc b) q (sym (h .1) ∙ x), eq-eqb (s .top) q x) (ap₂ (λ t a. codeOf t a (lineOf hd n)) p (h .0))
-      step (yes p) h (no x) r = rw (ne-eqb (suc b) q (λ y. x (h .1 ∙ y)), ne-eqb (s .top) q x)
-      step (no p) h (yes x) r = rw (ne-eqb (suc b) q (λ y. omega (arith, y, x, latest-below t a b (s .top) ss (f .0) h)), eq-eqb (s .top) q x)
-      step (no p) h (no x) r = rw (ne-eqb (s .top) q x) (r h)
 
   current-first : (t n a b : ℕ) (ss : List (Section ℤ)) → Latest t a b ss → lineOf hd (current t n ss .first) ≡ a
   unfolding Latest current
@@ -150,41 +120,3 @@ module _ (hd : Counts) where
     latest-other true false u b c o h = latest-behind u b c (opened t (suc i) e) ss o h
     latest-other false true u b c o h = latest-push-other t u (suc i) b c e ss o h
     latest-other false false u b c o h = h
-
-    module _ (fall : Falling ss) (low : Below (suc i) ss) (S : List ℕ) (long : i < length S) (old : (p : ℕ) → p < i → getD S p 0 ≡ bucket hd ss (suc p)) where
-      place-last : (S₁ : List ℕ) (x : ℕ) (ss₁ : List (Section ℤ)) → i < length S₁ → ((p : ℕ) → p < i → getD S₁ p 0 ≡ bucket hd ss₁ (suc p)) → x ≡ bucket hd ss₁ (suc i)
-          → (p : ℕ) → p < suc i → getD (set S₁ i x) p 0 ≡ bucket hd ss₁ (suc p)
-      place-last S₁ x ss₁ l f g p h = go (ℕ-discrete p i)
-        where
-          go : Dec (p ≡ i) → getD (set S₁ i x) p 0 ≡ bucket hd ss₁ (suc p)
-          go (yes q) = subst (λ p. getD (set S₁ i x) p 0 ≡ bucket hd ss₁ (suc p)) (sym q) (getD-set-same S₁ i x 0 l ∙ g)
-          go (no q) = getD-set-other S₁ i p x 0 q ∙ f p (omega (arith, h, q))
-
-      -- what stands at j is changed
-      place-top : (y : ℕ) → j < i → (p : ℕ) → p < i → getD (set S j y) p 0 ≡ cond (eqb (suc j) (suc p)) y (bucket hd ss (suc p))
-      place-top y l p h = go (ℕ-discrete j p)
-        where
-          go : Dec (j ≡ p) → getD (set S j y) p 0 ≡ cond (eqb (suc j) (suc p)) y (bucket hd ss (suc p))
-          go (yes q) = rw (← q, eq-eqb (suc j) (suc j) refl) (getD-set-same S j y 0 (omega (arith, l, long)))
-          go (no q) = rw (ne-eqb (suc j) (suc p) (λ e. q (omega (arith, e)))) (getD-set-other S j p y 0 (λ e. q (sym e)) ∙ old p h)
-
-      pub buckets-after : (lock busy : Bool) → (busy ≡ true → Latest t a j ss) → (code : ℕ) → code ≡ codeOf t (cond (lock && not busy) line a) line
-          → (p : ℕ) → p < suc i → getD (set (set S j (cond busy (cond lock 0 code) (getD S j 0))) i (cond lock code 0)) p 0 ≡ bucket hd (shape lock busy t (suc i) e ss) (suc p)
-      unfolding bucket
-      buckets-after true true f code c =
-          let l : j < i = let z = latest-below t a j (suc i) ss low (f refl) in omega (arith, z) in
-          place-last (set S j 0) code (raised t (suc i) e (current t (suc i) ss) ∷ without t ss) (omega (arith, long, length-set S j 0))
-          (λ p h. place-top 0 l p h ∙ sym (without-bucket t a j (suc p) ss fall (f refl)) ∙ rw (ne-eqb (suc i) (suc p) (λ x. omega (arith, x, h))))
-          (c ∙ rw (eq-eqb (suc i) (suc i) refl) (ap₂ (λ x y. codeOf t x y) (sym (current-first t (suc i) a j ss (f refl))) at))
-      buckets-after true false f code c =
-          rw (set-getD S j 0)
-          (place-last S code (opened t (suc i) e ∷ ss) long
-          (λ p h. old p h ∙ rw (ne-eqb (suc i) (suc p) (λ x. omega (arith, x, h))))
-          (c ∙ rw (eq-eqb (suc i) (suc i) refl) (ap (λ x. codeOf t x x) at)))
-      buckets-after false true f code c =
-          let l : j < i = let z = latest-below t a j (suc i) ss low (f refl) in omega (arith, z) in
-          place-last (set S j code) 0 (push t (suc i) e ss) (omega (arith, long, length-set S j code))
-          (λ p h. place-top code l p h ∙ ap (λ x. cond (eqb (suc j) (suc p)) x (bucket hd ss (suc p))) (c ∙ ap (codeOf t a) at) ∙ sym (push-bucket t (suc i) a j (suc p) e ss fall (f refl)))
-          (sym (push-bucket t (suc i) a j (suc i) e ss fall (f refl) ∙ ap₂ (λ b x. cond b (codeOf t a (lineOf hd (suc i))) x) (ne-eqb (suc j) (suc i) (λ x. omega (arith, x, l))) (bucket-above ss (suc i) (suc i) low (omega arith))))
-      buckets-after false false f code c =
-          rw (set-getD S j 0) (place-last S 0 ss long old (sym (bucket-above ss (suc i) (suc i) low (omega arith))))

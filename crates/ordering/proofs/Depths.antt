@@ -79,25 +79,34 @@ module _ (h : Counts) (depths : List ℕ) (es : List Event) (D : Depths h depths
     abbrev is : ℕ → ℕ
     is l = depth u l (e ∷ es)
 
+    moved : isLockLetter k ≡ true → total n is + was p ≡ total n was + is p
+    moved q = total-moved n p was is (lock-in q) (λ l o. depth-other es k u p e r u l (λ _ x. o (sym x)))
+
+    at : is p ≡ cond (eqb k K) (suc (was p)) (cond (eqb k N) (pred (was p)) (was p))
+    unfolding levelAfter
+    at = depth-own es k u p e r
+
+    -- an N gives up one of them
+    one-less : eqb k K ≡ false → eqb k N ≡ true → suc (total n is) ≡ total n was
+    unfolding isLockLetter
+    one-less a c =
+        let x : is p ≡ pred (was p) = at ∙ ap₂ (λ y z. cond y (suc (was p)) (cond z (pred (was p)) (was p))) a c in
+        omega (arith, x, given-up c, moved (ap₂ (λ y z. y || z) a c))
+
     own : levelAfter (total n was) k ≡ total n is
     unfolding levelAfter isLockLetter
     own = by (eqb k K) refl (eqb k N) refl
       where
-        moved : isLockLetter k ≡ true → total n is + was p ≡ total n was + is p
-        moved q = total-moved n p was is (lock-in q) (λ l o. depth-other es k u p e r u l (λ _ x. o (sym x)))
-
-        at : is p ≡ cond (eqb k K) (suc (was p)) (cond (eqb k N) (pred (was p)) (was p))
-        at = depth-own es k u p e r
-
         by : (a : Bool) → eqb k K ≡ a → (b : Bool) → eqb k N ≡ b → cond a (suc (total n was)) (cond b (pred (total n was)) (total n was)) ≡ total n is
         by true a b c =
             let x : is p ≡ suc (was p) = at ∙ ap (λ y. cond y (suc (was p)) (cond (eqb k N) (pred (was p)) (was p))) a in
             omega (arith, x, moved (ap (λ y. y || eqb k N) a))
-        by false a true c =
-            let x : is p ≡ pred (was p) = at ∙ ap₂ (λ y z. cond y (suc (was p)) (cond z (pred (was p)) (was p))) a c in
-            let z : pred (total n was) ≡ total n is = omega (arith, x, given-up c, moved (ap₂ (λ y z. y || z) a c)) in
-            z
+        by false a true c = ap pred (sym (one-less a c))
         by false a false c = sym (total-same n was is (λ l _. depth-kept es k u p e r (ap₂ (λ y z. y || z) a c) u l))
+
+    -- a thread that gives up a lock holds something
+    pub gives-up : eqb k K ≡ false → eqb k N ≡ true → ltb 0 (getD depths u 0) ≡ true
+    gives-up a c = lt-ltb 0 (getD depths u 0) (omega (arith, D .totals u (r .thread-low), one-less a c))
 
     module _ {x : ℕ} (ex : x ≡ levelAfter (getD depths u 0) k) where
       total-is : x ≡ total n is

@@ -9,8 +9,8 @@ use mathlib.Core.List.{List, [], _∷_, map}
 use lib.Dec.{T, eqb, ltb}
 use lib.IntN.{ℤ}
 use lib.ListN.{length, getD, set, replicate, length-set, getD-replicate}
-use lib.Seq.{getD-set-same, getD-set-other}
-use borrow.Author.Tests.{ltb-false}
+use lib.Seq.{getD-set-same, getD-set-other, set-getD}
+use borrow.Author.Tests.{eq-eqb, ne-eqb, lt-ltb}
 use Rattle.rules.specs.declared.Event.{Event}
 use Rattle.rules.specs.declared.Counts.{Counts}
 use Rattle.rules.specs.declared.Kind.{Kind}
@@ -22,7 +22,7 @@ use Rattle.rules.specs.Words.{pending}
 use Rattle.rules.proofs.Laws.{some-none, or-false-left}
 use Rattle.serial.specs.Lists.{All}
 use Rattle.serial.specs.Sections as Q
-use Rattle.serial.specs.Sections.{Section}
+use Rattle.serial.specs.Sections.{Section, push}
 use Rattle.serial.proofs.Counted as H
 use Rattle.serial.proofs.Memory.{All-map}
 use Rattle.serial.proofs.Lines.{Falling, Placed, Traced, traced}
@@ -33,14 +33,14 @@ use Rattle.sections.specs.Refusals.{unfinished}
 use Rattle.sections.proofs.Valid.{Declared}
 use Rattle.sections.proofs.Cells.{length-view}
 use Rattle.sections.proofs.Ordered.{sections-same}
-use Rattle.ordering.specs.Computed.Parts.{Fits, past, levelAfter, codeOf, firstAfter, atTop, atEvent, topAfter, bucket, Filled}
+use Rattle.ordering.specs.Computed.Parts.{Fits, past, levelAfter, codeOf, firstAfter, endAfter, bucket, Filled}
 use Rattle.rules.proofs.Bounds.{first-line-high}
 use Rattle.records.specs.Records.{placeIn, eventAt}
 use Rattle.ordering.proofs.Rows.{past-length, row-few, known-past, legal-past}
 use Rattle.ordering.proofs.Scanned.{Reads}
-use Rattle.ordering.proofs.Depths.{Depths, depths-start, some-held, depth-low, depths-after, depths-kept, held-before, other-holds}
-use Rattle.ordering.proofs.Buckets.{Below, Latest, shape, bucket-above, latest-own, latest-other, buckets-after}
-use Rattle.ordering.proofs.Alike.{Alike, alike-below, alike-falling, alike-buckets, alike-lock, alike-other}
+use Rattle.ordering.proofs.Depths.{Depths, depths-start, some-held, depth-low, depths-after, depths-kept, gives-up, held-before, other-holds}
+use Rattle.ordering.proofs.Buckets.{Below, Latest, shape, latest-own, latest-other}
+use Rattle.ordering.proofs.Shown.{Off, shown, shown-all, shown-above, kept-shown, lock-shown, end-shown}
 
 -- ---- the sections after one event more
 
@@ -81,18 +81,6 @@ nobody : (h : Counts) (es : List Event) → unfinished h es ≡ false → (u : �
 unfolding unfinished
 nobody h es fin u l = or-false-left (holdsSome h u es) (some (h .variables) (λ v. pending u v es)) (some-none (h .threads) (λ t. holdsSome h t es || some (h .variables) (λ v. pending t v es)) fin u l)
 
-level-none : (k : ℕ) → eqb k K ≡ false → levelAfter 0 k ≡ 0
-unfolding levelAfter
-level-none k n = rw n (go (eqb k N))
-  where
-    go : (b : Bool) → cond b (pred 0) 0 ≡ 0
-    go true = refl
-    go false = refl
-
-no-lock : (k : ℕ) → isLockLetter k ≡ false → eqb k K ≡ false
-unfolding isLockLetter
-no-lock k off = or-false-left (eqb k K) (eqb k N) off
-
 zeros : (n u : ℕ) → _≡_ {A = ℕ} (getD (replicate n 0) u 0) 0
 zeros zero u = refl
 zeros (suc n) zero = refl
@@ -120,7 +108,6 @@ module _ (h : Counts) (ws : List ℕ) (xs : List ℤ) where
   abbrev ev : ℕ → Event
   ev = eventAt h ws xs
 
-  -- `marks` are the sections of the locks and unlocks alone
   pub record Filling (scratch depths first top : List ℕ) (i : ℕ) : Type 0 where
     pub upto : i ≤ length ws
     pub depths-are : Depths h depths (past ev i)
@@ -129,13 +116,11 @@ module _ (h : Counts) (ws : List ℕ) (xs : List ℤ) where
     pub top-long : length top ≡ 8
     pub firsts : (t : ℕ) → t < 8 → getD first t 0 < 4096
     pub tops : (t : ℕ) → t < 8 → getD top t 0 ≤ i
-    pub marks : List (Section ℤ)
-    pub alike : Alike (λ u. ltb 0 (getD depths u 0)) (sections h (past ev i)) marks
-    pub buckets : (p : ℕ) → p < i → getD scratch p 0 ≡ bucket h marks (suc p)
-    pub latest : (t : ℕ) → t < 8 → holdsSome h t (past ev i) ≡ true → Latest h t (getD first t 0) (getD top t 0) marks
+    pub written : (p : ℕ) → p < i → getD scratch p 0 ≡ shown h (λ u. ltb 0 (getD depths u 0)) (sections h (past ev i)) (suc p)
+    pub latest : (t : ℕ) → t < 8 → holdsSome h t (past ev i) ≡ true → Latest h t (getD first t 0) (getD top t 0) (sections h (past ev i))
 
   pub filling-start : (scratch : List ℕ) → Filling scratch (replicate 8 0) (replicate 8 0) (replicate 8 0) 0
-  unfolding past sections Alike
+  unfolding past
   filling-start scratch = record {
     upto = omega arith;
     depths-are = depths-start h;
@@ -144,16 +129,14 @@ module _ (h : Counts) (ws : List ℕ) (xs : List ℤ) where
     top-long = refl;
     firsts = λ t ht. rw (getD-replicate {A = ℕ} 8 t 0 0 ht) (omega arith);
     tops = λ t ht. rw (getD-replicate {A = ℕ} 8 t 0 0 ht) (omega arith);
-    marks = [];
-    alike = tt;
-    buckets = λ p q. absurd (omega (arith, q));
+    written = λ p q. absurd (omega (arith, q));
     latest = λ t ht q. absurd (false≢true (sym (ap (ltb 0) (getD-replicate {A = ℕ} 8 t 0 0 ht)) ∙ some-held h (replicate 8 0) [] (depths-start h) t ht ∙ q));
   }
 
   pub filling-end : {scratch depths first top : List ℕ} {i : ℕ} → Filling scratch depths first top i → h .threads ≤ 8 → unfinished h (past ev (length ws)) ≡ false → length ws ≤ i → Filled h ws xs scratch
   filling-end {scratch} {depths} {i = i} F low fin e =
       let q : i ≡ length ws = omega (arith, e, F .upto) in
-      record { buckets = λ p l. F .buckets p (omega (arith, l, q)) ∙ alike-buckets h (λ u. ltb 0 (getD depths u 0)) (none q) (sections h (past ev i)) (F .marks) (F .alike) (suc p) ∙ ap (λ j. bucket h (sections h (past ev j)) (suc p)) q }
+      record { buckets = λ p l. F .written p (omega (arith, l, q)) ∙ shown-all h (suc p) (λ u. ltb 0 (getD depths u 0)) (none q) (sections h (past ev i)) ∙ ap (λ j. bucket h (sections h (past ev j)) (suc p)) q }
     where
       -- nobody holds anything
       none : i ≡ length ws → (u : ℕ) → ltb 0 (getD depths u 0) ≡ false
@@ -201,14 +184,6 @@ module _ {h : Counts} {ws : List ℕ} {xs : List ℤ} {scratch depths first top 
   pub depth-fits : getD depths t 0 < 65536
   depth-fits = depth-low h depths es (F .depths-are) t (r .thread-low) (omega (arith, past-length (eventAt h ws xs) i, early))
 
-  pub first-fits : {a line : ℕ} → line ≡ lineAfter h i → a ≡ firstAfter k busy (getD first t 0) line → a < 4096
-  unfolding firstAfter
-  first-fits {a} {line} el ea = go (eqb k K && not busy) ea
-    where
-      go : (c : Bool) → a ≡ cond c line (getD first t 0) → a < 4096
-      go true q = omega (arith, q, el, early, first-line-high h)
-      go false q = omega (arith, q, F .firsts t (r .thread-low))
-
   abbrev b : ℕ → Bool
   b u = ltb 0 (getD depths u 0)
 
@@ -218,13 +193,7 @@ module _ {h : Counts} {ws : List ℕ} {xs : List ℤ} {scratch depths first top 
   P : Placing i (sections h es)
   P = subst (λ n. Placing n (sections h es)) (past-length (eventAt h ws xs) i) (placing h es (known-past h ws xs (u .fits) i (F .upto)))
 
-  falling : Falling (F .marks)
-  falling = alike-falling b (sections h es) (F .marks) (F .alike) (P .falling)
-
-  below : Below (suc i) (F .marks)
-  below = alike-below b (suc i) (sections h es) (F .marks) (F .alike) (P .below)
-
-  own : busy ≡ true → Latest h t (getD first t 0) (getD top t 0) (F .marks)
+  own : busy ≡ true → Latest h t (getD first t 0) (getD top t 0) (sections h es)
   own q = F .latest t (r .thread-low) (held-was ∙ q)
 
   shaped : sections h (e ∷ es) ≡ shape (eqb k K) busy t (suc i) (view e) (sections h es)
@@ -234,117 +203,160 @@ module _ {h : Counts} {ws : List ℕ} {xs : List ℤ} {scratch depths first top 
   unfolding past
   declared-thread = subst (λ (v : ℕ). v < h .threads) (r .whose) (known-past h ws xs (u .fits) (suc i) (u .more) .0 .0)
 
-  -- neither a lock nor an unlock: the place is 0
-  pub filling-other : isLockLetter k ≡ false → {n : ℕ} → length scratch ≡ n → Filling h ws xs (set scratch i 0) depths first top (i + 1) × (length (set scratch i 0) ≡ n)
-  unfolding past
-  filling-other off l = (
+  line-is : lineAfter h i ≡ lineOf h (suc i)
+  line-is = omega arith
+
+  -- the event's place is 0
+  zeroed : (p : ℕ) → p < suc i → getD (set scratch i 0) p 0 ≡ shown h b (sections h es) (suc p)
+  zeroed p q = go (ℕ-discrete p i)
+    where
+      go : Dec (p ≡ i) → getD (set scratch i 0) p 0 ≡ shown h b (sections h es) (suc p)
+      go (yes z) = subst (λ p. getD (set scratch i 0) p 0 ≡ shown h b (sections h es) (suc p)) (sym z) (getD-set-same scratch i 0 0 (omega (arith, early, u .room)) ∙ sym (shown-above h (suc i) b (suc i) (sections h es) (P .below) (omega arith)))
+      go (no z) = getD-set-other scratch i p 0 0 z ∙ F .written p (omega (arith, q, z))
+
+  -- the current sections, where those of the other threads stay
+  latest-after : (first′ top′ : List ℕ) → getD first′ t 0 ≡ cond (eqb k K && not busy) (lineAfter h i) (getD first t 0) → getD top′ t 0 ≡ cond (eqb k K) i (getD top t 0)
+      → ((v : ℕ) → (v ≡ t → ⊥) → (getD first′ v 0 ≡ getD first v 0) × (getD top′ v 0 ≡ getD top v 0))
+      → (v : ℕ) → v < 8 → holdsSome h v (e ∷ es) ≡ true → Latest h v (getD first′ v 0) (getD top′ v 0) (sections h (e ∷ es))
+  latest-after first′ top′ ef et o v hv q = subst (Latest h v (getD first′ v 0) (getD top′ v 0)) (sym shaped) (go (ℕ-discrete v t))
+    where
+      go : Dec (v ≡ t) → Latest h v (getD first′ v 0) (getD top′ v 0) (shape (eqb k K) busy t (suc i) (view e) (sections h es))
+      go (yes z) =
+          subst (λ (v : ℕ). Latest h v (getD first′ v 0) (getD top′ v 0) (shape (eqb k K) busy t (suc i) (view e) (sections h es))) (sym z)
+          (rw (ef, et)
+          (latest-own h i t (getD first t 0) (getD top t 0) (lineAfter h i) (view e) (sections h es) line-is (eqb k K) busy own
+          (λ n. held-before h depths es (F .depths-are) k t (placeIn (getD ws i 0)) e r next-legal n (subst (λ v. holdsSome h v (e ∷ es) ≡ true) z q))))
+      go (no z) =
+          rw (o v z .0, o v z .1)
+          (latest-other h i t (getD first t 0) (getD top t 0) (lineAfter h i) (view e) (sections h es) line-is (eqb k K) busy v (getD first v 0) (getD top v 0) (λ x. z (sym x))
+          (F .latest v hv (sym (other-holds h es k t (placeIn (getD ws i 0)) e r v (λ x. z (sym x))) ∙ q)))
+
+  -- ---- another event than a lock or an unlock
+
+  pub filling-other : eqb k K ≡ false → eqb k N ≡ false → {n : ℕ} → length scratch ≡ n → Filling h ws xs (set scratch i 0) depths first top (i + 1) × (length (set scratch i 0) ≡ n)
+  unfolding past isLockLetter
+  filling-other a c l = (
     rw (add-one i) (record {
       upto = u .more;
-      depths-are = kept;
+      depths-are = depths-kept h depths es (F .depths-are) k t (placeIn (getD ws i 0)) e r next-legal (ap₂ (λ x y. x || y) a c);
       idle = F .idle;
       first-long = F .first-long;
       top-long = F .top-long;
       firsts = F .firsts;
       tops = λ v hv. omega (arith, F .tops v hv);
-      marks = F .marks;
-      alike =
-          subst (λ (l : List (Section ℤ)). Alike b l (F .marks)) (sym (shaped ∙ ap (λ (c : Bool). shape c busy t (suc i) (view e) (sections h es)) (no-lock k off)))
-          (alike-other t (suc i) (view e) h (getD first t 0) (getD top t 0) b busy refl (sections h es) (F .marks) own (F .alike));
-      buckets = new;
-      latest = λ v hv q. F .latest v hv (sym (some-held h depths es (F .depths-are) v hv) ∙ some-held h depths (e ∷ es) kept v hv ∙ q);
+      written = λ p q. zeroed p q ∙ sym (ap (λ ss. shown h b ss (suc p)) (shaped ∙ ap (λ x. shape x busy t (suc i) (view e) (sections h es)) a) ∙ kept-shown h (suc p) t (suc i) (view e) b b (λ v z. refl) busy refl refl (sections h es));
+      latest = latest-after first top (rw a refl) (rw a refl) (λ v z. (refl, refl));
     }),
     length-set scratch i 0 ∙ l,
   )
-    where
-      kept : Depths h depths (e ∷ es)
-      kept = depths-kept h depths es (F .depths-are) k t (placeIn (getD ws i 0)) e r next-legal off
 
-      new : (p : ℕ) → p < suc i → getD (set scratch i 0) p 0 ≡ bucket h (F .marks) (suc p)
-      new p q = go (ℕ-discrete p i)
-        where
-          go : Dec (p ≡ i) → getD (set scratch i 0) p 0 ≡ bucket h (F .marks) (suc p)
-          go (yes z) = subst (λ p. getD (set scratch i 0) p 0 ≡ bucket h (F .marks) (suc p)) (sym z) (getD-set-same scratch i 0 0 (omega (arith, early, u .room)) ∙ sym (bucket-above h (F .marks) (suc i) (suc i) below (omega arith)))
-          go (no z) = getD-set-other scratch i p 0 0 z ∙ F .buckets p (omega (arith, q, z))
+  -- ---- a lock or an unlock
 
-  module _ {line a code y x up z : ℕ} (el : line ≡ lineAfter h i) (ea : a ≡ firstAfter k busy (getD first t 0) line) (ec : code ≡ codeOf t a line)
-      (ey : y ≡ atTop k busy (getD scratch (getD top t 0) 0) code) (ex : x ≡ atEvent k code) (eu : up ≡ topAfter k i (getD top t 0)) (ez : z ≡ levelAfter (getD depths t 0) k) where
-    abbrev marked : List (Section ℤ)
-    marked = shape (eqb k K) busy t (suc i) (view e) (F .marks)
+  module _ {z : ℕ} (ez : z ≡ levelAfter (getD depths t 0) k) where
+    abbrev after : ℕ → Bool
+    after v = ltb 0 (getD (set depths t z) v 0)
 
-    at-line : line ≡ lineOf h (suc i)
-    at-line = el ∙ omega arith
+    off : Off t b after
+    off v o = ap (ltb 0) (sym (getD-set-other depths t v z 0 o))
 
-    new-buckets : (p : ℕ) → p < suc i → getD (set (set scratch (getD top t 0) y) i x) p 0 ≡ bucket h marked (suc p)
-    unfolding atTop atEvent firstAfter
-    new-buckets p q =
-        ap₂ (λ y x. getD (set (set scratch (getD top t 0) y) i x) p 0) ey ex
-        ∙ buckets-after h i t (getD first t 0) (getD top t 0) line (view e) (F .marks) at-line falling below scratch (omega (arith, early, u .room)) (F .buckets) (eqb k K) busy own code (ec ∙ ap (λ a. codeOf t a line) ea) p q
+    after-own : after t ≡ ltb 0 z
+    after-own = ap (ltb 0) (getD-set-same depths t z 0 (omega (arith, r .thread-low, F .depths-are .long)))
 
-    new-first : (u : ℕ) → u < 8 → getD (set first t a) u 0 < 4096
-    new-first u hu = go (ℕ-discrete u t)
-      where
-        go : Dec (u ≡ t) → getD (set first t a) u 0 < 4096
-        go (yes q) = rw (q, getD-set-same first t a 0 (omega (arith, r .thread-low, F .first-long))) (first-fits el ea)
-        go (no q) = rw (getD-set-other first t u a 0 q) (F .firsts u hu)
+    new-depths : Depths h (set depths t z) (e ∷ es)
+    new-depths = depths-after h depths es (F .depths-are) k t (placeIn (getD ws i 0)) e r next-legal ez
 
-    up-low : up ≤ i
-    unfolding topAfter
-    up-low = go (eqb k K) eu
-      where
-        go : (c : Bool) → up ≡ cond c i (getD top t 0) → up ≤ i
-        go true q = omega (arith, q)
-        go false q = omega (arith, q, F .tops t (r .thread-low))
+    new-idle : (v : ℕ) → h .threads ≤ v → getD (set depths t z) v 0 ≡ 0
+    new-idle v q = getD-set-other depths t v z 0 (λ o. omega (arith, o, q, declared-thread)) ∙ F .idle v q
 
-    new-top : (u : ℕ) → u < 8 → getD (set top t up) u 0 ≤ suc i
-    new-top u hu = go (ℕ-discrete u t)
-      where
-        go : Dec (u ≡ t) → getD (set top t up) u 0 ≤ suc i
-        go (yes q) = rw (q, getD-set-same top t up 0 (omega (arith, r .thread-low, F .top-long))) (omega (arith, up-low))
-        go (no q) = rw (getD-set-other top t u up 0 q) (omega (arith, F .tops u hu))
-
-    new-latest : (u : ℕ) → u < 8 → holdsSome h u (e ∷ es) ≡ true → Latest h u (getD (set first t a) u 0) (getD (set top t up) u 0) marked
-    unfolding firstAfter topAfter
-    new-latest u hu q = go (ℕ-discrete t u)
-      where
-        mine : holdsSome h t (e ∷ es) ≡ true → Latest h t a up marked
-        mine q =
-            rw (ea, eu)
-            (latest-own h i t (getD first t 0) (getD top t 0) line (view e) (F .marks) at-line (eqb k K) busy own (λ n. held-before h depths es (F .depths-are) k t (placeIn (getD ws i 0)) e r next-legal n q))
-
-        go : Dec (t ≡ u) → Latest h u (getD (set first t a) u 0) (getD (set top t up) u 0) marked
-        go (yes o) =
-            subst (λ u. Latest h u (getD (set first t a) u 0) (getD (set top t up) u 0) marked) o
-            (rw (getD-set-same first t a 0 (omega (arith, r .thread-low, F .first-long)), getD-set-same top t up 0 (omega (arith, r .thread-low, F .top-long)))
-            (mine (subst (λ u. holdsSome h u (e ∷ es) ≡ true) (sym o) q)))
-        go (no o) =
-            rw (getD-set-other first t u a 0 (λ x. o (sym x)), getD-set-other top t u up 0 (λ x. o (sym x)))
-            (latest-other h i t (getD first t 0) (getD top t 0) line (view e) (F .marks) at-line (eqb k K) busy u (getD first u 0) (getD top u 0) o
-            (F .latest u hu (sym (other-holds h es k t (placeIn (getD ws i 0)) e r u o) ∙ q)))
-
-    -- an unlock by a thread that holds nothing leaves it so
-    stays : eqb k K ≡ false → busy ≡ false → ltb 0 (getD (set depths t z) t 0) ≡ false
-    stays n q =
-        let d : getD depths t 0 ≡ 0 = let l = ltb-false 0 (getD depths t 0) q in omega (arith, l) in
-        ap (ltb 0) (getD-set-same depths t z 0 (omega (arith, r .thread-low, F .depths-are .long)) ∙ ez ∙ ap (λ (j : ℕ). levelAfter j k) d ∙ level-none k n)
-
-    pub filling-more : {n : ℕ} → length scratch ≡ n
-        → Filling h ws xs (set (set scratch (getD top t 0) y) i x) (set depths t z) (set first t a) (set top t up) (i + 1) × (length (set (set scratch (getD top t 0) y) i x) ≡ n)
-    unfolding past
-    filling-more l = (
+    -- a lock
+    pub filling-lock : eqb k K ≡ true → {a : ℕ} → a ≡ firstAfter (getD depths t 0) (getD first t 0) (lineAfter h i) → {n : ℕ} → length scratch ≡ n
+        → Filling h ws xs (set scratch i 0) (set depths t z) (set first t a) (set top t i) (i + 1) × (length (set scratch i 0) ≡ n)
+    unfolding past levelAfter firstAfter
+    filling-lock c {a} ea l = (
       rw (add-one i) (record {
         upto = u .more;
-        depths-are = depths-after h depths es (F .depths-are) k t (placeIn (getD ws i 0)) e r next-legal ez;
-        idle = λ v q. getD-set-other depths t v z 0 (λ o. omega (arith, o, q, declared-thread)) ∙ F .idle v q;
+        depths-are = new-depths;
+        idle = new-idle;
         first-long = length-set first t a ∙ F .first-long;
-        top-long = length-set top t up ∙ F .top-long;
-        firsts = new-first;
-        tops = new-top;
-        marks = marked;
-        alike =
-            subst (λ (l : List (Section ℤ)). Alike (λ v. ltb 0 (getD (set depths t z) v 0)) l marked) (sym shaped)
-            (alike-lock t (suc i) (view e) b (λ v. ltb 0 (getD (set depths t z) v 0)) (λ v o. ap (ltb 0) (sym (getD-set-other depths t v z 0 o))) (eqb k K) busy refl stays (sections h es) (F .marks) (F .alike));
-        buckets = new-buckets;
-        latest = new-latest;
+        top-long = length-set top t i ∙ F .top-long;
+        firsts = λ v hv. new-first v hv (ℕ-discrete v t);
+        tops = λ v hv. new-top v hv (ℕ-discrete v t);
+        written = λ p q. zeroed p q ∙ sym (ap (λ ss. shown h after ss (suc p)) (shaped ∙ ap (λ x. shape x busy t (suc i) (view e) (sections h es)) c) ∙ lock-shown h (suc p) t (suc i) (view e) b after off busy refl held (sections h es));
+        latest = latest-after (set first t a) (set top t i) (at-first ∙ ea ∙ rw c (idle-or (getD depths t 0))) (at-top ∙ rw c refl) (λ v o. (getD-set-other first t v a 0 o, getD-set-other top t v i 0 o));
       }),
-      length-set (set scratch (getD top t 0) y) i x ∙ length-set scratch (getD top t 0) y ∙ l,
+      length-set scratch i 0 ∙ l,
     )
+      where
+        at-first : getD (set first t a) t 0 ≡ a
+        at-first = getD-set-same first t a 0 (omega (arith, r .thread-low, F .first-long))
+
+        at-top : getD (set top t i) t 0 ≡ i
+        at-top = getD-set-same top t i 0 (omega (arith, r .thread-low, F .top-long))
+
+        held : after t ≡ true
+        held = after-own ∙ ap (ltb 0) (ez ∙ ap (λ x. cond x (suc (getD depths t 0)) (cond (eqb k N) (pred (getD depths t 0)) (getD depths t 0))) c) ∙ lt-ltb 0 (suc (getD depths t 0)) (omega arith)
+
+        idle-or : (d : ℕ) → cond (eqb d 0) (lineAfter h i) (getD first t 0) ≡ cond (true && not (ltb 0 d)) (lineAfter h i) (getD first t 0)
+        idle-or zero = refl
+        idle-or (suc d) = rw (ne-eqb (suc d) 0 (λ x. omega (arith, x)), lt-ltb 0 (suc d) (omega arith)) refl
+
+        low : a < 4096
+        low = go (eqb (getD depths t 0) 0) ea
+          where
+            go : (x : Bool) → a ≡ cond x (lineAfter h i) (getD first t 0) → a < 4096
+            go true q = omega (arith, q, early, first-line-high h)
+            go false q = omega (arith, q, F .firsts t (r .thread-low))
+
+        new-first : (v : ℕ) → v < 8 → Dec (v ≡ t) → getD (set first t a) v 0 < 4096
+        new-first v hv (yes o) = rw (o, at-first) low
+        new-first v hv (no o) = rw (getD-set-other first t v a 0 o) (F .firsts v hv)
+
+        new-top : (v : ℕ) → v < 8 → Dec (v ≡ t) → getD (set top t i) v 0 ≤ suc i
+        new-top v hv (yes o) = rw (o, at-top) (omega arith)
+        new-top v hv (no o) = rw (getD-set-other top t v i 0 o) (omega (arith, F .tops v hv))
+
+    -- an unlock
+    module _ (c : eqb k K ≡ false) (m : eqb k N ≡ true) where
+      held : busy ≡ true
+      held = gives-up h depths es (F .depths-are) k t (placeIn (getD ws i 0)) e r next-legal c m
+
+      pub filling-unlock : {code y : ℕ} → code ≡ codeOf t (getD first t 0) (lineAfter h i) → y ≡ endAfter z (getD (set scratch i 0) (getD top t 0) 0) code → {n : ℕ} → length scratch ≡ n
+          → Filling h ws xs (set (set scratch i 0) (getD top t 0) y) (set depths t z) first top (i + 1) × (length (set (set scratch i 0) (getD top t 0) y) ≡ n)
+      unfolding past endAfter
+      filling-unlock {code} {y} ec ey l = (
+        rw (add-one i) (record {
+          upto = u .more;
+          depths-are = new-depths;
+          idle = new-idle;
+          first-long = F .first-long;
+          top-long = F .top-long;
+          firsts = F .firsts;
+          tops = λ v hv. omega (arith, F .tops v hv);
+          written = λ p q. subst (λ ss. getD (set (set scratch i 0) (getD top t 0) y) p 0 ≡ shown h after ss (suc p)) (sym pushed) (by z refl p q);
+          latest = latest-after first top (rw c refl) (rw c refl) (λ v z. (refl, refl));
+        }),
+        length-set (set scratch i 0) (getD top t 0) y ∙ length-set scratch i 0 ∙ l,
+      )
+        where
+          pushed : sections h (e ∷ es) ≡ push t (suc i) (view e) (sections h es)
+          pushed = shaped ∙ ap₂ (λ x y. shape x y t (suc i) (view e) (sections h es)) c held
+
+          here : (p : ℕ) → getD (set (set scratch i 0) (getD top t 0) y) p 0 ≡ cond (eqb (suc (getD top t 0)) (suc p)) y (getD (set scratch i 0) p 0)
+          here p = go (ℕ-discrete p (getD top t 0))
+            where
+              go : Dec (p ≡ getD top t 0) → getD (set (set scratch i 0) (getD top t 0) y) p 0 ≡ cond (eqb (suc (getD top t 0)) (suc p)) y (getD (set scratch i 0) p 0)
+              go (yes o) =
+                  subst (λ p. getD (set (set scratch i 0) (getD top t 0) y) p 0 ≡ cond (eqb (suc (getD top t 0)) (suc p)) y (getD (set scratch i 0) p 0)) (sym o)
+                  (rw (eq-eqb (suc (getD top t 0)) (suc (getD top t 0)) refl) (getD-set-same (set scratch i 0) (getD top t 0) y 0 (omega (arith, length-set scratch i 0, top-in))))
+              go (no o) = rw (ne-eqb (suc (getD top t 0)) (suc p) (λ q. o (omega (arith, q)))) (getD-set-other (set scratch i 0) (getD top t 0) p y 0 o)
+
+          by : (d : ℕ) → z ≡ d → (p : ℕ) → p < suc i → getD (set (set scratch i 0) (getD top t 0) y) p 0 ≡ shown h after (push t (suc i) (view e) (sections h es)) (suc p)
+          by zero w p q =
+              here p
+              ∙ ap₂ (λ x v. cond (eqb (suc (getD top t 0)) (suc p)) x v) (ey ∙ ap (λ d. cond (eqb d 0) code (getD (set scratch i 0) (getD top t 0) 0)) w ∙ ec ∙ ap (codeOf t (getD first t 0)) line-is) (zeroed p q)
+              ∙ sym (end-shown h (suc p) t (suc i) (view e) (getD first t 0) (getD top t 0) b after off held (after-own ∙ ap (ltb 0) w) (sections h es) (P .falling) (own held))
+          by (suc d) w p q =
+              ap (λ x. getD (set (set scratch i 0) (getD top t 0) x) p 0) (ey ∙ ap (λ x. cond x code (getD (set scratch i 0) (getD top t 0) 0)) (ap (λ d. eqb d 0) w ∙ ne-eqb (suc d) 0 (λ x. omega (arith, x))))
+              ∙ ap (λ l. getD l p 0) (set-getD (set scratch i 0) (getD top t 0) 0)
+              ∙ zeroed p q
+              ∙ sym (kept-shown h (suc p) t (suc i) (view e) b after off true held (after-own ∙ ap (ltb 0) w ∙ lt-ltb 0 (suc d) (omega arith)) (sections h es))

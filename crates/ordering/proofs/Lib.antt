@@ -7,7 +7,7 @@ pub mod Late
 pub mod Rows
 pub mod Denying
 pub mod Buckets
-pub mod Alike
+pub mod Shown
 pub mod Filling
 pub mod Listing
 pub mod Answering

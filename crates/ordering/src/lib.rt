@@ -10,7 +10,7 @@ ghost use Rattle.rules.specs.Rules.{some};
 ghost use Rattle.records.specs.Records.{eventAt, rowEvents};
 ghost use Rattle.sections.specs.Refusals.{unfinished, denial};
 ghost use Rattle.ordering.specs.Answer.{guardOf, answerFor, entriesFor, Given};
-ghost use Rattle.ordering.specs.Computed.Parts.{Fits, past, guardCell, underIn, levelAfter, pendingAfter, lateAfter, pendingIn, unfinishedIn, toldAs, codeOf, firstAfter, atTop, atEvent, topAfter, Filled, unlessZero, nonzero, Put, Orders, Written};
+ghost use Rattle.ordering.specs.Computed.Parts.{Fits, past, guardCell, underIn, levelAfter, pendingAfter, lateAfter, pendingIn, unfinishedIn, toldAs, codeOf, firstAfter, endAfter, Filled, unlessZero, nonzero, Put, Orders, Written};
 ghost use Rattle.ordering.specs.Traces.{OrdersTrace};
 use marking::Marking;
 use rules::Counts;
@@ -165,31 +165,18 @@ fn encode(t: usize, a: usize, b: usize) -> u64
     t as u64 * 16777216 + b as u64 * 4096 + a as u64
 }
 
-fn first_after(k: u8, busy: bool, a: usize, b: usize) -> usize
-    ensures { λ r. ⌜ r ≡ firstAfter k busy a b ⌝ }
+// The first line of a section after a K in line b.
+fn first_after(depth: u32, a: usize, b: usize) -> usize
+    ensures { λ r. ⌜ r ≡ firstAfter depth a b ⌝ }
 {
-    if (k == b'K') & !busy { b } else { a }
+    if depth == 0 { b } else { a }
 }
 
-fn at_top(k: u8, busy: bool, x: u64, code: u64) -> u64
-    ensures { λ r. ⌜ r ≡ atTop k busy x code ⌝ }
+// A section is written down when its thread gives up its last lock.
+fn end_after(depth: u32, x: u64, code: u64) -> u64
+    ensures { λ r. ⌜ r ≡ endAfter depth x code ⌝ }
 {
-    if !busy {
-        return x;
-    }
-    if k == b'K' { 0 } else { code }
-}
-
-fn at_event(k: u8, code: u64) -> u64
-    ensures { λ r. ⌜ r ≡ atEvent k code ⌝ }
-{
-    if k == b'K' { code } else { 0 }
-}
-
-fn top_after(k: u8, i: usize, j: usize) -> usize
-    ensures { λ r. ⌜ r ≡ topAfter k i j ⌝ }
-{
-    if k == b'K' { i } else { j }
+    if depth == 0 { code } else { x }
 }
 
 // The second pass: each section at the index of its last K, 0 elsewhere. Events other than K and N are passed over.
@@ -206,23 +193,23 @@ fn fill(h: Counts, what: &[u32], value: &[Value], scratch: &mut [u64])
     while i < what.len() {
         let w = what[i];
         let k = records::letter_in(w);
-        if rules::is_lock_letter(k) {
-            let t = records::thread_in(w);
+        let t = records::thread_in(w);
+        let line = rules::line_after(h, i as u32);
+        scratch[i] = 0;
+        if k == b'K' {
             let depth = depths[t];
-            let b = 0 < depth;
-            let j = top[t];
-            let x = scratch[j];
-            let line = rules::line_after(h, i as u32);
-            let a = first_after(k, b, first[t], line);
-            let code = encode(t, a, line);
-            scratch[j] = at_top(k, b, x, code);
-            scratch[i] = at_event(k, code);
-            first[t] = a;
-            top[t] = top_after(k, i, j);
+            first[t] = first_after(depth, first[t], line);
+            top[t] = i;
             depths[t] = level_after(depth, k);
             i += 1;
+        } else if k == b'N' {
+            let depth = level_after(depths[t], k);
+            let j = top[t];
+            let code = encode(t, first[t], line);
+            scratch[j] = end_after(depth, scratch[j], code);
+            depths[t] = depth;
+            i += 1;
         } else {
-            scratch[i] = 0;
             i += 1;
         }
     }

@@ -1,14 +1,15 @@
 -- `ordering::fill` meets its contract: one turn of the loop is one event more. Assumes nothing.
 use Prim.Native.Nat.{_-_}
 use native.Mathlib.Omega.{arith}
-use mathlib.Core.Path.{_≡_, refl, sym, _∙_}
-use lib.ListN.{length, getD, length-set}
+use mathlib.Core.Path.{_≡_, refl, _∙_, ap}
+use lib.ListN.{length, length-set}
 use denote.Ref.{now}
 use borrow.Author.Needs.{needs}
+use borrow.Author.Tests.{eq-eqb, ne-eqb}
 use Rattle.rules.proofs.Bounds.{first-line-high, allowed-bounds}
-use Rattle.records.specs.Records.{threadIn}
+use Rattle.ordering.specs.Computed.Parts.{codeOf, firstAfter}
 use Rattle.ordering.proofs.Rows.{reads-at}
-use Rattle.ordering.proofs.Filling.{Filling, filling-start, filling-end, Turn, early, top-in, depth-fits, first-fits, filling-other, filling-more}
+use Rattle.ordering.proofs.Filling.{Filling, filling-start, filling-end, Turn, early, top-in, depth-fits, filling-lock, filling-unlock, filling-other}
 use Rattle.ordering.proofs.fill.Statement.{statement}
 use Rattle.ordering.proofs.fill.Tie as tie
 
@@ -18,30 +19,18 @@ Inv-loop h what value scratch₀ depths₀ first₀ top₀ i₀ scratch depths f
 abbrev μ-loop : tie.MeasureT-loop
 μ-loop h what value scratch₀ depths₀ first₀ top₀ i₀ scratch depths first top i = length what - i
 
--- ---- the event at i: a lock or unlock, or another
+-- ---- the event at i
 
 abbrev Here : Type 0
 Here = tie.After-thread-in Inv-loop μ-loop
 
-turn : (c : Here) → Turn (c .before .before .before .before .before .before .before .before .before .args .h) (now (c .before .before .before .before .before .before .before .before .before .args .what)) (now (c .before .before .before .before .before .before .before .before .before .args .value)) (c .before .before .before .before .before .before .loop .scratch) (c .before .before .before .before .before .before .loop .depths) (c .before .before .before .before .before .before .loop .first) (c .before .before .before .before .before .before .loop .top) (c .before .before .before .before .before .before .loop .i) (c .before .before .before .letter-in .result) (c .thread-in .result)
+turn : (c : Here) → Turn (c .before .before .before .before .before .before .before .args .h) (now (c .before .before .before .before .before .before .before .args .what)) (now (c .before .before .before .before .before .before .before .args .value)) (c .before .before .before .before .loop .scratch) (c .before .before .before .before .loop .depths) (c .before .before .before .before .loop .first) (c .before .before .before .before .loop .top) (c .before .before .before .before .loop .i) (c .before .letter-in .result) (c .thread-in .result)
 turn c = record {
-  fits = c .before .before .before .before .before .before .before .before .before .pre .0;
-  filling = c .before .before .before .before .before .before .loop .inv .0;
-  more = c .before .before .before .before .before .loop-test .taken;
-  room = omega (arith, c .before .before .before .before .before .before .before .before .before .pre .1 .1, c .before .before .before .before .before .before .loop .inv .1);
-  reads = reads-at (c .before .before .before .before .before .before .before .before .before .args .h) (now (c .before .before .before .before .before .before .before .before .before .args .what)) (now (c .before .before .before .before .before .before .before .before .before .args .value)) (c .before .before .before .before .before .before .before .before .before .pre .0) (c .before .before .before .before .before .before .loop .i) (c .before .before .before .before .before .loop-test .taken) (c .before .before .before .letter-in .result) (c .thread-in .result) _ (c .before .before .before .letter-in .ensures) (c .thread-in .ensures) refl;
-}
-
-abbrev Passed : Type 0
-Passed = tie.Else1 Inv-loop μ-loop
-
-other : (c : Passed) → Turn (c .before .before .before .before .before .before .before .before .args .h) (now (c .before .before .before .before .before .before .before .before .args .what)) (now (c .before .before .before .before .before .before .before .before .args .value)) (c .before .before .before .before .before .loop .scratch) (c .before .before .before .before .before .loop .depths) (c .before .before .before .before .before .loop .first) (c .before .before .before .before .before .loop .top) (c .before .before .before .before .before .loop .i) (c .before .before .letter-in .result) (threadIn (getD (now (c .before .before .before .before .before .before .before .before .args .what)) (c .before .before .before .before .before .loop .i) 0))
-other c = record {
-  fits = c .before .before .before .before .before .before .before .before .pre .0;
-  filling = c .before .before .before .before .before .loop .inv .0;
-  more = c .before .before .before .before .loop-test .taken;
-  room = omega (arith, c .before .before .before .before .before .before .before .before .pre .1 .1, c .before .before .before .before .before .loop .inv .1);
-  reads = reads-at (c .before .before .before .before .before .before .before .before .args .h) (now (c .before .before .before .before .before .before .before .before .args .what)) (now (c .before .before .before .before .before .before .before .before .args .value)) (c .before .before .before .before .before .before .before .before .pre .0) (c .before .before .before .before .before .loop .i) (c .before .before .before .before .loop-test .taken) (c .before .before .letter-in .result) (threadIn (getD (now (c .before .before .before .before .before .before .before .before .args .what)) (c .before .before .before .before .before .loop .i) 0)) _ (c .before .before .letter-in .ensures) (refl) refl;
+  fits = c .before .before .before .before .before .before .before .pre .0;
+  filling = c .before .before .before .before .loop .inv .0;
+  more = c .before .before .before .loop-test .taken;
+  room = omega (arith, c .before .before .before .before .before .before .before .pre .1 .1, c .before .before .before .before .loop .inv .1);
+  reads = reads-at (c .before .before .before .before .before .before .before .args .h) (now (c .before .before .before .before .before .before .before .args .what)) (now (c .before .before .before .before .before .before .before .args .value)) (c .before .before .before .before .before .before .before .pre .0) (c .before .before .before .before .loop .i) (c .before .before .before .loop-test .taken) (c .before .letter-in .result) (c .thread-in .result) _ (c .before .letter-in .ensures) (c .thread-in .ensures) refl;
 }
 
 -- ---- the answers
@@ -58,35 +47,26 @@ shared-slice-read-w c = search needs
 letter-in-requires : tie.Need-letter-in-requires Inv-loop μ-loop
 letter-in-requires c κs = search needs
 
-is-lock-letter-requires : tie.Need-is-lock-letter-requires Inv-loop μ-loop
-is-lock-letter-requires c κs = search needs
-
 thread-in-requires : tie.Need-thread-in-requires Inv-loop μ-loop
 thread-in-requires c κs = search needs
 
-mul-depth : tie.Need-mul-depth Inv-loop μ-loop
-mul-depth c = omega (arith, turn c .reads .thread-low)
-
-array-read-depth : tie.Need-array-read-depth Inv-loop μ-loop
-array-read-depth c = omega (arith, turn c .reads .thread-low, turn c .filling .depths-are .long)
-
-mul-j : tie.Need-mul-j Inv-loop μ-loop
-mul-j c = omega (arith, turn c .reads .thread-low)
-
-array-read-j : tie.Need-array-read-j Inv-loop μ-loop
-array-read-j c = omega (arith, turn c .reads .thread-low, turn c .filling .top-long)
-
-mul-x : tie.Need-mul-x Inv-loop μ-loop
-mul-x c = omega (arith, turn c .filling .tops _ (turn c .reads .thread-low), early (turn c))
-
-slice-read-x : tie.Need-slice-read-x Inv-loop μ-loop
-slice-read-x c = omega (arith, top-in (turn (c .before)))
-
 cast-line-after : tie.Need-cast-line-after Inv-loop μ-loop
-cast-line-after c = record { fits = omega (arith, early (turn (c .before))) }
+cast-line-after c = record { fits = omega (arith, early (turn c)) }
 
 line-after-requires : tie.Need-line-after-requires Inv-loop μ-loop
 line-after-requires c κs = search needs
+
+mul-scratch : tie.Need-mul-scratch Inv-loop μ-loop
+mul-scratch c = omega (arith, early (turn (c .before)))
+
+slice-write-scratch : tie.Need-slice-write-scratch Inv-loop μ-loop
+slice-write-scratch c = omega (arith, early (turn (c .before)), turn (c .before) .room)
+
+mul-depth : tie.Need-mul-depth Inv-loop μ-loop
+mul-depth c = omega (arith, turn (c .before .before) .reads .thread-low)
+
+array-read-depth : tie.Need-array-read-depth Inv-loop μ-loop
+array-read-depth c = omega (arith, turn (c .before .before) .reads .thread-low, turn (c .before .before) .filling .depths-are .long)
 
 mul-first-after : tie.Need-mul-first-after Inv-loop μ-loop
 mul-first-after c = omega (arith, turn (c .before .before) .reads .thread-low)
@@ -97,53 +77,26 @@ array-read-first-after c = omega (arith, turn (c .before .before) .reads .thread
 first-after-requires : tie.Need-first-after-requires Inv-loop μ-loop
 first-after-requires c κs = search needs
 
-encode-requires : tie.Need-encode-requires Inv-loop μ-loop
-encode-requires c κs = (
-  turn (c .before .before .before) .reads .thread-low,
-  (first-fits (turn (c .before .before .before)) (c .before .line-after .ensures) (c .first-after .ensures), omega (arith, c .before .line-after .ensures, early (turn (c .before .before .before)), first-line-high (c .before .before .before .before .before .before .before .before .before .before .before .before .args .h))),
-)
-
-at-top-requires : tie.Need-at-top-requires Inv-loop μ-loop
-at-top-requires c κs = search needs
-
-mul-scratch : tie.Need-mul-scratch Inv-loop μ-loop
-mul-scratch c = omega (arith, turn (c .before .before .before .before .before) .filling .tops _ (turn (c .before .before .before .before .before) .reads .thread-low), early (turn (c .before .before .before .before .before)))
-
-slice-write-scratch : tie.Need-slice-write-scratch Inv-loop μ-loop
-slice-write-scratch c = omega (arith, top-in (turn (c .before .before .before .before .before)))
-
-at-event-requires : tie.Need-at-event-requires Inv-loop μ-loop
-at-event-requires c κs = search needs
-
-mul-scratch-2 : tie.Need-mul-scratch-2 Inv-loop μ-loop
-mul-scratch-2 c = omega (arith, early (turn (c .before .before .before .before .before .before)))
-
-slice-write-scratch-2 : tie.Need-slice-write-scratch-2 Inv-loop μ-loop
-slice-write-scratch-2 c = rw (length-set (c .before .before .before .before .before .before .before .before .before .before .before .before .loop .scratch) _ (c .before .at-top .result)) (omega (arith, early (turn (c .before .before .before .before .before .before)), turn (c .before .before .before .before .before .before) .room))
-
 mul-first : tie.Need-mul-first Inv-loop μ-loop
-mul-first c = omega (arith, turn (c .before .before .before .before .before .before) .reads .thread-low)
+mul-first c = omega (arith, turn (c .before .before .before) .reads .thread-low)
 
 array-write-first : tie.Need-array-write-first Inv-loop μ-loop
-array-write-first c = omega (arith, turn (c .before .before .before .before .before .before) .reads .thread-low, turn (c .before .before .before .before .before .before) .filling .first-long)
-
-top-after-requires : tie.Need-top-after-requires Inv-loop μ-loop
-top-after-requires c κs = search needs
+array-write-first c = omega (arith, turn (c .before .before .before) .reads .thread-low, turn (c .before .before .before) .filling .first-long)
 
 mul-top : tie.Need-mul-top Inv-loop μ-loop
-mul-top c = omega (arith, turn (c .before .before .before .before .before .before .before) .reads .thread-low)
+mul-top c = omega (arith, turn (c .before .before .before) .reads .thread-low)
 
 array-write-top : tie.Need-array-write-top Inv-loop μ-loop
-array-write-top c = omega (arith, turn (c .before .before .before .before .before .before .before) .reads .thread-low, turn (c .before .before .before .before .before .before .before) .filling .top-long)
+array-write-top c = omega (arith, turn (c .before .before .before) .reads .thread-low, turn (c .before .before .before) .filling .top-long)
 
 level-after-requires : tie.Need-level-after-requires Inv-loop μ-loop
-level-after-requires c κs = depth-fits (turn (c .before .before .before .before .before .before .before))
+level-after-requires c κs = depth-fits (turn (c .before .before .before))
 
 mul-depths : tie.Need-mul-depths Inv-loop μ-loop
-mul-depths c = omega (arith, turn (c .before .before .before .before .before .before .before .before) .reads .thread-low)
+mul-depths c = omega (arith, turn (c .before .before .before .before) .reads .thread-low)
 
 array-write-depths : tie.Need-array-write-depths Inv-loop μ-loop
-array-write-depths c = omega (arith, turn (c .before .before .before .before .before .before .before .before) .reads .thread-low, turn (c .before .before .before .before .before .before .before .before) .filling .depths-are .long)
+array-write-depths c = omega (arith, turn (c .before .before .before .before) .reads .thread-low, turn (c .before .before .before .before) .filling .depths-are .long)
 
 add-i : tie.Need-add-i Inv-loop μ-loop
 add-i c = search needs
@@ -152,13 +105,52 @@ loop-less : tie.Need-loop-less Inv-loop μ-loop
 loop-less c = search needs
 
 loop-again : tie.Need-loop-again Inv-loop μ-loop
-loop-again c = filling-more (turn (c .before .before .before .before .before .before .before .before)) (c .before .before .before .before .before .before .line-after .ensures) (c .before .before .before .before .before .first-after .ensures) (c .before .before .before .before .encode .ensures) (c .before .before .before .at-top .ensures) (c .before .before .at-event .ensures) (c .before .top-after .ensures) (c .level-after .ensures) (c .before .before .before .before .before .before .before .before .before .before .before .before .before .before .loop .inv .1)
+loop-again c = filling-lock (turn (c .before .before .before .before)) (c .level-after .ensures) (eq-eqb _ _ (c .before .before .if1 .taken)) (c .before .first-after .ensures ∙ ap (firstAfter _ _) (c .before .before .before .line-after .ensures)) (c .before .before .before .before .before .before .before .before .loop .inv .1)
 
-mul-scratch-3 : tie.Need-mul-scratch-3 Inv-loop μ-loop
-mul-scratch-3 c = omega (arith, early (other c))
+mul-level-after : tie.Need-mul-level-after Inv-loop μ-loop
+mul-level-after c = omega (arith, turn (c .before .before .before) .reads .thread-low)
 
-slice-write-scratch-3 : tie.Need-slice-write-scratch-3 Inv-loop μ-loop
-slice-write-scratch-3 c = omega (arith, early (other c), other c .room)
+array-read-level-after : tie.Need-array-read-level-after Inv-loop μ-loop
+array-read-level-after c = omega (arith, turn (c .before .before .before) .reads .thread-low, turn (c .before .before .before) .filling .depths-are .long)
+
+level-after-requires-2 : tie.Need-level-after-requires-2 Inv-loop μ-loop
+level-after-requires-2 c κs = depth-fits (turn (c .before .before .before))
+
+mul-j : tie.Need-mul-j Inv-loop μ-loop
+mul-j c = omega (arith, turn (c .before .before .before .before) .reads .thread-low)
+
+array-read-j : tie.Need-array-read-j Inv-loop μ-loop
+array-read-j c = omega (arith, turn (c .before .before .before .before) .reads .thread-low, turn (c .before .before .before .before) .filling .top-long)
+
+mul-encode : tie.Need-mul-encode Inv-loop μ-loop
+mul-encode c = omega (arith, turn (c .before .before .before .before) .reads .thread-low)
+
+array-read-encode : tie.Need-array-read-encode Inv-loop μ-loop
+array-read-encode c = omega (arith, turn (c .before .before .before .before) .reads .thread-low, turn (c .before .before .before .before) .filling .first-long)
+
+encode-requires : tie.Need-encode-requires Inv-loop μ-loop
+encode-requires c κs = (turn (c .before .before .before .before) .reads .thread-low, (turn (c .before .before .before .before) .filling .firsts _ (turn (c .before .before .before .before) .reads .thread-low), omega (arith, c .before .before .before .line-after .ensures, early (turn (c .before .before .before .before)), first-line-high (c .before .before .before .before .before .before .before .before .before .before .before .args .h))))
+
+mul-end-after : tie.Need-mul-end-after Inv-loop μ-loop
+mul-end-after c = omega (arith, turn (c .before .before .before .before .before) .filling .tops _ (turn (c .before .before .before .before .before) .reads .thread-low), early (turn (c .before .before .before .before .before)))
+
+slice-read-end-after : tie.Need-slice-read-end-after Inv-loop μ-loop
+slice-read-end-after c = rw (length-set (c .before .before .before .before .before .before .before .before .before .before .loop .scratch) (c .before .before .before .before .before .before .before .before .before .before .loop .i) 0) (omega (arith, top-in (turn (c .before .before .before .before .before .before))))
+
+end-after-requires : tie.Need-end-after-requires Inv-loop μ-loop
+end-after-requires c κs = search needs
+
+mul-scratch-2 : tie.Need-mul-scratch-2 Inv-loop μ-loop
+mul-scratch-2 c = omega (arith, turn (c .before .before .before .before .before .before .before) .filling .tops _ (turn (c .before .before .before .before .before .before .before) .reads .thread-low), early (turn (c .before .before .before .before .before .before .before)))
+
+slice-write-scratch-2 : tie.Need-slice-write-scratch-2 Inv-loop μ-loop
+slice-write-scratch-2 c = rw (length-set (c .before .before .before .before .before .before .before .before .before .before .before .loop .scratch) (c .before .before .before .before .before .before .before .before .before .before .before .loop .i) 0) (omega (arith, top-in (turn (c .before .before .before .before .before .before .before))))
+
+mul-depths-2 : tie.Need-mul-depths-2 Inv-loop μ-loop
+mul-depths-2 c = omega (arith, turn (c .before .before .before .before .before .before .before) .reads .thread-low)
+
+array-write-depths-2 : tie.Need-array-write-depths-2 Inv-loop μ-loop
+array-write-depths-2 c = omega (arith, turn (c .before .before .before .before .before .before .before) .reads .thread-low, turn (c .before .before .before .before .before .before .before) .filling .depths-are .long)
 
 add-i-2 : tie.Need-add-i-2 Inv-loop μ-loop
 add-i-2 c = search needs
@@ -167,7 +159,16 @@ loop-less-2 : tie.Need-loop-less-2 Inv-loop μ-loop
 loop-less-2 c = search needs
 
 loop-again-2 : tie.Need-loop-again-2 Inv-loop μ-loop
-loop-again-2 c = filling-other (other c) (sym (c .before .is-lock-letter .ensures) ∙ c .if1 .left) (c .before .before .before .before .before .loop .inv .1)
+loop-again-2 c = filling-unlock (turn (c .before .before .before .before .before .before .before)) (c .before .before .before .level-after2 .ensures) (ne-eqb _ _ (c .before .before .before .before .before .if1 .left)) (eq-eqb _ _ (c .before .before .before .before .if2 .taken)) (c .before .before .encode .ensures ∙ ap (codeOf _ _) (c .before .before .before .before .before .before .line-after .ensures)) (c .end-after .ensures) (c .before .before .before .before .before .before .before .before .before .before .before .loop .inv .1)
+
+add-i-3 : tie.Need-add-i-3 Inv-loop μ-loop
+add-i-3 c = search needs
+
+loop-less-3 : tie.Need-loop-less-3 Inv-loop μ-loop
+loop-less-3 c = search needs
+
+loop-again-3 : tie.Need-loop-again-3 Inv-loop μ-loop
+loop-again-3 c = filling-other (turn (c .before .before .before)) (ne-eqb _ _ (c .before .if1 .left)) (ne-eqb _ _ (c .if2 .left)) (c .before .before .before .before .before .before .before .loop .inv .1)
 
 same-length : tie.Need-same-length Inv-loop μ-loop
 same-length c = c .before .loop .inv .1
@@ -187,29 +188,18 @@ fill-spec =
     mul-w
     shared-slice-read-w
     letter-in-requires
-    is-lock-letter-requires
     thread-in-requires
-    mul-depth
-    array-read-depth
-    mul-j
-    array-read-j
-    mul-x
-    slice-read-x
     cast-line-after
     line-after-requires
+    mul-scratch
+    slice-write-scratch
+    mul-depth
+    array-read-depth
     mul-first-after
     array-read-first-after
     first-after-requires
-    encode-requires
-    at-top-requires
-    mul-scratch
-    slice-write-scratch
-    at-event-requires
-    mul-scratch-2
-    slice-write-scratch-2
     mul-first
     array-write-first
-    top-after-requires
     mul-top
     array-write-top
     level-after-requires
@@ -218,10 +208,26 @@ fill-spec =
     add-i
     loop-less
     loop-again
-    mul-scratch-3
-    slice-write-scratch-3
+    mul-level-after
+    array-read-level-after
+    level-after-requires-2
+    mul-j
+    array-read-j
+    mul-encode
+    array-read-encode
+    encode-requires
+    mul-end-after
+    slice-read-end-after
+    end-after-requires
+    mul-scratch-2
+    slice-write-scratch-2
+    mul-depths-2
+    array-write-depths-2
     add-i-2
     loop-less-2
     loop-again-2
+    add-i-3
+    loop-less-3
+    loop-again-3
     same-length
     returns)

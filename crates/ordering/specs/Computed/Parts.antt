@@ -66,24 +66,19 @@ unfoldable pub toldAs : Denial → Verdict
 toldAs fit = Accepted
 toldAs (denied number line) = Refused number line
 
--- ---- the second pass: thread t, its section's first line a, the event's line b, and whether it was busy before
+-- ---- the second pass
 
+-- the section of thread t from line a to line b
 abbrev pub codeOf : ℕ → ℕ → ℕ → ℕ
 codeOf t a b = entryCode (record { thread = t; first = a; last = b })
 
-unfoldable pub firstAfter : ℕ → Bool → ℕ → ℕ → ℕ
-firstAfter k busy a b = cond (eqb k K && not busy) b a
+-- the first line of a thread's section after a K in line b, a before, where it held this often before it
+unfoldable pub firstAfter : ℕ → ℕ → ℕ → ℕ
+firstAfter depth a b = cond (eqb depth 0) b a
 
--- what stands where t's section had its last K, x before: 0 after another K, the section with its new last line after another event
-unfoldable pub atTop : ℕ → Bool → ℕ → ℕ → ℕ
-atTop k busy x code = cond busy (cond (eqb k K) 0 code) x
-
--- what stands at the event's index: the section of a K
-unfoldable pub atEvent : ℕ → ℕ → ℕ
-atEvent k code = cond (eqb k K) code 0
-
-unfoldable pub topAfter : ℕ → ℕ → ℕ → ℕ
-topAfter k i j = cond (eqb k K) i j
+-- what stands for a thread's section after an N, x before: the section, where it holds nothing more
+unfoldable pub endAfter : ℕ → ℕ → ℕ → ℕ
+endAfter depth x code = cond (eqb depth 0) code x
 
 -- the number of the section whose last K has this position; 0 where there is none
 unfoldable pub bucket : Counts → List (Section ℤ) → ℕ → ℕ
