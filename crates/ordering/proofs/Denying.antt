@@ -4,7 +4,7 @@ use native.Mathlib.Decide.{decLt}
 use native.Mathlib.Omega.{arith}
 use native.Mathlib.Numerals.{add-one}
 use mathlib.Core.Path.{_≡_, refl, sym, _∙_, ap, ap₂}
-use mathlib.Core.Bool.{Bool, true, false, not, cond, _&&_, _||_}
+use mathlib.Core.Bool.{Bool, true, false, not, cond, _&&_, _||_, false≢true}
 use mathlib.Core.List.{List, [], _∷_}
 use lib.Dec.{T, eqb, ltb}
 use lib.IntN.{ℤ}
@@ -13,11 +13,11 @@ use borrow.Author.Tests.{lt-ltb, le-ltb}
 use Rattle.rules.specs.declared.Event.{Event}
 use Rattle.rules.specs.declared.Counts.{Counts}
 use Rattle.rules.specs.declared.Verdict.the-variants.{Accepted, Refused}
-use Rattle.rules.specs.Events.{A, B, K, U, isLockLetter}
+use Rattle.rules.specs.Events.{A, B, K, U}
 use Rattle.rules.specs.Limits.{lineAfter}
-use Rattle.rules.specs.Rules.{loc, wordsOf, held, legal}
+use Rattle.rules.specs.Rules.{wordsOf, held, legal}
 use Rattle.rules.proofs.Bounds.{allowed-bounds}
-use Rattle.rules.proofs.Laws.{or-false-left}
+use Rattle.rules.proofs.Laws.{or-false-left, or-false-right}
 use Rattle.serial.specs.Lists.{All}
 use Rattle.serial.proofs.Counted as H
 use Rattle.records.specs.Records.{eventAt, rowEvents}
@@ -31,9 +31,9 @@ use Rattle.sections.proofs.Ordered.{lock-below}
 use Rattle.ordering.specs.Answer.{guardOf}
 use Rattle.ordering.specs.Computed.Parts.{Fits, past, guardCell, underIn, levelAfter, pendingAfter, lateAfter, unfinishedIn, toldAs}
 use Rattle.ordering.proofs.Rows.{past-length, row-few, known-past, legal-past}
-use Rattle.ordering.proofs.Scanned.{Reads, uses-none, Levels, levels-start, levels-after, levels-kept, level-low, Owed, owed-start, owed-after, owed-kept}
-use Rattle.ordering.proofs.Depths.{Depths, depths-start, holds-after, depths-after, depths-kept, depth-low, unfinished-is}
-use Rattle.ordering.proofs.Late.{Late, late-start, late-after, late-kept}
+use Rattle.ordering.proofs.Scanned.{Reads, Levels, levels-start, levels-after, level-low, Owed, owed-start, owed-after}
+use Rattle.ordering.proofs.Depths.{Depths, depths-start, holds-after, depths-after, depth-low, unfinished-is}
+use Rattle.ordering.proofs.Late.{Late, late-start, late-after}
 
 -- the level of its guard says whether a thread is under it
 under-is : (h : Counts) (levels : List ℕ) (es : List Event) → Levels levels es → h .locks ≤ 8 → All (Declared h) es → (t g : ℕ) → t < 8 → underIn levels t g ≡ held (wordsOf es) t g
@@ -151,48 +151,37 @@ module _ {h : Counts} {gs ws : List ℕ} {xs : List ℤ} {levels : List ℕ} {ow
   unfolding past
   on levels′ owed′ depths′ late′ a b L O D M = rw (add-one i) (record { upto = u .more; levels-are = L; owed-are = O; depths-are = D; late-are = M; left = sym (opened false false a b) })
 
-  -- ---- a lock event
+  -- ---- what denies an order, and what goes on
 
-  module _ (q : isLockLetter k ≡ true) where
-    not-used : nu ≡ false
-    unfolding notUnder
-    not-used = ap (λ x. x && not (held (wordsOf es) (e .thread) (guardOf gs (loc e)))) (r .uses ∙ uses-none k q)
+  module _ {under : Bool} (w : under ≡ underIn levels t (getD gs p 0)) where
+    abbrev bare : Bool
+    bare = (eqb k U || (eqb k A || eqb k B)) && not under
 
-    late-is : ll ≡ (eqb k K && getD late t false)
-    unfolding lateLock
-    late-is = ap₂ (λ x y. x && y) (r .locking) (ap (λ t. afterUnlock h t es) (r .whose) ∙ sym (u .going .late-are .after t (r .thread-low)))
+    abbrev again : Bool
+    again = eqb k K && getD late t false
 
-    pub late-stops : (eqb k K && getD late t false) ≡ true → Refused 21 (lineAfter h i) ≡ toldAs (whole h gs ws xs)
-    unfolding toldAs
-    late-stops z = sym (ap toldAs (opened false true not-used (late-is ∙ z)))
-
-    pub lock-goes : (eqb k K && getD late t false) ≡ false → {x y : ℕ} {z : Bool} → x ≡ levelAfter (getD levels (t * 16 + p) 0) k → y ≡ levelAfter (getD depths t 0) k → z ≡ lateAfter (getD late t false) k (ltb 0 y)
-        → Going h gs ws xs (set levels (t * 16 + p) x) owed (set depths t y) (set late t z) (i + 1)
-    lock-goes n {x} {y} {z} ex ey ez =
-        on (set levels (t * 16 + p) x) owed (set depths t y) (set late t z) not-used (late-is ∙ n)
-        (levels-after levels es (u .going .levels-are) k t p e r ex) (owed-kept owed es (u .going .owed-are) k t p e r q) (depths-after h depths es (u .going .depths-are) k t p e r next-legal ey)
-        (late-after h late es (u .going .late-are) k t p e r (λ _. holds-after h depths es (u .going .depths-are) k t p e r next-legal ey) ez)
-
-  -- ---- an event on a variable
-
-  module _ (q : isLockLetter k ≡ false) {under : Bool} (w : under ≡ underIn levels t (getD gs p 0)) where
-    not-late : ll ≡ false
-    unfolding lateLock isLockLetter
-    not-late = ap (λ x. x && afterUnlock h (e .thread) es) (r .locking ∙ or-false-left (eqb k K) _ q)
-
-    used-is : nu ≡ ((eqb k U || (eqb k A || eqb k B)) && not under)
+    bare-is : nu ≡ bare
     unfolding notUnder guardOf
-    used-is =
+    bare-is =
         let b = under-is h levels es (u .going .levels-are) (allowed-bounds h (u .fits .accepted .head) .2) (known-past h ws xs (u .fits) i (u .going .upto)) t (getD gs p 0) (r .thread-low) in
         ap₂ (λ x y. x && not y) (r .uses) (ap₂ (λ t p. held (wordsOf es) t (getD gs p 0)) (r .whose) (r .places) ∙ sym (w ∙ b))
 
-    pub bare-stops : ((eqb k U || (eqb k A || eqb k B)) && not under) ≡ true → Refused 20 (lineAfter h i) ≡ toldAs (whole h gs ws xs)
-    unfolding toldAs
-    bare-stops z = sym (ap toldAs (opened true false (used-is ∙ z) not-late))
+    again-is : ll ≡ again
+    unfolding lateLock
+    again-is = ap₂ (λ x y. x && y) (r .locking) (ap (λ t. afterUnlock h t es) (r .whose) ∙ sym (u .going .late-are .after t (r .thread-low)))
 
-    pub variable-goes : ((eqb k U || (eqb k A || eqb k B)) && not under) ≡ false → {y : Bool} → y ≡ pendingAfter (getD owed (t * 16 + p) false) k
-        → Going h gs ws xs levels (set owed (t * 16 + p) y) depths late (i + 1)
-    variable-goes n {y} ey =
-        on levels (set owed (t * 16 + p) y) depths late (used-is ∙ n) not-late
-        (levels-kept levels es (u .going .levels-are) k t p e r q) (owed-after owed es (u .going .owed-are) k t p e r ey)
-        (depths-kept h depths es (u .going .depths-are) k t p e r next-legal q) (late-kept h late es (u .going .late-are) k t p e r q)
+    pub stops : (bare || again) ≡ true → {n : ℕ} → n ≡ cond bare 20 21 → Refused n (lineAfter h i) ≡ toldAs (whole h gs ws xs)
+    unfolding toldAs
+    stops z {n} e = go bare again z e (opened bare again bare-is again-is)
+      where
+        go : (x y : Bool) → (x || y) ≡ true → n ≡ cond x 20 21 → whole h gs ws xs ≡ cond x (denied 20 (lineAfter h i)) (cond y (denied 21 (lineAfter h i)) d) → Refused n (lineAfter h i) ≡ toldAs (whole h gs ws xs)
+        go true y z e o = ap (λ n. Refused n (lineAfter h i)) e ∙ sym (ap toldAs o)
+        go false true z e o = ap (λ n. Refused n (lineAfter h i)) e ∙ sym (ap toldAs o)
+        go false false z e o = absurd (false≢true z)
+
+    pub goes : (bare || again) ≡ false → {x y : ℕ} {z o : Bool} → x ≡ levelAfter (getD levels (t * 16 + p) 0) k → y ≡ levelAfter (getD depths t 0) k → z ≡ lateAfter (getD late t false) k (ltb 0 y)
+        → o ≡ pendingAfter (getD owed (t * 16 + p) false) k → Going h gs ws xs (set levels (t * 16 + p) x) (set owed (t * 16 + p) o) (set depths t y) (set late t z) (i + 1)
+    goes n {x} {y} {z} {o} ex ey ez eo =
+        on (set levels (t * 16 + p) x) (set owed (t * 16 + p) o) (set depths t y) (set late t z) (bare-is ∙ or-false-left bare again n) (again-is ∙ or-false-right bare again n)
+        (levels-after levels es (u .going .levels-are) k t p e r ex) (owed-after owed es (u .going .owed-are) k t p e r eo) (depths-after h depths es (u .going .depths-are) k t p e r next-legal ey)
+        (late-after h late es (u .going .late-are) k t p e r (λ _. holds-after h depths es (u .going .depths-are) k t p e r next-legal ey) ez)

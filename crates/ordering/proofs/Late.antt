@@ -2,17 +2,16 @@
 use Prim.Native.Nat.{ℕ, _<_}
 use native.Mathlib.Decide.{ℕ-discrete}
 use native.Mathlib.Omega.{arith}
-use mathlib.Core.Path.{_≡_, refl, sym, _∙_, ap, ap₂, subst}
+use mathlib.Core.Path.{_≡_, refl, sym, _∙_, ap, ap₂}
 use mathlib.Core.Bool.{Bool, true, false, cond, _&&_, _||_, and-false, and-true, false≢true}
 use mathlib.Core.List.{List, [], _∷_}
 use borrow.Author.Tests.{eq-eqb, ne-eqb}
 use lib.Dec.{eqb}
 use lib.ListN.{length, getD, set, replicate, length-set, getD-replicate}
-use lib.Seq.{getD-set-same, getD-set-other, set-getD}
+use lib.Seq.{getD-set-same, getD-set-other}
 use Rattle.rules.specs.declared.Event.{Event}
 use Rattle.rules.specs.declared.Counts.{Counts}
-use Rattle.rules.specs.Events.{K, N, isLockLetter, of}
-use Rattle.rules.proofs.Laws.{or-false-right}
+use Rattle.rules.specs.Events.{N, of}
 use Rattle.sections.specs.Places.{unlocksBy, holdsSome}
 use Rattle.sections.specs.Refusals.{afterUnlock}
 use Rattle.ordering.specs.Computed.Parts.{lateAfter}
@@ -67,9 +66,3 @@ module _ (h : Counts) (late : List Bool) (es : List Event) (M : Late h late es) 
         go t ht (no a) =
             getD-set-other late u t x false (λ q. a (sym q)) ∙ M .after t ht
             ∙ sym (after-same h t e es (unlocks-own t ∙ ap (λ b. eqb k N && b) (ne-eqb u t a) ∙ and-false (eqb k N)) (λ q. other-holds h es k u p e r t a ∙ q))
-
-  pub late-kept : isLockLetter k ≡ false → Late h late (e ∷ es)
-  unfolding lateAfter isLockLetter
-  late-kept q =
-      let n : eqb k N ≡ false = or-false-right (eqb k K) (eqb k N) q in
-      subst (λ l. Late h l (e ∷ es)) (set-getD late u false) (late-after {any = false} (λ y. absurd (false≢true (sym n ∙ y))) (rw n))

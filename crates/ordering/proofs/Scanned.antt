@@ -2,14 +2,14 @@
 use Prim.Native.Nat.{ℕ, suc, pred, _+_, _*_, _<_, _≤_}
 use native.Mathlib.Decide.{ℕ-discrete}
 use native.Mathlib.Omega.{arith}
-use mathlib.Core.Path.{_≡_, refl, sym, _∙_, ap, ap₂, subst}
+use mathlib.Core.Path.{_≡_, refl, sym, _∙_, ap, ap₂}
 use mathlib.Core.Bool.{Bool, true, false, not, cond, _&&_, _||_, or-false, and-false, and-true}
 use mathlib.Core.List.{List, [], _∷_}
 use mathlib.Core.Option as Option
-use borrow.Author.Tests.{eqb-true, eq-eqb, ne-eqb}
+use borrow.Author.Tests.{eq-eqb, ne-eqb}
 use lib.Dec.{eqb}
 use lib.ListN.{length, getD, set, replicate, length-set, getD-replicate}
-use lib.Seq.{getD-set-same, getD-set-other, set-getD}
+use lib.Seq.{getD-set-same, getD-set-other}
 use Rattle.rules.specs.declared.Event.{Event}
 use Rattle.rules.specs.Events.{A, B, K, N, P, U, letter, isLockLetter, is, of, on, locks, unlocks}
 use Rattle.rules.specs.Words.{by, acquires, releases, depth, pending, latest, letterIn}
@@ -64,21 +64,6 @@ cond-same true x = refl
 cond-same false x = refl
 
 -- ---- what changes by its letter
-
-lock-apart : (k c : ℕ) → isLockLetter k ≡ true → eqb K c ≡ false → eqb N c ≡ false → eqb k c ≡ false
-unfolding isLockLetter
-lock-apart k c q a b = go (eqb k K) refl q
-  where
-    go : (x : Bool) → eqb k K ≡ x → (x || eqb k N) ≡ true → eqb k c ≡ false
-    go true x q = rw (eqb-true k K x) a
-    go false x q = rw (eqb-true k N q) b
-
-pub uses-none : (k : ℕ) → isLockLetter k ≡ true → (eqb k U || (eqb k A || eqb k B)) ≡ false
-uses-none k q = rw (lock-apart k U q refl refl, lock-apart k A q refl refl, lock-apart k B q refl refl)
-
-pending-kept : (b : Bool) (k : ℕ) → isLockLetter k ≡ true → pendingAfter b k ≡ b
-unfolding pendingAfter
-pending-kept b k q = rw (lock-apart k P q refl refl, lock-apart k B q refl refl) (and-true b)
 
 pub level-kept : (x k : ℕ) → isLockLetter k ≡ false → levelAfter x k ≡ x
 unfolding levelAfter isLockLetter
@@ -144,9 +129,6 @@ module _ (levels : List ℕ) (es : List Event) (L : Levels levels es) where
             (getD-set-same levels (u * 16 + p) x 0 (omega (arith, r .thread-low, r .place-low, L .long)) ∙ ex ∙ ap (λ x. levelAfter x k) (L .level u p (r .thread-low) (r .place-low)) ∙ sym (depth-own es k u p e r))
         go t l ht hl (no q) = getD-set-other levels (u * 16 + p) (t * 16 + l) x 0 q ∙ L .level t l ht hl ∙ sym (depth-other es k u p e r t l (λ a b. q (omega (arith, a, b))))
 
-    pub levels-kept : isLockLetter k ≡ false → Levels levels (e ∷ es)
-    levels-kept q = subst (λ l. Levels l (e ∷ es)) (set-getD levels (u * 16 + p) 0) (levels-after (sym (level-kept (getD levels (u * 16 + p) 0) k q)))
-
 -- ---- what is owed
 
 pub record Owed (owed : List Bool) (es : List Event) : Type 0 where
@@ -190,6 +172,3 @@ module _ (owed : List Bool) (es : List Event) (O : Owed owed es) (k u p : ℕ) (
       go t v ht hv (no q) =
           getD-set-other owed (u * 16 + p) (t * 16 + v) x false q ∙ O .owes t v ht hv
           ∙ sym (pending-next t v ∙ rw (apart u t p v (λ a b. q (omega (arith, a, b))), and-false (eqb k P || eqb k B)))
-
-  pub owed-kept : isLockLetter k ≡ true → Owed owed (e ∷ es)
-  owed-kept q = subst (λ l. Owed l (e ∷ es)) (set-getD owed (u * 16 + p) false) (owed-after (sym (pending-kept (getD owed (u * 16 + p) false) k q)))

@@ -1,7 +1,7 @@
 // The serial order of a trace's critical sections, or what denies it one. The events are two rows of records, of a trace that is accepted. The
 // first pass asks 20 to 22 and writes nothing lent; the second lists the sections.
 ghost use mathlib.Core.Path.{_≡_};
-ghost use mathlib.Core.Bool.{false};
+ghost use mathlib.Core.Bool.{false, cond};
 ghost use Prim.Native.Nat.{_≤_, _<_, _+_};
 ghost use lib.ListN.{length, replicate, take};
 ghost use Rattle.rules.specs.Limits.{full, orderShort, lineAfter};
@@ -112,7 +112,14 @@ fn refuse(h: Counts, rule: u8, i: usize) -> Verdict
     Verdict::Refused(rule, line)
 }
 
-// The first pass: 20 and 21 event by event, 22 last. Accepted where nothing denies an order. A lock event can break 21 alone, any other 20 alone.
+// The number of what an event breaks, 20 or else 21.
+fn broken(bare: bool) -> u8
+    ensures { λ r. ⌜ r ≡ cond bare 20 21 ⌝ }
+{
+    if bare { 20 } else { 21 }
+}
+
+// The first pass: 20 and 21 event by event, 22 last. Accepted where nothing denies an order.
 fn deny(h: Counts, locks: [usize; 16], what: &[u32], value: &[Value]) -> Verdict
     requires { ⌜ Fits h (now what) (now value) ⌝ }
     ensures { λ r. ⌜ r ≡ toldAs (denial h (guardOf locks) (rowEvents h (now (what .entry)) (now (value .entry)))) ⌝ }
@@ -128,24 +135,19 @@ fn deny(h: Counts, locks: [usize; 16], what: &[u32], value: &[Value]) -> Verdict
         let t = records::thread_in(w);
         let p = records::place_in(w);
         let c = t * 16 + p;
-        if rules::is_lock_letter(k) {
-            let was = late[t];
-            if (k == b'K') & was {
-                return refuse(h, 21, i);
-            }
-            let depth = level_after(depths[t], k);
-            levels[c] = level_after(levels[c], k);
-            depths[t] = depth;
-            late[t] = late_after(was, k, 0 < depth);
-            i += 1;
-        } else {
-            let under = is_under(&levels, t, locks[p]);
-            if ((k == b'U') | ((k == b'A') | (k == b'B'))) & !under {
-                return refuse(h, 20, i);
-            }
-            pending[c] = pending_after(pending[c], k);
-            i += 1;
+        let under = is_under(&levels, t, locks[p]);
+        let was = late[t];
+        let bare = ((k == b'U') | ((k == b'A') | (k == b'B'))) & !under;
+        let again = (k == b'K') & was;
+        if bare | again {
+            return refuse(h, broken(bare), i);
         }
+        let depth = level_after(depths[t], k);
+        levels[c] = level_after(levels[c], k);
+        depths[t] = depth;
+        late[t] = late_after(was, k, 0 < depth);
+        pending[c] = pending_after(pending[c], k);
+        i += 1;
     }
     if unfinished(h, &depths, &pending) {
         return refuse(h, 22, i);

@@ -1,15 +1,13 @@
 -- `ordering::deny` meets its contract: the loop asks 20 and 21 of each event, 22 is asked at the end. Assumes nothing.
 use Prim.Native.Nat.{_-_}
 use native.Mathlib.Omega.{arith}
-use mathlib.Core.Path.{_≡_, sym, _∙_}
-use mathlib.Core.Bool.{true, false}
+use mathlib.Core.Path.{sym, _∙_}
 use lib.ListN.{length}
 use denote.Ref.{now}
 use borrow.Author.Needs.{needs}
-use Rattle.rules.specs.Events.{isLockLetter}
 use Rattle.rules.proofs.Bounds.{allowed-bounds}
 use Rattle.ordering.proofs.Rows.{row-few, reads-at}
-use Rattle.ordering.proofs.Denying.{Going, begins, ends-open, ends-fit, Turn, early, level-range, depth-range, late-stops, lock-goes, bare-stops, variable-goes}
+use Rattle.ordering.proofs.Denying.{Going, begins, ends-open, ends-fit, Turn, early, level-range, depth-range, stops, goes}
 use Rattle.ordering.proofs.deny.Statement.{statement}
 use Rattle.ordering.proofs.deny.Tie as tie
 
@@ -19,7 +17,7 @@ Inv-loop h what value locks levels₀ pending₀ depths₀ late₀ i₀ levels p
 abbrev μ-loop : tie.MeasureT-loop
 μ-loop h what value locks levels₀ pending₀ depths₀ late₀ i₀ levels pending depths late i = length what - i
 
--- ---- the event at i, and what it is on
+-- ---- the event at i
 
 abbrev Here : Type 0
 Here = tie.After-place-in Inv-loop μ-loop
@@ -31,12 +29,6 @@ turn c = record {
   more = c .before .before .before .before .loop-test .taken;
   reads = reads-at (c .before .before .before .before .before .before .before .args .h) (now (c .before .before .before .before .before .before .before .args .what)) (now (c .before .before .before .before .before .before .before .args .value)) (c .before .before .before .before .before .before .before .pre) (c .before .before .before .before .before .loop .i) (c .before .before .before .before .loop-test .taken) (c .before .before .letter-in .result) (c .before .thread-in .result) (c .place-in .result) (c .before .before .letter-in .ensures) (c .before .thread-in .ensures) (c .place-in .ensures);
 }
-
-on-lock : (c : tie.Then1 Inv-loop μ-loop) → isLockLetter (c .before .before .before .before .letter-in .result) ≡ true
-on-lock c = sym (c .before .is-lock-letter .ensures) ∙ c .if1 .taken
-
-on-variable : (c : tie.Else1 Inv-loop μ-loop) → isLockLetter (c .before .before .before .before .letter-in .result) ≡ false
-on-variable c = sym (c .before .is-lock-letter .ensures) ∙ c .if1 .left
 
 -- ---- the answers
 
@@ -64,17 +56,26 @@ mul-c c = omega (arith, turn c .reads .thread-low)
 add-c : tie.Need-add-c Inv-loop μ-loop
 add-c c = omega (arith, turn c .reads .thread-low, turn c .reads .place-low)
 
-is-lock-letter-requires : tie.Need-is-lock-letter-requires Inv-loop μ-loop
-is-lock-letter-requires c κs = search needs
+mul-is-under : tie.Need-mul-is-under Inv-loop μ-loop
+mul-is-under c = omega (arith, turn (c .before) .reads .place-low)
+
+array-read-is-under : tie.Need-array-read-is-under Inv-loop μ-loop
+array-read-is-under c = omega (arith, turn (c .before) .reads .place-low)
+
+is-under-requires : tie.Need-is-under-requires Inv-loop μ-loop
+is-under-requires c κs = turn (c .before) .reads .thread-low
 
 array-read-was : tie.Need-array-read-was Inv-loop μ-loop
 array-read-was c = omega (arith, turn (c .before .before) .reads .thread-low, turn (c .before .before) .going .late-are .long)
 
+broken-requires : tie.Need-broken-requires Inv-loop μ-loop
+broken-requires c κs = search needs
+
 refuse-requires : tie.Need-refuse-requires Inv-loop μ-loop
-refuse-requires c κs = early (turn (c .before .before .before))
+refuse-requires c κs = early (turn (c .before .before .before .before))
 
 returns : tie.Need-returns Inv-loop μ-loop
-returns c = c .refuse .ensures ∙ late-stops (turn (c .before .before .before .before)) (on-lock (c .before .before)) (c .before .if2 .taken)
+returns c = c .refuse .ensures ∙ stops (turn (c .before .before .before .before .before)) (c .before .before .before .is-under .ensures) (c .before .before .if1 .taken) (c .before .broken .ensures)
 
 mul-level-after : tie.Need-mul-level-after Inv-loop μ-loop
 mul-level-after c = omega (arith, turn (c .before .before .before) .reads .thread-low)
@@ -112,6 +113,15 @@ late-after-requires c κs = search needs
 array-write-late : tie.Need-array-write-late Inv-loop μ-loop
 array-write-late c = omega (arith, turn (c .before .before .before .before .before .before) .reads .thread-low, turn (c .before .before .before .before .before .before) .going .late-are .long)
 
+array-read-pending-after : tie.Need-array-read-pending-after Inv-loop μ-loop
+array-read-pending-after c = omega (arith, turn (c .before .before .before .before .before .before) .reads .thread-low, turn (c .before .before .before .before .before .before) .reads .place-low, turn (c .before .before .before .before .before .before) .going .owed-are .long)
+
+pending-after-requires : tie.Need-pending-after-requires Inv-loop μ-loop
+pending-after-requires c κs = search needs
+
+array-write-pending : tie.Need-array-write-pending Inv-loop μ-loop
+array-write-pending c = omega (arith, turn (c .before .before .before .before .before .before .before) .reads .thread-low, turn (c .before .before .before .before .before .before .before) .reads .place-low, turn (c .before .before .before .before .before .before .before) .going .owed-are .long)
+
 add-i : tie.Need-add-i Inv-loop μ-loop
 add-i c = search needs
 
@@ -119,52 +129,19 @@ loop-less : tie.Need-loop-less Inv-loop μ-loop
 loop-less c = search needs
 
 loop-again : tie.Need-loop-again Inv-loop μ-loop
-loop-again c = lock-goes (turn (c .before .before .before .before .before .before)) (on-lock (c .before .before .before .before)) (c .before .before .before .if2 .left) (c .before .level-after2 .ensures) (c .before .before .level-after .ensures) (c .late-after .ensures)
-
-mul-is-under : tie.Need-mul-is-under Inv-loop μ-loop
-mul-is-under c = omega (arith, turn (c .before .before .before) .reads .place-low)
-
-array-read-is-under : tie.Need-array-read-is-under Inv-loop μ-loop
-array-read-is-under c = omega (arith, turn (c .before .before .before) .reads .place-low)
-
-is-under-requires : tie.Need-is-under-requires Inv-loop μ-loop
-is-under-requires c κs = turn (c .before .before .before) .reads .thread-low
-
-refuse-requires-2 : tie.Need-refuse-requires-2 Inv-loop μ-loop
-refuse-requires-2 c κs = early (turn (c .before .before .before .before .before))
-
-returns-2 : tie.Need-returns-2 Inv-loop μ-loop
-returns-2 c = c .refuse2 .ensures ∙ bare-stops (turn (c .before .before .before .before .before .before)) (on-variable (c .before .before .before .before)) (c .before .before .is-under .ensures) (c .before .if3 .taken)
-
-array-read-pending-after : tie.Need-array-read-pending-after Inv-loop μ-loop
-array-read-pending-after c = omega (arith, turn (c .before .before .before .before .before) .reads .thread-low, turn (c .before .before .before .before .before) .reads .place-low, turn (c .before .before .before .before .before) .going .owed-are .long)
-
-pending-after-requires : tie.Need-pending-after-requires Inv-loop μ-loop
-pending-after-requires c κs = search needs
-
-array-write-pending : tie.Need-array-write-pending Inv-loop μ-loop
-array-write-pending c = omega (arith, turn (c .before .before .before .before .before .before) .reads .thread-low, turn (c .before .before .before .before .before .before) .reads .place-low, turn (c .before .before .before .before .before .before) .going .owed-are .long)
-
-add-i-2 : tie.Need-add-i-2 Inv-loop μ-loop
-add-i-2 c = search needs
-
-loop-less-2 : tie.Need-loop-less-2 Inv-loop μ-loop
-loop-less-2 c = search needs
-
-loop-again-2 : tie.Need-loop-again-2 Inv-loop μ-loop
-loop-again-2 c = variable-goes (turn (c .before .before .before .before .before .before)) (on-variable (c .before .before .before .before)) (c .before .before .is-under .ensures) (c .before .if3 .left) (c .pending-after .ensures)
+loop-again c = goes (turn (c .before .before .before .before .before .before .before)) (c .before .before .before .before .before .is-under .ensures) (c .before .before .before .before .if1 .left) (c .before .before .level-after2 .ensures) (c .before .before .before .level-after .ensures) (c .before .late-after .ensures) (c .pending-after .ensures)
 
 unfinished-requires : tie.Need-unfinished-requires Inv-loop μ-loop
 unfinished-requires c κs = let m = allowed-bounds _ (c .before .before .before .before .before .pre .accepted .head) in (m .0, m .1)
 
-refuse-requires-3 : tie.Need-refuse-requires-3 Inv-loop μ-loop
-refuse-requires-3 c κs = omega (arith, c .before .before .before .before .before .loop .inv .upto, row-few _ _ _ (c .before .before .before .before .before .before .before .pre))
+refuse-requires-2 : tie.Need-refuse-requires-2 Inv-loop μ-loop
+refuse-requires-2 c κs = omega (arith, c .before .before .before .before .before .loop .inv .upto, row-few _ _ _ (c .before .before .before .before .before .before .before .pre))
+
+returns-2 : tie.Need-returns-2 Inv-loop μ-loop
+returns-2 c = c .refuse2 .ensures ∙ ends-open _ _ _ _ (c .before .before .before .before .before .before .before .before .pre) (c .before .before .before .before .before .before .loop .inv) (c .before .before .before .before .before .loop-test .left) (sym (c .before .before .unfinished .ensures) ∙ c .before .if2 .taken)
 
 returns-3 : tie.Need-returns-3 Inv-loop μ-loop
-returns-3 c = c .refuse3 .ensures ∙ ends-open _ _ _ _ (c .before .before .before .before .before .before .before .before .pre) (c .before .before .before .before .before .before .loop .inv) (c .before .before .before .before .before .loop-test .left) (sym (c .before .before .unfinished .ensures) ∙ c .before .if4 .taken)
-
-returns-4 : tie.Need-returns-4 Inv-loop μ-loop
-returns-4 c = ends-fit _ _ _ _ (c .before .before .before .before .before .before .before .pre) (c .before .before .before .before .before .loop .inv) (c .before .before .before .before .loop-test .left) (sym (c .before .unfinished .ensures) ∙ c .if4 .left)
+returns-3 c = ends-fit _ _ _ _ (c .before .before .before .before .before .before .before .pre) (c .before .before .before .before .before .loop .inv) (c .before .before .before .before .loop-test .left) (sym (c .before .unfinished .ensures) ∙ c .if2 .left)
 
 pub deny-spec : {M : Type 1} → statement M
 deny-spec =
@@ -180,8 +157,11 @@ deny-spec =
     place-in-requires
     mul-c
     add-c
-    is-lock-letter-requires
+    mul-is-under
+    array-read-is-under
+    is-under-requires
     array-read-was
+    broken-requires
     refuse-requires
     returns
     mul-level-after
@@ -196,21 +176,13 @@ deny-spec =
     array-write-depths
     late-after-requires
     array-write-late
-    add-i
-    loop-less
-    loop-again
-    mul-is-under
-    array-read-is-under
-    is-under-requires
-    refuse-requires-2
-    returns-2
     array-read-pending-after
     pending-after-requires
     array-write-pending
-    add-i-2
-    loop-less-2
-    loop-again-2
+    add-i
+    loop-less
+    loop-again
     unfinished-requires
-    refuse-requires-3
-    returns-3
-    returns-4)
+    refuse-requires-2
+    returns-2
+    returns-3)
