@@ -1,4 +1,3 @@
-pub mod CellTable
 pub mod Kept
 pub mod LeafLaws
 pub mod Letters
