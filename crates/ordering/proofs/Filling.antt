@@ -33,7 +33,7 @@ use Rattle.sections.specs.Refusals.{unfinished}
 use Rattle.sections.proofs.Valid.{Declared}
 use Rattle.sections.proofs.Cells.{length-view}
 use Rattle.sections.proofs.Ordered.{sections-same}
-use Rattle.ordering.specs.Computed.Parts.{Fits, past, levelAfter, codeOf, firstAfter, endAfter, bucket, Filled}
+use Rattle.ordering.specs.Computed.Parts.{Fits, past, levelAfter, codeOf, idleOr, bucket, Filled}
 use Rattle.rules.proofs.Bounds.{first-line-high}
 use Rattle.records.specs.Records.{placeIn, eventAt}
 use Rattle.ordering.proofs.Rows.{past-length, row-few, known-past, legal-past}
@@ -168,8 +168,12 @@ module _ {h : Counts} {ws : List ℕ} {xs : List ℤ} {scratch depths first top 
   abbrev r : Reads k t (placeIn (getD ws i 0)) e
   r = u .reads
 
+  -- who holds something before it, and whether its thread does
+  abbrev b : ℕ → Bool
+  b v = ltb 0 (getD depths v 0)
+
   abbrev busy : Bool
-  busy = ltb 0 (getD depths t 0)
+  busy = b t
 
   pub early : i < 2000
   early = omega (arith, u .more, row-few h ws xs (u .fits))
@@ -183,9 +187,6 @@ module _ {h : Counts} {ws : List ℕ} {xs : List ℤ} {scratch depths first top 
 
   pub depth-fits : getD depths t 0 < 65536
   depth-fits = depth-low h depths es (F .depths-are) t (r .thread-low) (omega (arith, past-length (eventAt h ws xs) i, early))
-
-  abbrev b : ℕ → Bool
-  b u = ltb 0 (getD depths u 0)
 
   held-was : holdsSome h t es ≡ busy
   held-was = sym (some-held h depths es (F .depths-are) t (r .thread-low))
@@ -269,9 +270,9 @@ module _ {h : Counts} {ws : List ℕ} {xs : List ℤ} {scratch depths first top 
     new-idle v q = getD-set-other depths t v z 0 (λ o. omega (arith, o, q, declared-thread)) ∙ F .idle v q
 
     -- a lock
-    pub filling-lock : eqb k K ≡ true → {a : ℕ} → a ≡ firstAfter (getD depths t 0) (getD first t 0) (lineAfter h i) → {n : ℕ} → length scratch ≡ n
+    pub filling-lock : eqb k K ≡ true → {a : ℕ} → a ≡ idleOr (getD depths t 0) (getD first t 0) (lineAfter h i) → {n : ℕ} → length scratch ≡ n
         → Filling h ws xs (set scratch i 0) (set depths t z) (set first t a) (set top t i) (i + 1) × (length (set scratch i 0) ≡ n)
-    unfolding past levelAfter firstAfter
+    unfolding past levelAfter idleOr
     filling-lock c {a} ea l = (
       rw (add-one i) (record {
         upto = u .more;
@@ -320,9 +321,9 @@ module _ {h : Counts} {ws : List ℕ} {xs : List ℤ} {scratch depths first top 
       held : busy ≡ true
       held = gives-up h depths es (F .depths-are) k t (placeIn (getD ws i 0)) e r next-legal c m
 
-      pub filling-unlock : {code y : ℕ} → code ≡ codeOf t (getD first t 0) (lineAfter h i) → y ≡ endAfter z (getD (set scratch i 0) (getD top t 0) 0) code → {n : ℕ} → length scratch ≡ n
+      pub filling-unlock : {code y : ℕ} → code ≡ codeOf t (getD first t 0) (lineAfter h i) → y ≡ idleOr z (getD (set scratch i 0) (getD top t 0) 0) code → {n : ℕ} → length scratch ≡ n
           → Filling h ws xs (set (set scratch i 0) (getD top t 0) y) (set depths t z) first top (i + 1) × (length (set (set scratch i 0) (getD top t 0) y) ≡ n)
-      unfolding past endAfter
+      unfolding past idleOr
       filling-unlock {code} {y} ec ey l = (
         rw (add-one i) (record {
           upto = u .more;

@@ -4,7 +4,7 @@ use native.Mathlib.Decide.{ℕ-discrete}
 use native.Mathlib.Omega.{arith}
 use mathlib.Core.Path.{_≡_, refl, sym, _∙_, ap, subst}
 use mathlib.Core.Logic.{ite}
-use mathlib.Core.Bool.{Bool, true, false, not, cond, _&&_}
+use mathlib.Core.Bool.{Bool, true, false, not, cond, _&&_, and-false, and-true}
 use mathlib.Core.List.{List, [], _∷_}
 use lib.Dec.{eqb}
 use lib.IntN.{ℤ}
@@ -35,27 +35,14 @@ shown h b (s ∷ ss) q = cond (b (s .owner)) (shown h (but b (s .owner)) ss q) (
 -- ---- who holds something
 
 but-own : (b : ℕ → Bool) (t : ℕ) → but b t t ≡ false
-but-own b t = rw (eq-eqb t t refl) (go (b t))
-  where
-    go : (x : Bool) → x && false ≡ false
-    go true = refl
-    go false = refl
+but-own b t = rw (eq-eqb t t refl) (and-false (b t))
 
 but-other : (b : ℕ → Bool) (t u : ℕ) → (u ≡ t → ⊥) → but b t u ≡ b u
-but-other b t u n = rw (ne-eqb u t n) (go (b u))
-  where
-    go : (x : Bool) → x && true ≡ x
-    go true = refl
-    go false = refl
+but-other b t u n = rw (ne-eqb u t n) (and-true (b u))
 
 but-twice : (x y z : Bool) → (x && y) && z ≡ (x && z) && y
-but-twice true true z = go z
-  where
-    go : (z : Bool) → z ≡ z && true
-    go true = refl
-    go false = refl
-but-twice true false true = refl
-but-twice true false false = refl
+but-twice true true z = sym (and-true z)
+but-twice true false z = sym (and-false z)
 but-twice false y z = refl
 
 -- b without t is c, which tells that t holds nothing

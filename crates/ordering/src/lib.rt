@@ -10,7 +10,7 @@ ghost use Rattle.rules.specs.Rules.{some};
 ghost use Rattle.records.specs.Records.{eventAt, rowEvents};
 ghost use Rattle.sections.specs.Refusals.{unfinished, denial};
 ghost use Rattle.ordering.specs.Answer.{guardOf, answerFor, entriesFor, Given};
-ghost use Rattle.ordering.specs.Computed.Parts.{Fits, past, guardCell, underIn, levelAfter, pendingAfter, lateAfter, pendingIn, unfinishedIn, toldAs, codeOf, firstAfter, endAfter, Filled, unlessZero, nonzero, Put, Orders, Written};
+ghost use Rattle.ordering.specs.Computed.Parts.{Fits, past, guardCell, underIn, levelAfter, pendingAfter, lateAfter, pendingIn, unfinishedIn, toldAs, codeOf, idleOr, Filled, unlessZero, nonzero, Put, Orders, Written};
 ghost use Rattle.ordering.specs.Traces.{OrdersTrace};
 use marking::Marking;
 use rules::Counts;
@@ -158,30 +158,24 @@ fn deny(h: Counts, locks: [usize; 16], what: &[u32], value: &[Value]) -> Verdict
 // ---- The sections.
 
 // A section as one number.
-fn encode(t: usize, a: usize, b: usize) -> u64
+fn encode(t: usize, a: u64, b: u64) -> u64
     requires { ⌜ t < 8 ⌝ }
     requires { ⌜ a < 4096 ⌝ }
     requires { ⌜ b < 4096 ⌝ }
     ensures { λ r. ⌜ r ≡ codeOf t a b ⌝ }
 {
-    t as u64 * 16777216 + b as u64 * 4096 + a as u64
+    t as u64 * 16777216 + b * 4096 + a
 }
 
-// The first line of a section after a K in line b.
-fn first_after(depth: u32, a: usize, b: usize) -> usize
-    ensures { λ r. ⌜ r ≡ firstAfter depth a b ⌝ }
+// y where a thread holds nothing, else x.
+fn idle_or(depth: u32, x: u64, y: u64) -> u64
+    ensures { λ r. ⌜ r ≡ idleOr depth x y ⌝ }
 {
-    if depth == 0 { b } else { a }
+    if depth == 0 { y } else { x }
 }
 
-// A section is written down when its thread gives up its last lock.
-fn end_after(depth: u32, x: u64, code: u64) -> u64
-    ensures { λ r. ⌜ r ≡ endAfter depth x code ⌝ }
-{
-    if depth == 0 { code } else { x }
-}
-
-// The second pass: each section at the index of its last K, 0 elsewhere. Events other than K and N are passed over.
+// The second pass: each section at the index of its last K, 0 elsewhere. It begins at a K before which its thread held nothing, and is written
+// down at the N after which it holds nothing. Other events are passed over.
 fn fill(h: Counts, what: &[u32], value: &[Value], scratch: &mut [u64])
     requires { ⌜ Fits h (now what) (now value) ⌝ }
     requires { ⌜ unfinished h (past (eventAt h (now what) (now value)) (length (now what))) ≡ false ⌝ }
@@ -189,18 +183,18 @@ fn fill(h: Counts, what: &[u32], value: &[Value], scratch: &mut [u64])
     ensures { λ _. ⌜ Filled h (now (what .entry)) (now (value .entry)) (now (scratch .exit)) ⌝ }
 {
     let mut depths: [u32; 8] = [0; 8];
-    let mut first: [usize; 8] = [0; 8];
+    let mut first: [u64; 8] = [0; 8];
     let mut top: [usize; 8] = [0; 8];
     let mut i: usize = 0;
     while i < what.len() {
         let w = what[i];
         let k = records::letter_in(w);
         let t = records::thread_in(w);
-        let line = rules::line_after(h, i as u32);
+        let line = rules::line_after(h, i as u32) as u64;
         scratch[i] = 0;
         if k == b'K' {
             let depth = depths[t];
-            first[t] = first_after(depth, first[t], line);
+            first[t] = idle_or(depth, first[t], line);
             top[t] = i;
             depths[t] = level_after(depth, k);
             i += 1;
@@ -208,7 +202,7 @@ fn fill(h: Counts, what: &[u32], value: &[Value], scratch: &mut [u64])
             let depth = level_after(depths[t], k);
             let j = top[t];
             let code = encode(t, first[t], line);
-            scratch[j] = end_after(depth, scratch[j], code);
+            scratch[j] = idle_or(depth, scratch[j], code);
             depths[t] = depth;
             i += 1;
         } else {

@@ -7,7 +7,7 @@ use denote.Ref.{now}
 use borrow.Author.Needs.{needs}
 use borrow.Author.Tests.{eq-eqb, ne-eqb}
 use Rattle.rules.proofs.Bounds.{first-line-high, allowed-bounds}
-use Rattle.ordering.specs.Computed.Parts.{codeOf, firstAfter}
+use Rattle.ordering.specs.Computed.Parts.{codeOf, idleOr}
 use Rattle.ordering.proofs.Rows.{reads-at}
 use Rattle.ordering.proofs.Filling.{Filling, filling-start, filling-end, Turn, early, top-in, depth-fits, filling-lock, filling-unlock, filling-other}
 use Rattle.ordering.proofs.fill.Statement.{statement}
@@ -68,14 +68,14 @@ mul-depth c = omega (arith, turn (c .before .before) .reads .thread-low)
 array-read-depth : tie.Need-array-read-depth Inv-loop μ-loop
 array-read-depth c = omega (arith, turn (c .before .before) .reads .thread-low, turn (c .before .before) .filling .depths-are .long)
 
-mul-first-after : tie.Need-mul-first-after Inv-loop μ-loop
-mul-first-after c = omega (arith, turn (c .before .before) .reads .thread-low)
+mul-idle-or : tie.Need-mul-idle-or Inv-loop μ-loop
+mul-idle-or c = omega (arith, turn (c .before .before) .reads .thread-low)
 
-array-read-first-after : tie.Need-array-read-first-after Inv-loop μ-loop
-array-read-first-after c = omega (arith, turn (c .before .before) .reads .thread-low, turn (c .before .before) .filling .first-long)
+array-read-idle-or : tie.Need-array-read-idle-or Inv-loop μ-loop
+array-read-idle-or c = omega (arith, turn (c .before .before) .reads .thread-low, turn (c .before .before) .filling .first-long)
 
-first-after-requires : tie.Need-first-after-requires Inv-loop μ-loop
-first-after-requires c κs = search needs
+idle-or-requires : tie.Need-idle-or-requires Inv-loop μ-loop
+idle-or-requires c κs = search needs
 
 mul-first : tie.Need-mul-first Inv-loop μ-loop
 mul-first c = omega (arith, turn (c .before .before .before) .reads .thread-low)
@@ -105,7 +105,7 @@ loop-less : tie.Need-loop-less Inv-loop μ-loop
 loop-less c = search needs
 
 loop-again : tie.Need-loop-again Inv-loop μ-loop
-loop-again c = filling-lock (turn (c .before .before .before .before)) (c .level-after .ensures) (eq-eqb _ _ (c .before .before .if1 .taken)) (c .before .first-after .ensures ∙ ap (firstAfter _ _) (c .before .before .before .line-after .ensures)) (c .before .before .before .before .before .before .before .before .loop .inv .1)
+loop-again c = filling-lock (turn (c .before .before .before .before)) (c .level-after .ensures) (eq-eqb _ _ (c .before .before .if1 .taken)) (c .before .idle-or .ensures ∙ ap (idleOr _ _) (c .before .before .before .line-after .ensures)) (c .before .before .before .before .before .before .before .before .loop .inv .1)
 
 mul-level-after : tie.Need-mul-level-after Inv-loop μ-loop
 mul-level-after c = omega (arith, turn (c .before .before .before) .reads .thread-low)
@@ -131,14 +131,14 @@ array-read-encode c = omega (arith, turn (c .before .before .before .before) .re
 encode-requires : tie.Need-encode-requires Inv-loop μ-loop
 encode-requires c κs = (turn (c .before .before .before .before) .reads .thread-low, (turn (c .before .before .before .before) .filling .firsts _ (turn (c .before .before .before .before) .reads .thread-low), omega (arith, c .before .before .before .line-after .ensures, early (turn (c .before .before .before .before)), first-line-high (c .before .before .before .before .before .before .before .before .before .before .before .args .h))))
 
-mul-end-after : tie.Need-mul-end-after Inv-loop μ-loop
-mul-end-after c = omega (arith, turn (c .before .before .before .before .before) .filling .tops _ (turn (c .before .before .before .before .before) .reads .thread-low), early (turn (c .before .before .before .before .before)))
+mul-idle-or-2 : tie.Need-mul-idle-or-2 Inv-loop μ-loop
+mul-idle-or-2 c = omega (arith, turn (c .before .before .before .before .before) .filling .tops _ (turn (c .before .before .before .before .before) .reads .thread-low), early (turn (c .before .before .before .before .before)))
 
-slice-read-end-after : tie.Need-slice-read-end-after Inv-loop μ-loop
-slice-read-end-after c = rw (length-set (c .before .before .before .before .before .before .before .before .before .before .loop .scratch) (c .before .before .before .before .before .before .before .before .before .before .loop .i) 0) (omega (arith, top-in (turn (c .before .before .before .before .before .before))))
+slice-read-idle-or : tie.Need-slice-read-idle-or Inv-loop μ-loop
+slice-read-idle-or c = rw (length-set (c .before .before .before .before .before .before .before .before .before .before .loop .scratch) (c .before .before .before .before .before .before .before .before .before .before .loop .i) 0) (omega (arith, top-in (turn (c .before .before .before .before .before .before))))
 
-end-after-requires : tie.Need-end-after-requires Inv-loop μ-loop
-end-after-requires c κs = search needs
+idle-or-requires-2 : tie.Need-idle-or-requires-2 Inv-loop μ-loop
+idle-or-requires-2 c κs = search needs
 
 mul-scratch-2 : tie.Need-mul-scratch-2 Inv-loop μ-loop
 mul-scratch-2 c = omega (arith, turn (c .before .before .before .before .before .before .before) .filling .tops _ (turn (c .before .before .before .before .before .before .before) .reads .thread-low), early (turn (c .before .before .before .before .before .before .before)))
@@ -159,7 +159,7 @@ loop-less-2 : tie.Need-loop-less-2 Inv-loop μ-loop
 loop-less-2 c = search needs
 
 loop-again-2 : tie.Need-loop-again-2 Inv-loop μ-loop
-loop-again-2 c = filling-unlock (turn (c .before .before .before .before .before .before .before)) (c .before .before .before .level-after2 .ensures) (ne-eqb _ _ (c .before .before .before .before .before .if1 .left)) (eq-eqb _ _ (c .before .before .before .before .if2 .taken)) (c .before .before .encode .ensures ∙ ap (codeOf _ _) (c .before .before .before .before .before .before .line-after .ensures)) (c .end-after .ensures) (c .before .before .before .before .before .before .before .before .before .before .before .loop .inv .1)
+loop-again-2 c = filling-unlock (turn (c .before .before .before .before .before .before .before)) (c .before .before .before .level-after2 .ensures) (ne-eqb _ _ (c .before .before .before .before .before .if1 .left)) (eq-eqb _ _ (c .before .before .before .before .if2 .taken)) (c .before .before .encode .ensures ∙ ap (codeOf _ _) (c .before .before .before .before .before .before .line-after .ensures)) (c .idle-or2 .ensures) (c .before .before .before .before .before .before .before .before .before .before .before .loop .inv .1)
 
 add-i-3 : tie.Need-add-i-3 Inv-loop μ-loop
 add-i-3 c = search needs
@@ -195,9 +195,9 @@ fill-spec =
     slice-write-scratch
     mul-depth
     array-read-depth
-    mul-first-after
-    array-read-first-after
-    first-after-requires
+    mul-idle-or
+    array-read-idle-or
+    idle-or-requires
     mul-first
     array-write-first
     mul-top
@@ -216,9 +216,9 @@ fill-spec =
     mul-encode
     array-read-encode
     encode-requires
-    mul-end-after
-    slice-read-end-after
-    end-after-requires
+    mul-idle-or-2
+    slice-read-idle-or
+    idle-or-requires-2
     mul-scratch-2
     slice-write-scratch-2
     mul-depths-2

@@ -72,13 +72,9 @@ toldAs (denied number line) = Refused number line
 abbrev pub codeOf : ℕ → ℕ → ℕ → ℕ
 codeOf t a b = entryCode (record { thread = t; first = a; last = b })
 
--- the first line of a thread's section after a K in line b, a before, where it held this often before it
-unfoldable pub firstAfter : ℕ → ℕ → ℕ → ℕ
-firstAfter depth a b = cond (eqb depth 0) b a
-
--- what stands for a thread's section after an N, x before: the section, where it holds nothing more
-unfoldable pub endAfter : ℕ → ℕ → ℕ → ℕ
-endAfter depth x code = cond (eqb depth 0) code x
+-- y where a thread holds nothing, else x
+unfoldable pub idleOr : ℕ → ℕ → ℕ → ℕ
+idleOr depth x y = cond (eqb depth 0) y x
 
 -- the number of the section whose last K has this position; 0 where there is none
 unfoldable pub bucket : Counts → List (Section ℤ) → ℕ → ℕ
