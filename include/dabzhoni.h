@@ -1,5 +1,5 @@
 /* A whole trace marked into lent memory, and one step over a state that the caller keeps. Link target/staticlib/libc_api.a, which
-   `rt staticlib c_api` writes. Numbers are document 01's: a refusal's number, and a line of the trace. */
+   `rt staticlib c_api` writes. Numbers are those of documents 01 and 02: a refusal's number, and a line of the trace. */
 #ifndef DABZHONI_H
 #define DABZHONI_H
 

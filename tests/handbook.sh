@@ -1,7 +1,7 @@
 #!/usr/bin/env bash
 # The papers of docs/PAPERS.md: each is marked by a program and compared, byte for byte, with the listing that follows it there.
 #   tests/handbook.sh PROGRAM [ARGUMENT..]    the program reads a paper on standard input and writes its listing
-# A number from 1 to 6 or 9 to 22 without a paper under its own heading is a failure. The last line is 'N passed, M failed'.
+# A number from 1 to 6 or 9 to 23 without a paper under its own heading is a failure. The last line is 'N passed, M failed'.
 set -u
 export LC_ALL=C
 if [ $# -eq 0 ]; then
@@ -78,7 +78,7 @@ while read -r n line; do
         sed -n '1,5p' "$work/said"
     fi
 done < "$work/pairs"
-for number in {1..6} {9..22}; do
+for number in {1..6} {9..23}; do
     if ! grep -qx "$number" "$work/covered"; then
         failed=$((failed + 1))
         echo "docs/PAPERS.md: no paper under heading $number is answered with $number"

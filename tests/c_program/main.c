@@ -11,7 +11,7 @@ static void expect(const char *what, bool ok) {
   if (!ok) printf("%s: FAILED\n", what);
 }
 
-/* ---- steps: the short traces of document 01, and refusals 4, 5, 8 and 9 */
+/* ---- steps: the short traces of document 01, traces of 02 (a), refusals 4, 5, 8 and 9, states that no events reach */
 
 static struct dabzhoni_state state;
 
@@ -54,8 +54,7 @@ static void steps(void) {
   trace("U 0 0 0", 17);
   trace("R 0 0 0;L 0 0 0;U 0 0 0", 0);
   trace("R 0 0 0;K 0 0;L 0 0 0;U 0 0 0", 17);
-  trace("R 0 0 0;A 0 0 5;L 0 0 0", 15);
-  trace("R 0 0 0;A 0 0 5;S 0 0 5;W 0 0 5;L 0 0 0", 16);
+  trace("R 0 0 0;A 0 0 5", 23);
   trace("A 0 0 5;S 0 0 5;S 0 0 5", 14);
   trace("A 0 0 5;K 0 0;S 0 0 5", 17);
   trace("K 0 0;A 0 0 5;S 0 0 5;N 0 0", 16);
@@ -66,6 +65,14 @@ static void steps(void) {
   trace("K 0 0;P 0 0 5;N 0 0", 16);
   trace("R 0 0 0;R 0 0 0;R 0 0 0;R 0 0 0;R 0 0 0;R 0 0 0;R 0 0 0;R 0 0 0;R 0 0 0", 19);
   trace("A 1 1 -2147483648;S 1 1 -2147483648;W 1 1 -2147483648;R 0 1 -2147483648;L 0 1 -2147483648;U 0 1 2147483647", 18);
+  trace("A 0 0 5;R 0 0 0", 23);
+  trace("A 0 0 5;S 0 0 5;R 0 0 0", 23);
+  trace("P 0 0 5;R 0 0 0", 23);
+  trace("R 0 0 0;P 0 0 5", 23);
+  trace("P 0 0 5;W 0 0 5;R 0 0 5;P 0 0 6", 13);
+  trace("P 0 0 5;W 0 0 5;R 0 0 5;A 0 0 1;B 0 0 5;L 0 0 5", 0);
+  trace("A 0 0 1;P 0 0 5;W 0 0 5;R 0 0 5;B 0 0 5;L 0 0 5", 0);
+  trace("K 0 0;A 0 0 5;N 0 0", 15);
 
   dabzhoni_initial(&state, 2, 2, 2);
   reply("no letter", "X 0 0 0", 4, 3);
@@ -83,6 +90,22 @@ static void steps(void) {
   dabzhoni_initial(&state, 2, 2, 2);
   state.holds[0].depth = 1;
   reply("depth without holder", "A 0 0 0", 8, 0);
+
+  /* states that no events reach: a read is outstanding, and beside it a fresh assign, a store, a later write, eight of either */
+  trace("R 0 0 0", 0);
+  state.cells[0].fresh = true;
+  reply("load with a fresh assign", "L 0 0 0", 15, 4);
+  state.cells[0].fresh = false;
+  state.cells[0].stores.len = 1;
+  reply("load with an outstanding store", "L 0 0 0", 16, 4);
+  state.cells[0].stores.len = 0;
+  state.events = 2;
+  state.cells[0].written = 2;
+  reply("load whose read came before a write", "L 0 0 0", 16, 5);
+  state.cells[0].stores.len = 8;
+  reply("nine stores before a dead read", "P 0 0 0", 19, 5);
+  state.cells[0].reads.len = 8;
+  reply("nine reads before a dead read", "R 0 0 0", 19, 5);
 }
 
 /* ---- whole papers */
@@ -165,6 +188,7 @@ static const struct paper PAPERS[] = {
     {.name = "4", .text = "H 1 1 0\nG -\nA 0 0 5\nX\nZ 22\n", .memories = "refused 4 4\n", .number = 4, .line = 4},
     {.name = "5", .text = "H 1 1 1\nG 0\nK 0 1\nZ 18\n", .memories = "refused 3 5\n", .number = 5, .line = 3},
     {.name = "17", .text = "H 2 1 1\nG 0\nK 0 0\nU 0 0 0\nZ 26\n", .memories = "refused 4 17\n", .number = 17, .line = 4},
+    {.name = "23", .text = "H 1 1 1\nG 0\nR 0 0 0\nA 0 0 5\nZ 28\n", .memories = "refused 4 23\n", .number = 23, .line = 4},
 };
 
 static void part(const struct paper *p, const char *what, bool ok) {

@@ -14,7 +14,7 @@ use Rattle.rules.specs.declared.Event.{Event}
 use Rattle.rules.specs.declared.Slot.{Slot}
 use Rattle.rules.specs.Events.{A, B, K, L, N, P, R, S, U, W, letter, place, value, among, is}
 use Rattle.rules.specs.Words.{first}
-use Rattle.rules.specs.Rules.{some, noPartner, lockTaken, notHeld, pendingBars, notFresh, notStored, readBeforeWrite, unwritten, notWritten, notUsable, differs, eightAlready, breaks, rows, rowIn, firstBroken, judge}
+use Rattle.rules.specs.Rules.{some, noPartner, lockTaken, notHeld, pendingBars, notFresh, notStored, readBeforeWrite, unwritten, notWritten, notUsable, differs, eightAlready, deadRead, breaks, rows, rowIn, firstBroken, judge}
 use Rattle.rules.proofs.Laws.{is-true}
 use Rattle.state.specs.declared.Ring.{Ring}
 use Rattle.state.specs.declared.Cell.{Cell}
@@ -72,21 +72,21 @@ module _ (s : State) (e : Event) where
   hold = getD (s .holds) (place (e .kind)) noHold
 
   cell-judged : T (among (U ∷ A ∷ B ∷ []) (letter (e .kind))) → cellTurn own locked (letter (e .kind)) (value (e .kind)) (s .events + 1) .rule ≡ judge (s .counts) (wordsIn s) e
-  unfolding cellTurn rowOf judge rows rowIn firstBroken breaks noPartner notUsable differs is wordsIn
+  unfolding cellTurn rowOf judge rows rowIn firstBroken breaks noPartner notUsable differs deadRead is wordsIn readsAt
   cell-judged h = by-letters (λ k. letter (e .kind) ≡ k → cellTurn own locked k (value (e .kind)) (s .events + 1) .rule ≡ judge (s .counts) (wordsIn s) e)
-      (U ∷ A ∷ B ∷ []) ((λ q. simp (q, or-false)), ((λ q. simp q), ((λ q. simp q), tt))) (letter (e .kind)) h refl
+      (U ∷ A ∷ B ∷ []) ((λ q. simp (q, or-false)), ((λ q. simp (q, queued-none, or-false)), ((λ q. simp q), tt))) (letter (e .kind)) h refl
 
   reads-judged : (b : Slot) → T (among (R ∷ L ∷ []) (letter (e .kind)))
       → readsWith own (first (readsAt s (e .thread) (place (e .kind)))) b main (letter (e .kind)) (value (e .kind)) (s .events + 1) .rule ≡ judge (s .counts) (wordsIn s) e
-  unfolding readsWith rowOf judge rows rowIn firstBroken breaks noPartner pendingBars notStored notWritten readBeforeWrite differs eightAlready is wordsIn readsAt storesAt
+  unfolding readsWith rowOf judge rows rowIn firstBroken breaks noPartner pendingBars notStored notWritten readBeforeWrite differs eightAlready deadRead is wordsIn readsAt storesAt
   reads-judged b h = by-letters (λ k. letter (e .kind) ≡ k → readsWith own (first (readsAt s (e .thread) (place (e .kind)))) b main k (value (e .kind)) (s .events + 1) .rule ≡ judge (s .counts) (wordsIn s) e)
-      (R ∷ L ∷ []) ((λ q. simp (q, queued-length, or-false)), ((λ q. simp (q, queued-none, or-false)), tt)) (letter (e .kind)) h refl
+      (R ∷ L ∷ []) ((λ q. simp (q, queued-length, queued-none, or-false)), ((λ q. simp (q, queued-none, or-false)), tt)) (letter (e .kind)) h refl
 
   stores-judged : (b : Slot) → T (among (S ∷ P ∷ W ∷ []) (letter (e .kind)))
       → storesWith own (first (storesAt s (e .thread) (place (e .kind)))) b main locked (letter (e .kind)) (value (e .kind)) (s .events + 1) .rule ≡ judge (s .counts) (wordsIn s) e
-  unfolding storesWith rowOf judge rows rowIn firstBroken breaks noPartner pendingBars notFresh notUsable differs eightAlready is wordsIn storesAt
+  unfolding storesWith rowOf judge rows rowIn firstBroken breaks noPartner pendingBars notFresh notUsable differs eightAlready deadRead is wordsIn readsAt storesAt
   stores-judged b h = by-letters (λ k. letter (e .kind) ≡ k → storesWith own (first (storesAt s (e .thread) (place (e .kind)))) b main locked k (value (e .kind)) (s .events + 1) .rule ≡ judge (s .counts) (wordsIn s) e)
-      (S ∷ P ∷ W ∷ []) ((λ q. simp (q, queued-length, or-false)), ((λ q. simp (q, queued-length, or-false)), ((λ q. simp (q, queued-none, or-false)), tt))) (letter (e .kind)) h refl
+      (S ∷ P ∷ W ∷ []) ((λ q. simp (q, queued-length, or-false)), ((λ q. simp (q, queued-length, queued-none, or-false)), ((λ q. simp (q, queued-none, or-false)), tt))) (letter (e .kind)) h refl
 
   lock-judged : e .thread < 8 → s .counts .threads ≤ 8 → T (among (K ∷ N ∷ []) (letter (e .kind)))
       → lockTurn hold locked (s .counts .threads) (someOf s (e .thread) (s .counts .variables)) (e .thread) (letter (e .kind)) (s .events + 1) .rule ≡ judge (s .counts) (wordsIn s) e

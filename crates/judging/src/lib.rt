@@ -11,6 +11,7 @@ ghost use Rattle.judging.specs.Computed.Checks.{
   oldestOf,
   othersHold,
   useChecks,
+  assignChecks,
   loadChecks,
   storeChecks,
   readChecks,
@@ -126,6 +127,19 @@ fn use_checks(c: Cell, locked: u32, x: Value) -> Checks
     }
 }
 
+fn assign_checks(c: Cell) -> Checks
+    ensures { λ r. ⌜ r ≡ assignChecks c ⌝ }
+{
+    let q = c.reads;
+    Checks {
+        first: !c.pending & (q.len != 0),
+        second: false,
+        third: false,
+        fourth: false,
+        fifth: false,
+    }
+}
+
 fn load_checks(c: Cell, s: Slot, x: Value) -> Checks
     ensures { λ r. ⌜ r ≡ loadChecks c s x ⌝ }
 {
@@ -157,10 +171,11 @@ fn read_checks(c: Cell, m: Main, x: Value) -> Checks
     ensures { λ r. ⌜ r ≡ readChecks c m x ⌝ }
 {
     let q = c.reads;
+    let o = c.stores;
     Checks {
         first: !(x == m.value),
         second: 8 <= q.len,
-        third: false,
+        third: (o.len != 0) | (c.fresh & !c.pending),
         fourth: false,
         fifth: false,
     }
@@ -230,11 +245,12 @@ fn unlock_checks(a: Hold, w: OnSome, t: usize) -> Checks
 fn prescient_store_checks(c: Cell) -> Checks
     ensures { λ r. ⌜ r ≡ prescientStoreChecks c ⌝ }
 {
+    let q = c.reads;
     let o = c.stores;
     Checks {
         first: c.pending,
         second: 8 <= o.len,
-        third: false,
+        third: q.len != 0,
         fourth: false,
         fifth: false,
     }
@@ -257,14 +273,14 @@ fn prescient_assign_checks(c: Cell, x: Value) -> Checks
 // The rows of U, A, L, S, R, W, K, N, P, B; 0 fills a row.
 const ROWS: [[u8; 5]; 10] = [
     [17, 18, 0, 0, 0],
-    [0, 0, 0, 0, 0],
+    [23, 0, 0, 0, 0],
     [10, 13, 15, 16, 18],
     [13, 14, 17, 18, 19],
-    [18, 19, 0, 0, 0],
+    [18, 19, 23, 0, 0],
     [10, 18, 0, 0, 0],
     [11, 13, 0, 0, 0],
     [12, 15, 16, 0, 0],
-    [13, 19, 0, 0, 0],
+    [13, 19, 23, 0, 0],
     [10, 18, 0, 0, 0],
 ];
 
@@ -435,28 +451,21 @@ pub fn use_rule(c: Cell, locked: u32, x: Value) -> u8
 pub fn cell_turn(c: Cell, locked: u32, k: u8, x: Value, p: u32) -> CellTurn
     ensures { λ r. ⌜ r ≡ cellTurn c locked k x p ⌝ }
 {
+    let mut turn = CellTurn { rule: 0, cell: c };
     if k == b'U' {
-        let rule = use_rule(c, locked, x);
-        return CellTurn {
-            rule: rule,
-            cell: c,
-        };
-    }
-    if k == b'A' {
-        let d = assigned(c, x, p);
-        return CellTurn { rule: 0, cell: d };
-    }
-    if k == b'B' {
+        turn.rule = use_rule(c, locked, x);
+    } else if k == b'A' {
+        let b = assign_checks(c);
+        let row = row_at(1);
+        turn.rule = first_of(b, row);
+        turn.cell = assigned(c, x, p);
+    } else if k == b'B' {
         let b = prescient_assign_checks(c, x);
         let row = row_at(9);
-        let rule = first_of(b, row);
-        let d = prescient_assigned(c, x, p);
-        return CellTurn {
-            rule: rule,
-            cell: d,
-        };
+        turn.rule = first_of(b, row);
+        turn.cell = prescient_assigned(c, x, p);
     }
-    CellTurn { rule: 0, cell: c }
+    turn
 }
 
 // R, L: the reads of the cell. `front` is the slot at the queue's first place, `behind` the one behind its last.
@@ -473,37 +482,28 @@ pub fn reads_turn(
 {
     let q = c.reads;
     let s = oldest(q, front);
+    let mut turn = ReadsTurn {
+        rule: 0,
+        cell: c,
+        slot: behind,
+    };
     if k == b'L' {
         let b = load_checks(c, s, x);
         let row = row_at(2);
-        let rule = first_of(b, row);
-        let d = loaded(c, s, x, p);
-        return ReadsTurn {
-            rule: rule,
-            cell: d,
-            slot: behind,
-        };
-    }
-    if k == b'R' {
+        turn.rule = first_of(b, row);
+        turn.cell = loaded(c, s, x, p);
+    } else if k == b'R' {
         let b = read_checks(c, main, x);
         let row = row_at(4);
-        let rule = first_of(b, row);
-        let d = has_read(c, s, x, p);
         let new = Slot {
             value: x,
             position: p,
         };
-        return ReadsTurn {
-            rule: rule,
-            cell: d,
-            slot: new,
-        };
+        turn.rule = first_of(b, row);
+        turn.cell = has_read(c, s, x, p);
+        turn.slot = new;
     }
-    ReadsTurn {
-        rule: 0,
-        cell: c,
-        slot: behind,
-    }
+    turn
 }
 
 // S, P, W: the stores of the cell, and its variable in main memory.
@@ -519,58 +519,43 @@ pub fn stores_turn(
 ) -> StoresTurn
     ensures { λ r. ⌜ r ≡ storesTurn c front behind main locked k x p ⌝ }
 {
+    let mut turn = StoresTurn {
+        rule: 0,
+        cell: c,
+        slot: behind,
+        main: main,
+    };
+    let new = Slot {
+        value: x,
+        position: p,
+    };
     if k == b'W' {
         let q = c.stores;
         let s = oldest(q, front);
         let b = write_checks(c, s, x);
         let row = row_at(5);
-        let rule = first_of(b, row);
-        let d = has_written(c, x, p);
+        turn.rule = first_of(b, row);
+        turn.cell = has_written(c, x, p);
         let m = Main { value: x };
-        return StoresTurn {
-            rule: rule,
-            cell: d,
-            slot: behind,
-            main: m,
-        };
-    }
-    let new = Slot {
-        value: x,
-        position: p,
-    };
-    if k == b'S' {
+        turn.main = m;
+    } else if k == b'S' {
         let b = store_checks(c, locked, x);
         let row = row_at(3);
-        let rule = first_of(b, row);
-        let d = stored(c, x, p);
-        return StoresTurn {
-            rule: rule,
-            cell: d,
-            slot: new,
-            main: main,
-        };
-    }
-    if k == b'P' {
+        turn.rule = first_of(b, row);
+        turn.cell = stored(c, x, p);
+        turn.slot = new;
+    } else if k == b'P' {
         let b = prescient_store_checks(c);
         let row = row_at(8);
-        let rule = first_of(b, row);
-        let d = prescient_stored(c, x, p);
-        return StoresTurn {
-            rule: rule,
-            cell: d,
-            slot: new,
-            main: main,
-        };
+        turn.rule = first_of(b, row);
+        turn.cell = prescient_stored(c, x, p);
+        turn.slot = new;
     }
-    StoresTurn {
-        rule: 0,
-        cell: c,
-        slot: behind,
-        main: main,
-    }
+    turn
 }
 
-// K, N: a lock, and the position of the thread's last lock. `any` is what the variables of the thread have.
+// K, N: a lock, and the position of the thread's last lock. `any` is what the variables of the thread have. Each arm gives a record of its own:
+// one that the arms change is slower here (docs/PERFORMANCE.md).
 pub fn lock_turn(
     a: Hold,
     locked: u32,

@@ -41,6 +41,14 @@ pub or-false-right : (a b : Bool) → (a || b) ≡ false → b ≡ false
 or-false-right true b h = absurd (subst T h tt)
 or-false-right false b h = h
 
+pub or-left : (a b : Bool) → T a → T (a || b)
+or-left true b h = tt
+or-left false b h = absurd h
+
+pub or-right : (a b : Bool) → T b → T (a || b)
+or-right true b h = tt
+or-right false b h = h
+
 -- of two, where the first holds and not both, not the second
 pub other-false : (a b : Bool) → (a && b) ≡ false → T a → b ≡ false
 other-false true b h t = h
@@ -77,6 +85,16 @@ broken-is (m ∷ ns) c w e n p = go (breaks m c w e) refl p (broken-is ns c w e 
     go : (b : Bool) → breaks m c w e ≡ b → cond b m (firstBroken ns c w e) ≡ suc n → (firstBroken ns c w e ≡ suc n → breaks (suc n) c w e ≡ true) → breaks (suc n) c w e ≡ true
     go true q p r = rw (← p) q
     go false q p r = r p
+
+-- and its number stands in the row
+pub named-among : (ns : List ℕ) (c : Counts) (w : Words) (e : Event) (n : ℕ) → firstBroken ns c w e ≡ suc n → T (among ns (suc n))
+unfolding firstBroken
+named-among [] c w e n p = absurd (suc-ne-zero n (sym p))
+named-among (m ∷ ns) c w e n p = go (breaks m c w e) p (named-among ns c w e n)
+  where
+    go : (b : Bool) → cond b m (firstBroken ns c w e) ≡ suc n → (firstBroken ns c w e ≡ suc n → T (among ns (suc n))) → T (eqb m (suc n) || among ns (suc n))
+    go true p r = or-left (eqb m (suc n)) (among ns (suc n)) (subst T (sym (eq-eqb m (suc n) p)) tt)
+    go false p r = or-right (eqb m (suc n)) (among ns (suc n)) (r p)
 
 -- the rule n stands before m in a row
 abbrev pub precedes : ℕ → ℕ → List ℕ → Bool
@@ -274,16 +292,12 @@ unfolding some
 some-has zero f u h q = absurd (not-suc-le-zero h)
 some-has (suc n) f u h q = go (eqb u n) refl (λ k. some-has n f u k q)
   where
-    or-right : (a b : Bool) → b ≡ true → (a || b) ≡ true
-    or-right true b q = refl
-    or-right false b q = q
-
     below : (u ≡ n → ⊥) → u < n
     below d = omega arith
 
     go : (x : Bool) → eqb u n ≡ x → (u < n → some n f ≡ true) → (f n || some n f) ≡ true
     go true e r = rw (← (eqb-true u n e), q)
-    go false e r = or-right (f n) (some n f) (r (below (eqb-false u n e)))
+    go false e r = is-true (or-right (f n) (some n f) (subst T (sym (r (below (eqb-false u n e)))) tt))
 
 -- where the search finds none, f holds of no number below n
 pub some-none : (n : ℕ) (f : ℕ → Bool) → some n f ≡ false → (u : ℕ) → u < n → f u ≡ false

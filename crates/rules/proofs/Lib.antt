@@ -11,3 +11,8 @@ pub mod Bounds
 pub mod Readings
 pub mod From
 pub mod Bare
+pub mod Cells
+pub mod Rows
+pub mod Live
+pub mod Loads
+pub mod DeadReads

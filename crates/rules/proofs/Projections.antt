@@ -15,7 +15,7 @@ use Rattle.rules.specs.declared.Counts.{Counts}
 use Rattle.rules.specs.Events.{A, K, L, N, P, R, S, W, letter, value, among, is, of, on, onLock, locks, unlocks, eqZ}
 use Rattle.rules.specs.Words.{latest, valueIn, letterIn, lastAt, count, slot, inOrder, first, by, locksBy, acquires, releases, reads, stores, copy, fresh, pending, announced, lastLock, lastWrite, usable, depth, main}
 use Rattle.rules.specs.Rules
-use Rattle.rules.specs.Rules.{wordsOf, none?, loc, noPartner, lockTaken, notHeld, pendingBars, notFresh, notStored, readBeforeWrite, unwritten, notWritten, notUsable, differs, eightAlready, breaks, rows, rowIn, firstBroken, judge}
+use Rattle.rules.specs.Rules.{wordsOf, none?, loc, noPartner, lockTaken, notHeld, pendingBars, notFresh, notStored, readBeforeWrite, unwritten, notWritten, notUsable, differs, eightAlready, deadRead, breaks, rows, rowIn, firstBroken, judge}
 use Rattle.rules.specs.Memories.{below, each, memory, copies}
 use Rattle.rules.specs.Projections.{keep, own, ownOn, memoryOn, lockOn}
 use Rattle.rules.proofs.Laws.{and-left, and-right, or-false-left, or-false-right, letter-is}
@@ -376,10 +376,14 @@ module _ (c : Counts) (e : Event) (es fs : List Event) (o : own (e .thread) es �
   unfolding eightAlready wordsOf
   same-19 = rw (reads-same (e .thread) es fs o (loc e) .2, stores-same (e .thread) es fs o (loc e) .2)
 
+  same-23 : deadRead (wordsOf es) e ≡ deadRead (wordsOf fs) e
+  unfolding deadRead wordsOf
+  same-23 = rw (reads-same (e .thread) es fs o (loc e) .0, stores-same (e .thread) es fs o (loc e) .0, fresh-same (e .thread) es fs o (loc e), pending-same (e .thread) es fs o (loc e))
+
   same-broken : (ns : List ℕ) → firstBroken ns c (wordsOf es) e ≡ firstBroken ns c (wordsOf fs) e
   unfolding firstBroken breaks
   same-broken [] = refl
-  same-broken (n ∷ ns) = rw (same-10, same-11, same-12, same-13, same-14, same-15, same-16, same-17, same-18, same-19, same-broken ns)
+  same-broken (n ∷ ns) = rw (same-10, same-11, same-12, same-13, same-14, same-15, same-16, same-17, same-18, same-19, same-23, same-broken ns)
 
   pub judge-by-needed-lists : judge c (wordsOf es) e ≡ judge c (wordsOf fs) e
   unfolding judge

@@ -1,24 +1,28 @@
--- The table of short traces, and the 1-2-3 run, are what the definitions give: by computation.
+-- The tables of short traces, and the 1-2-3 run, are what the definitions give: by computation.
 use mathlib.Core.Path.{_≡_, refl}
 use mathlib.Core.List.{[], _∷_, map, reverse}
 use lib.IntN.{pos}
 use Rattle.rules.specs.Events.{is, of, on, onLock, locks, unlocks, eqZ}
 use Rattle.rules.specs.Limits.{full, declared}
 use Rattle.rules.specs.Words.{latest, valueIn, letterIn, lastAt, count, inOrder, by, locksBy, acquires, releases, reads, stores, copy, fresh, pending, announced, lastLock, lastWrite, usable, depth, main}
-use Rattle.rules.specs.Rules.{wordsOf, some, noPartner, lockTaken, notHeld, pendingBars, notFresh, notStored, readBeforeWrite, unwritten, notWritten, notUsable, differs, eightAlready, breaks, rows, rowIn, firstBroken, judge, answer, verdict, accepted, markFrom, mark}
+use Rattle.rules.specs.Rules.{wordsOf, some, noPartner, lockTaken, notHeld, pendingBars, notFresh, notStored, readBeforeWrite, unwritten, notWritten, notUsable, differs, eightAlready, deadRead, breaks, rows, rowIn, firstBroken, judge, answer, verdict, accepted, markFrom, mark}
 use Rattle.rules.specs.Memories.{below, each, memory}
-use Rattle.rules.specs.Traces.{ev, U, A, L, S, R, W, P, B, K, N, trace, with-main, traces, slips, computed, oneTwoThreeCounts, oneTwoThree}
+use Rattle.rules.specs.Traces.{ev, U, A, L, S, R, W, P, B, K, N, trace, with-main, traces, slips, deadReads, computed, oneTwoThreeCounts, oneTwoThree}
 
 pub short-traces : map computed traces ≡ traces
-unfolding ev U A L S R W P B K N trace with-main traces computed is of on onLock locks unlocks eqZ declared latest valueIn letterIn lastAt count inOrder by locksBy acquires releases reads stores copy fresh pending announced lastLock lastWrite usable depth main wordsOf some noPartner lockTaken notHeld pendingBars notFresh notStored readBeforeWrite unwritten notWritten notUsable differs eightAlready breaks rows rowIn firstBroken judge answer verdict markFrom mark
+unfolding ev U A L S R W P B K N trace with-main traces computed is of on onLock locks unlocks eqZ declared latest valueIn letterIn lastAt count inOrder by locksBy acquires releases reads stores copy fresh pending announced lastLock lastWrite usable depth main wordsOf some noPartner lockTaken notHeld pendingBars notFresh notStored readBeforeWrite unwritten notWritten notUsable differs eightAlready deadRead breaks rows rowIn firstBroken judge answer verdict markFrom mark
 short-traces = refl
 
 pub slips-computed : map computed slips ≡ slips
-unfolding ev U A L S R W P B K N trace with-main slips computed is of on onLock locks unlocks eqZ declared latest valueIn letterIn lastAt count inOrder by locksBy acquires releases reads stores copy fresh pending announced lastLock lastWrite usable depth main wordsOf some noPartner lockTaken notHeld pendingBars notFresh notStored readBeforeWrite unwritten notWritten notUsable differs eightAlready breaks rows rowIn firstBroken judge answer verdict markFrom mark
+unfolding ev U A L S R W P B K N trace with-main slips computed is of on onLock locks unlocks eqZ declared latest valueIn letterIn lastAt count inOrder by locksBy acquires releases reads stores copy fresh pending announced lastLock lastWrite usable depth main wordsOf some noPartner lockTaken notHeld pendingBars notFresh notStored readBeforeWrite unwritten notWritten notUsable differs eightAlready deadRead breaks rows rowIn firstBroken judge answer verdict markFrom mark
 slips-computed = refl
 
+pub dead-reads-computed : map computed deadReads ≡ deadReads
+unfolding ev U A L S R W P B K N trace with-main deadReads computed is of on onLock locks unlocks eqZ declared latest valueIn letterIn lastAt count inOrder by locksBy acquires releases reads stores copy fresh pending announced lastLock lastWrite usable depth main wordsOf some noPartner lockTaken notHeld pendingBars notFresh notStored readBeforeWrite unwritten notWritten notUsable differs eightAlready deadRead breaks rows rowIn firstBroken judge answer verdict markFrom mark
+dead-reads-computed = refl
+
 pub one-two-three : mark full oneTwoThreeCounts oneTwoThree ≡ accepted
-unfolding ev U A L S R W K N oneTwoThree is of on onLock locks unlocks eqZ declared latest valueIn letterIn lastAt count inOrder by locksBy acquires releases reads stores copy fresh pending announced lastLock lastWrite usable depth main wordsOf some noPartner lockTaken notHeld pendingBars notFresh notStored readBeforeWrite unwritten notWritten notUsable differs eightAlready breaks rows rowIn firstBroken judge answer verdict markFrom mark
+unfolding ev U A L S R W K N oneTwoThree is of on onLock locks unlocks eqZ declared latest valueIn letterIn lastAt count inOrder by locksBy acquires releases reads stores copy fresh pending announced lastLock lastWrite usable depth main wordsOf some noPartner lockTaken notHeld pendingBars notFresh notStored readBeforeWrite unwritten notWritten notUsable differs eightAlready deadRead breaks rows rowIn firstBroken judge answer verdict markFrom mark
 one-two-three = refl
 
 -- x is 1 and y is 100 in main memory at the end

@@ -6,3 +6,4 @@ pub mod Memories
 pub mod Projections
 pub mod Reading
 pub mod Traces
+pub mod DeadReads

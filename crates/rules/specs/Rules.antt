@@ -1,5 +1,5 @@
--- Document 01, the refusals 5 and 9 to 19, the table of rows, and the verdict over a list of events. The rules speak of the
--- words; `wordsOf` takes the words from a list of earlier events. A caller's state is read by the same rules, with its own
+-- Document 01, the refusals 5 and 9 to 19, and document 02, 23; the table of rows, and the verdict over a list of events. The rules
+-- speak of the words; `wordsOf` takes the words from a list of earlier events. A caller's state is read by the same rules, with its own
 -- contents for the words.
 use Prim.Native.Nat.{ℕ, zero, suc, _<_}
 use mathlib.Core.Path.{_≡_}
@@ -59,7 +59,7 @@ abbrev pub none? : List Slot → Bool
 none? [] = true
 none? (s ∷ ss) = false
 
--- ---- the refusals 10 to 19, of event e after the words w. e's thread is T, `loc e` its variable V or its lock
+-- ---- the refusals 10 to 19 and 23, of event e after the words w. e's thread is T, `loc e` its variable V or its lock
 
 abbrev pub loc : Event → ℕ
 loc e = place (e .kind)
@@ -136,6 +136,14 @@ eightAlready w e =
     is (R ∷ []) e && leb most (length (w .reads (e .thread) (loc e)))
     || is (S ∷ P ∷ []) e && leb most (length (w .stores (e .thread) (loc e)))
 
+-- 23. Dead read: an R while T has an outstanding store on V, or a fresh assign with V not owed; an A with V not owed, or a P, while T has an
+-- outstanding read of V.
+unfoldable pub deadRead : Words → Event → Bool
+deadRead w e =
+    is (R ∷ []) e && (not (none? (w .stores (e .thread) (loc e))) || w .fresh (e .thread) (loc e) && not (w .pending (e .thread) (loc e)))
+    || is (A ∷ []) e && (not (w .pending (e .thread) (loc e)) && not (none? (w .reads (e .thread) (loc e))))
+    || is (P ∷ []) e && not (none? (w .reads (e .thread) (loc e)))
+
 -- e breaks the rule with this number
 unfoldable pub breaks : ℕ → Counts → Words → Event → Bool
 breaks n h w e =
@@ -148,7 +156,8 @@ breaks n h w e =
     (cond (eqb n 16) (notWritten h w e)
     (cond (eqb n 17) (notUsable w e)
     (cond (eqb n 18) (differs w e)
-    (cond (eqb n 19) (eightAlready w e) false)))))))))
+    (cond (eqb n 19) (eightAlready w e)
+    (cond (eqb n 23) (deadRead w e) false))))))))))
 
 -- ---- the ten rows
 
@@ -163,14 +172,14 @@ row k ns = record { kind = k; checks = ns }
 unfoldable pub rows : List Row
 rows =
     row U (17 ∷ 18 ∷ [])
-    ∷ row A []
+    ∷ row A (23 ∷ [])
     ∷ row L (10 ∷ 13 ∷ 15 ∷ 16 ∷ 18 ∷ [])
     ∷ row S (13 ∷ 14 ∷ 17 ∷ 18 ∷ 19 ∷ [])
-    ∷ row R (18 ∷ 19 ∷ [])
+    ∷ row R (18 ∷ 19 ∷ 23 ∷ [])
     ∷ row W (10 ∷ 18 ∷ [])
     ∷ row K (11 ∷ 13 ∷ [])
     ∷ row N (12 ∷ 15 ∷ 16 ∷ [])
-    ∷ row P (13 ∷ 19 ∷ [])
+    ∷ row P (13 ∷ 19 ∷ 23 ∷ [])
     ∷ row B (10 ∷ 18 ∷ [])
     ∷ []
 

@@ -1,5 +1,5 @@
--- Document 01, "Short traces": the rows marked as proved, one table, and the 1-2-3 run. `proofs/ShortTraces.antt` proves the
--- table by one theorem, and that the run is accepted.
+-- Document 01, "Short traces": the rows marked as proved, one table, two of them with the verdict of document 02 (a); more traces of both
+-- documents; and the 1-2-3 run. `proofs/ShortTraces.antt` proves each table by one theorem, and that the run is accepted.
 use Prim.Native.Nat.{ℕ, zero, suc}
 use mathlib.Core.List.{List, [], _∷_, reverse}
 use mathlib.Core.Option.{Option, none, some}
@@ -73,8 +73,8 @@ traces =
     ∷ trace (U 0 0 0 ∷ []) (bad 17 1)
     ∷ trace (R 0 0 0 ∷ L 0 0 0 ∷ U 0 0 0 ∷ []) accepted
     ∷ trace (R 0 0 0 ∷ K 0 0 ∷ L 0 0 0 ∷ U 0 0 0 ∷ []) (bad 17 4)
-    ∷ trace (R 0 0 0 ∷ A 0 0 5 ∷ L 0 0 0 ∷ []) (bad 15 3)
-    ∷ trace (R 0 0 0 ∷ A 0 0 5 ∷ S 0 0 5 ∷ W 0 0 5 ∷ L 0 0 0 ∷ []) (bad 16 5)
+    ∷ trace (R 0 0 0 ∷ A 0 0 5 ∷ L 0 0 0 ∷ []) (bad 23 2)
+    ∷ trace (R 0 0 0 ∷ A 0 0 5 ∷ S 0 0 5 ∷ W 0 0 5 ∷ L 0 0 0 ∷ []) (bad 23 2)
     ∷ trace (A 0 0 5 ∷ S 0 0 5 ∷ S 0 0 5 ∷ []) (bad 14 3)
     ∷ trace (A 0 0 5 ∷ K 0 0 ∷ S 0 0 5 ∷ []) (bad 17 3)
     ∷ trace (K 0 0 ∷ A 0 0 5 ∷ S 0 0 5 ∷ N 0 0 ∷ []) (bad 16 4)
@@ -90,6 +90,19 @@ unfoldable pub slips : List Trace
 slips =
     trace (A 0 1 5 ∷ K 0 0 ∷ U 0 1 5 ∷ []) (bad 17 3)
     ∷ trace (K 0 0 ∷ A 0 0 5 ∷ P 0 0 6 ∷ W 0 0 6 ∷ B 0 0 6 ∷ N 0 0 ∷ []) accepted
+    ∷ []
+
+-- Document 02 (a): the events that leave a read dead; a read that may yet be loaded, while V is owed and its store written; N, which still
+-- meets 15. (An A with a read outstanding, and N with 16, are rows of the table above.)
+unfoldable pub deadReads : List Trace
+deadReads =
+    trace (A 0 0 5 ∷ S 0 0 5 ∷ R 0 0 0 ∷ []) (bad 23 3)
+    ∷ trace (P 0 0 5 ∷ R 0 0 0 ∷ []) (bad 23 2)
+    ∷ trace (A 0 0 5 ∷ R 0 0 0 ∷ []) (bad 23 2)
+    ∷ trace (R 0 0 0 ∷ P 0 0 5 ∷ []) (bad 23 2)
+    ∷ trace (P 0 0 5 ∷ W 0 0 5 ∷ R 0 0 5 ∷ A 0 0 6 ∷ B 0 0 5 ∷ L 0 0 5 ∷ []) accepted
+    ∷ trace (P 0 0 5 ∷ W 0 0 5 ∷ A 0 0 6 ∷ R 0 0 5 ∷ B 0 0 5 ∷ L 0 0 5 ∷ []) accepted
+    ∷ trace (K 0 0 ∷ A 0 0 5 ∷ N 0 0 ∷ []) (bad 15 3)
     ∷ []
 
 -- the same row, as the definitions give it

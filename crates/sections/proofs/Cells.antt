@@ -3,7 +3,7 @@ use Prim.Native.Nat.{ℕ, suc}
 use native.Mathlib.Decide.{ℕ-discrete}
 use mathlib.Core.Path.{_≡_, refl, sym, ap, _∙_, subst}
 use mathlib.Core.Logic.{ite}
-use mathlib.Core.Bool.{Bool, true, false, cond}
+use mathlib.Core.Bool.{Bool, true, false, cond, _&&_}
 use mathlib.Core.List.{List, [], _∷_, map, tail, map-append}
 use lib.Dec.{T, eqb, eqb→eq, eqb-refl}
 use lib.IntN.{ℤ, pos}
@@ -16,8 +16,10 @@ use Rattle.rules.specs.declared.Slot.{Slot}
 use Rattle.rules.specs.Words.{first, by, locksBy, latest, valueIn, letterIn, lastAt, count, inOrder, reads, stores, copy, fresh, pending, announced, lastLock, lastWrite, usable, main}
 use Rattle.rules.specs.Rules.{Words, wordsOf}
 use Rattle.rules.specs.declared.Counts.{Counts}
+use Rattle.rules.proofs.Laws.{cases}
 use Rattle.rules.proofs.Next.{others, next}
 use Rattle.rules.proofs.Simulation.{words-next}
+use Rattle.rules.proofs.Cells.{eventBy}
 use Rattle.serial.specs.Words as C
 use Rattle.serial.specs.Events as E
 use Rattle.sections.specs.View.{viewed, view}
@@ -65,79 +67,45 @@ oldest-first : (ss : List Slot) → C.oldest (map slotted ss) ≡ first ss .posi
 oldest-first [] = refl
 oldest-first (s ∷ ss) = refl
 
-module _ (w : Words) (t v : ℕ) where
+-- an event on a variable changes the cell of its own thread and variable
+mem-change : (n t v : ℕ) (k : E.Kind) (u v′ : ℕ) (x : ℤ) (c : C.Cell ℤ) → C.change n (C.act t v (E.mem k u v′ x)) c ≡ cond (eqb u t && eqb v′ v) (C.change n (C.own k x) c) c
+unfolding C.change
+mem-change n t v k u v′ x c = go (ℕ-discrete u t) (ℕ-discrete v′ v)
+  where
+    go : (d : Dec (u ≡ t)) (d′ : Dec (v′ ≡ v)) → C.change n (C.seenBy d (ite {C = C.Touch ℤ} d′ (C.at k x) C.elsewhere)) c ≡ cond (eqb u t && eqb v′ v) (C.change n (C.own k x) c) c
+    go (yes p) (yes q) = rw (eqb-yes u t p, eqb-yes v′ v q)
+    go (yes p) (no q) = rw (eqb-yes u t p, eqb-no v′ v q)
+    go (no p) (yes q) = rw (eqb-no u t p)
+    go (no p) (no q) = rw (eqb-no u t p)
+
+-- and a lock or unlock those of its thread
+own-change : (n t u : ℕ) (a : C.Act ℤ) (c : C.Cell ℤ) → C.change n (ite {C = C.Act ℤ} (ℕ-discrete u t) a C.nothing) c ≡ cond (eqb u t) (C.change n a c) c
+unfolding C.change
+own-change n t u a c = go (ℕ-discrete u t)
+  where
+    go : (d : Dec (u ≡ t)) → C.change n (ite {C = C.Act ℤ} d a C.nothing) c ≡ cond (eqb u t) (C.change n a c) c
+    go (yes p) = rw (eqb-yes u t p)
+    go (no p) = rw (eqb-no u t p)
+
+module _ (w : Words) (t v u ln : ℕ) where
   abbrev n : ℕ
   n = suc (w .events)
 
   -- one event more
-  step-mem : (k : Kind) (u ln : ℕ) → C.change n (C.act t v (viewed u k)) (cellOf w t v) ≡ cellOf (next w (record { thread = u; line = ln; kind = k })) t v
+  step-mem : (k : Kind) → C.change n (C.act t v (viewed u k)) (cellOf w t v) ≡ cellOf (next w (eventBy u ln k)) t v
   unfolding cellOf next by locksBy is of on locks C.change
-  step-mem (Use v′ x) u ln = go (ℕ-discrete u t) (ℕ-discrete v′ v)
-    where
-      go : (d : Dec (u ≡ t)) (d′ : Dec (v′ ≡ v)) → C.change n (C.seenBy d (ite {C = C.Touch ℤ} d′ (C.at E.Use x) C.elsewhere)) (cellOf w t v) ≡ cellOf (next w (record { thread = u; line = ln; kind = Use v′ x })) t v
-      go (yes p) (yes q) = refl
-      go (yes p) (no q) = refl
-      go (no p) (yes q) = refl
-      go (no p) (no q) = refl
-  step-mem (Assign v′ x) u ln = go (ℕ-discrete u t) (ℕ-discrete v′ v)
-    where
-      go : (d : Dec (u ≡ t)) (d′ : Dec (v′ ≡ v)) → C.change n (C.seenBy d (ite {C = C.Touch ℤ} d′ (C.at E.Assign x) C.elsewhere)) (cellOf w t v) ≡ cellOf (next w (record { thread = u; line = ln; kind = Assign v′ x })) t v
-      go (yes p) (yes q) = rw (eqb-yes u t p, eqb-yes v′ v q)
-      go (yes p) (no q) = rw (eqb-yes u t p, eqb-no v′ v q)
-      go (no p) (yes q) = rw (eqb-no u t p)
-      go (no p) (no q) = rw (eqb-no u t p)
-  step-mem (Load v′ x) u ln = go (ℕ-discrete u t) (ℕ-discrete v′ v)
-    where
-      go : (d : Dec (u ≡ t)) (d′ : Dec (v′ ≡ v)) → C.change n (C.seenBy d (ite {C = C.Touch ℤ} d′ (C.at E.Load x) C.elsewhere)) (cellOf w t v) ≡ cellOf (next w (record { thread = u; line = ln; kind = Load v′ x })) t v
-      go (yes p) (yes q) = rw (eqb-yes u t p, eqb-yes v′ v q, oldest-first (w .reads t v), map-others slotted (w .reads t v))
-      go (yes p) (no q) = rw (eqb-yes u t p, eqb-no v′ v q)
-      go (no p) (yes q) = rw (eqb-no u t p)
-      go (no p) (no q) = rw (eqb-no u t p)
-  step-mem (Store v′ x) u ln = go (ℕ-discrete u t) (ℕ-discrete v′ v)
-    where
-      go : (d : Dec (u ≡ t)) (d′ : Dec (v′ ≡ v)) → C.change n (C.seenBy d (ite {C = C.Touch ℤ} d′ (C.at E.Store x) C.elsewhere)) (cellOf w t v) ≡ cellOf (next w (record { thread = u; line = ln; kind = Store v′ x })) t v
-      go (yes p) (yes q) = rw (eqb-yes u t p, eqb-yes v′ v q, map-append valued (w .stores t v))
-      go (yes p) (no q) = rw (eqb-yes u t p, eqb-no v′ v q)
-      go (no p) (yes q) = rw (eqb-no u t p)
-      go (no p) (no q) = rw (eqb-no u t p)
-  step-mem (Read v′ x) u ln = go (ℕ-discrete u t) (ℕ-discrete v′ v)
-    where
-      go : (d : Dec (u ≡ t)) (d′ : Dec (v′ ≡ v)) → C.change n (C.seenBy d (ite {C = C.Touch ℤ} d′ (C.at E.Read x) C.elsewhere)) (cellOf w t v) ≡ cellOf (next w (record { thread = u; line = ln; kind = Read v′ x })) t v
-      go (yes p) (yes q) = rw (eqb-yes u t p, eqb-yes v′ v q, map-append slotted (w .reads t v))
-      go (yes p) (no q) = rw (eqb-yes u t p, eqb-no v′ v q)
-      go (no p) (yes q) = rw (eqb-no u t p)
-      go (no p) (no q) = rw (eqb-no u t p)
-  step-mem (Write v′ x) u ln = go (ℕ-discrete u t) (ℕ-discrete v′ v)
-    where
-      go : (d : Dec (u ≡ t)) (d′ : Dec (v′ ≡ v)) → C.change n (C.seenBy d (ite {C = C.Touch ℤ} d′ (C.at E.Write x) C.elsewhere)) (cellOf w t v) ≡ cellOf (next w (record { thread = u; line = ln; kind = Write v′ x })) t v
-      go (yes p) (yes q) = rw (eqb-yes u t p, eqb-yes v′ v q, map-others valued (w .stores t v))
-      go (yes p) (no q) = rw (eqb-yes u t p, eqb-no v′ v q)
-      go (no p) (yes q) = rw (eqb-no u t p)
-      go (no p) (no q) = rw (eqb-no u t p)
-  step-mem (PrescientStore v′ x) u ln = go (ℕ-discrete u t) (ℕ-discrete v′ v)
-    where
-      go : (d : Dec (u ≡ t)) (d′ : Dec (v′ ≡ v)) → C.change n (C.seenBy d (ite {C = C.Touch ℤ} d′ (C.at E.PrescientStore x) C.elsewhere)) (cellOf w t v) ≡ cellOf (next w (record { thread = u; line = ln; kind = PrescientStore v′ x })) t v
-      go (yes p) (yes q) = rw (eqb-yes u t p, eqb-yes v′ v q, map-append valued (w .stores t v))
-      go (yes p) (no q) = rw (eqb-yes u t p, eqb-no v′ v q)
-      go (no p) (yes q) = rw (eqb-no u t p)
-      go (no p) (no q) = rw (eqb-no u t p)
-  step-mem (PrescientAssign v′ x) u ln = go (ℕ-discrete u t) (ℕ-discrete v′ v)
-    where
-      go : (d : Dec (u ≡ t)) (d′ : Dec (v′ ≡ v)) → C.change n (C.seenBy d (ite {C = C.Touch ℤ} d′ (C.at E.PrescientAssign x) C.elsewhere)) (cellOf w t v) ≡ cellOf (next w (record { thread = u; line = ln; kind = PrescientAssign v′ x })) t v
-      go (yes p) (yes q) = rw (eqb-yes u t p, eqb-yes v′ v q)
-      go (yes p) (no q) = rw (eqb-yes u t p, eqb-no v′ v q)
-      go (no p) (yes q) = rw (eqb-no u t p)
-      go (no p) (no q) = rw (eqb-no u t p)
-  step-mem (Lock l) u ln = go (ℕ-discrete u t)
-    where
-      go : (d : Dec (u ≡ t)) → C.change n (ite {C = C.Act ℤ} d C.locks C.nothing) (cellOf w t v) ≡ cellOf (next w (record { thread = u; line = ln; kind = Lock l })) t v
-      go (yes p) = rw (eqb-yes u t p)
-      go (no p) = rw (eqb-no u t p)
-  step-mem (Unlock l) u ln = go (ℕ-discrete u t)
-    where
-      go : (d : Dec (u ≡ t)) → C.change n (ite {C = C.Act ℤ} d C.unlocks C.nothing) (cellOf w t v) ≡ cellOf (next w (record { thread = u; line = ln; kind = Unlock l })) t v
-      go (yes p) = refl
-      go (no p) = refl
+  step-mem (Use v′ x) = mem-change n t v E.Use u v′ x (cellOf w t v) ∙ cases (eqb u t && eqb v′ v) (λ q. rw q) (λ q. rw q)
+  step-mem (Assign v′ x) = mem-change n t v E.Assign u v′ x (cellOf w t v) ∙ cases (eqb u t && eqb v′ v) (λ q. rw q) (λ q. rw q)
+  step-mem (Load v′ x) =
+      mem-change n t v E.Load u v′ x (cellOf w t v) ∙ cases (eqb u t && eqb v′ v) (λ q. rw (q, oldest-first (w .reads t v), map-others slotted (w .reads t v))) (λ q. rw q)
+  step-mem (Store v′ x) = mem-change n t v E.Store u v′ x (cellOf w t v) ∙ cases (eqb u t && eqb v′ v) (λ q. rw (q, map-append valued (w .stores t v))) (λ q. rw q)
+  step-mem (Read v′ x) = mem-change n t v E.Read u v′ x (cellOf w t v) ∙ cases (eqb u t && eqb v′ v) (λ q. rw (q, map-append slotted (w .reads t v))) (λ q. rw q)
+  step-mem (Write v′ x) = mem-change n t v E.Write u v′ x (cellOf w t v) ∙ cases (eqb u t && eqb v′ v) (λ q. rw (q, map-others valued (w .stores t v))) (λ q. rw q)
+  step-mem (PrescientStore v′ x) =
+      mem-change n t v E.PrescientStore u v′ x (cellOf w t v) ∙ cases (eqb u t && eqb v′ v) (λ q. rw (q, map-append valued (w .stores t v))) (λ q. rw q)
+  step-mem (PrescientAssign v′ x) = mem-change n t v E.PrescientAssign u v′ x (cellOf w t v) ∙ cases (eqb u t && eqb v′ v) (λ q. rw q) (λ q. rw q)
+  step-mem (Lock l) = own-change n t u C.locks (cellOf w t v) ∙ cases (eqb u t) (λ q. rw q) (λ q. rw q)
+  step-mem (Unlock l) = own-change n t u C.unlocks (cellOf w t v) ∙ cases (eqb u t) (λ q. rw q) (λ q. rw q)
 
 pub length-view : (es : List Event) → length (map view es) ≡ length es
 length-view [] = refl
@@ -146,7 +114,7 @@ length-view (e ∷ es) = ap suc (length-view es)
 pub cells : (h : Counts) (t v : ℕ) (es : List Event) → Valid h es → C.cell (pos 0) t v (map view es) ≡ cellOf (wordsOf es) t v
 unfolding C.cell
 cells h t v [] a = unfold wordsOf cellOf latest valueIn letterIn lastAt count inOrder reads stores copy fresh pending announced lastLock lastWrite usable in refl
-cells h t v (e ∷ es) a = rw (cells h t v es (before h e es a), length-view es, words-next e es (pairs h es (before h e es a))) (unfold wordsOf in step-mem (wordsOf es) t v (e .kind) (e .thread) (e .line))
+cells h t v (e ∷ es) a = rw (cells h t v es (before h e es a), length-view es, words-next e es (pairs h es (before h e es a))) (unfold wordsOf in step-mem (wordsOf es) t v (e .thread) (e .line) (e .kind))
 
 touched : (f : E.Kind → ℤ → ℤ → ℤ) (k : E.Kind) (u v′ v : ℕ) (x m : ℤ) → C.through f (C.touch v (E.mem k u v′ x)) m ≡ cond (eqb v′ v) (f k x m) m
 touched f k u v′ v x m = go (ℕ-discrete v′ v)

@@ -9,7 +9,7 @@ use Rattle.rules.specs.declared.Event.{Event}
 use Rattle.rules.specs.Events.{is, of, on, onLock, locks, unlocks, eqZ}
 use Rattle.rules.specs.Limits.{full, firstLine, allowed, declared}
 use Rattle.rules.specs.Words.{latest, valueIn, letterIn, lastAt, count, inOrder, by, locksBy, acquires, releases, reads, stores, copy, fresh, pending, announced, lastLock, lastWrite, usable, depth, main}
-use Rattle.rules.specs.Rules.{wordsOf, some, noPartner, lockTaken, notHeld, pendingBars, notFresh, notStored, readBeforeWrite, unwritten, notWritten, notUsable, differs, eightAlready, breaks, rows, rowIn, firstBroken, judge, answer, verdict, markFrom, mark}
+use Rattle.rules.specs.Rules.{wordsOf, some, noPartner, lockTaken, notHeld, pendingBars, notFresh, notStored, readBeforeWrite, unwritten, notWritten, notUsable, differs, eightAlready, deadRead, breaks, rows, rowIn, firstBroken, judge, answer, verdict, markFrom, mark}
 use Rattle.rules.specs.Traces.{ev, U, A, L, S, R, W, P, B, K, N, two}
 use Rattle.serial.specs.Sections as Q
 use Rattle.sections.specs.Places.{usesOrAssigns, unlocksBy, holdsSome}
@@ -45,7 +45,7 @@ unfolding ev U A L S R W P B K N firstLine is of on locks unlocks count acquires
 crossed-order = refl
 
 crossed-trace : AcceptedTrace full two crossed
-unfolding ev U A L S R W P B K N firstLine is of on onLock locks unlocks eqZ declared allowed latest valueIn letterIn lastAt count inOrder by locksBy acquires releases reads stores copy fresh pending announced lastLock lastWrite usable depth main wordsOf some noPartner lockTaken notHeld pendingBars notFresh notStored readBeforeWrite unwritten notWritten notUsable differs eightAlready breaks rows rowIn firstBroken judge answer verdict markFrom mark
+unfolding ev U A L S R W P B K N firstLine is of on onLock locks unlocks eqZ declared allowed latest valueIn letterIn lastAt count inOrder by locksBy acquires releases reads stores copy fresh pending announced lastLock lastWrite usable depth main wordsOf some noPartner lockTaken notHeld pendingBars notFresh notStored readBeforeWrite unwritten notWritten notUsable differs eightAlready deadRead breaks rows rowIn firstBroken judge answer verdict markFrom mark
 crossed-trace = record {
   limits = record { threads = omega arith; variables = omega arith; locks = omega arith; events = omega arith; excess = omega arith };
   head = refl;

@@ -3,82 +3,64 @@ use Prim.Native.Nat.{ℕ, _≤_, _<_}
 use native.Mathlib.Decide.{ℕ-discrete}
 use mathlib.Core.Path.{_≡_, refl, sym, ap, subst, subst₂}
 use mathlib.Core.Logic.{ite}
-use mathlib.Core.Bool.{Bool, true, false, not, _||_, or-false, true≢false, false≢true}
+use mathlib.Core.Bool.{true, false, true≢false, false≢true}
 use mathlib.Core.List.{List, [], _∷_, map}
-use lib.Dec.{ltb}
 use lib.IntN.{ℤ}
-use borrow.Author.Tests.{ltb-false}
-use Rattle.rules.specs.declared.Event.{Event}
+use borrow.Author.Tests.{ltb-false, not-false}
 use Rattle.rules.specs.declared.Kind.{Kind}
 use Rattle.rules.specs.declared.Kind.the-variants.{Use, Assign, Load, Store, Read, Write, Lock, Unlock, PrescientStore, PrescientAssign}
-use Rattle.rules.specs.Events.{value, is, eqZ}
+use Rattle.rules.specs.Events.{eqZ}
 use Rattle.rules.specs.declared.Slot.{Slot}
 use Rattle.rules.specs.Words.{first}
 use Rattle.rules.specs.declared.Counts.{Counts}
-use Rattle.rules.specs.Rules.{Words, none?, some, readBeforeWrite, unwritten, noPartner, pendingBars, notFresh, notStored, notWritten, notUsable, differs, breaks, rows, rowIn, judge}
-use Rattle.rules.proofs.Laws.{or-false-left, or-false-right, row-kept, some-none}
+use Rattle.rules.specs.Rules.{Words, none?, unwritten, judge}
+use Rattle.rules.proofs.Laws.{some-none}
+use Rattle.rules.proofs.Cells.{eventBy}
+use Rattle.rules.proofs.Rows.{row-of}
 use Rattle.rules.proofs.Signed.{eqZ-true}
 use Rattle.serial.specs.Words as C
 use Rattle.serial.specs.Events as E
 use Rattle.sections.specs.View.{viewed}
 use Rattle.sections.proofs.Cells.{cellOf, slotted, valued}
 
-untrue : (b : Bool) → not b ≡ false → b ≡ true
-untrue true p = refl
-untrue false p = absurd (true≢false p)
-
 none : (ss : List Slot) → none? ss ≡ true → map valued ss ≡ []
 none [] p = refl
 none (s ∷ ss) p = absurd (false≢true p)
 
 module _ (c : Counts) (w : Words) (u ln : ℕ) where
-  abbrev ev : Kind → Event
-  ev k = record { thread = u; line = ln; kind = k }
+  own-use : (v : ℕ) (x : ℤ) → judge c w (eventBy u ln (Use v x)) ≡ 0 → C.Allowed (C.own E.Use x) (cellOf w u v) (w .main v)
+  unfolding cellOf
+  own-use v x p = let r = row-of c w u ln (Use v x) p in (r .0, eqZ-true x (w .copy u v) (r .1))
 
-  own-use : (v : ℕ) (x : ℤ) → judge c w (ev (Use v x)) ≡ 0 → C.Allowed (C.own E.Use x) (cellOf w u v) (w .main v)
-  unfolding cellOf breaks notUsable differs is rowIn rows
-  own-use v x p =
-      (untrue (w .usable u v) (row-kept 17 c w (ev (Use v x)) p tt), eqZ-true x (w .copy u v) (untrue (eqZ x (w .copy u v)) (simp or-false at (row-kept 18 c w (ev (Use v x)) p tt))))
+  own-store : (v : ℕ) (x : ℤ) → judge c w (eventBy u ln (Store v x)) ≡ 0 → C.Allowed (C.own E.Store x) (cellOf w u v) (w .main v)
+  unfolding cellOf
+  own-store v x p = let r = row-of c w u ln (Store v x) p in (r .0 .notPending, r .0 .fresh, r .0 .usable, eqZ-true x (w .copy u v) (r .1))
 
-  own-store : (v : ℕ) (x : ℤ) → judge c w (ev (Store v x)) ≡ 0 → C.Allowed (C.own E.Store x) (cellOf w u v) (w .main v)
-  unfolding cellOf breaks pendingBars notFresh notUsable differs is rowIn rows
-  own-store v x p = (
-    row-kept 13 c w (ev (Store v x)) p tt,
-    untrue (w .fresh u v) (row-kept 14 c w (ev (Store v x)) p tt),
-    untrue (w .usable u v) (row-kept 17 c w (ev (Store v x)) p tt),
-    eqZ-true x (w .copy u v) (untrue (eqZ x (w .copy u v)) (simp or-false at (row-kept 18 c w (ev (Store v x)) p tt))),
-  )
+  own-read : (v : ℕ) (x : ℤ) → judge c w (eventBy u ln (Read v x)) ≡ 0 → C.Allowed (C.own E.Read x) (cellOf w u v) (w .main v)
+  unfolding cellOf
+  own-read v x p = eqZ-true x (w .main v) (row-of c w u ln (Read v x) p .1)
 
-  own-read : (v : ℕ) (x : ℤ) → judge c w (ev (Read v x)) ≡ 0 → C.Allowed (C.own E.Read x) (cellOf w u v) (w .main v)
-  unfolding cellOf breaks differs is rowIn rows
-  own-read v x p = eqZ-true x (w .main v) (untrue (eqZ x (w .main v)) (simp or-false at (row-kept 18 c w (ev (Read v x)) p tt)))
+  own-prescient-store : (v : ℕ) (x : ℤ) → judge c w (eventBy u ln (PrescientStore v x)) ≡ 0 → C.Allowed (C.own E.PrescientStore x) (cellOf w u v) (w .main v)
+  unfolding cellOf
+  own-prescient-store v x p = row-of c w u ln (PrescientStore v x) p .notPending
 
-  own-prescient-store : (v : ℕ) (x : ℤ) → judge c w (ev (PrescientStore v x)) ≡ 0 → C.Allowed (C.own E.PrescientStore x) (cellOf w u v) (w .main v)
-  unfolding cellOf breaks pendingBars is rowIn rows
-  own-prescient-store v x p = row-kept 13 c w (ev (PrescientStore v x)) p tt
+  own-prescient-assign : (v : ℕ) (x : ℤ) → judge c w (eventBy u ln (PrescientAssign v x)) ≡ 0 → C.Allowed (C.own E.PrescientAssign x) (cellOf w u v) (w .main v)
+  unfolding cellOf
+  own-prescient-assign v x p = let r = row-of c w u ln (PrescientAssign v x) p in (r .0, eqZ-true x (w .announced u v) (r .1))
 
-  own-prescient-assign : (v : ℕ) (x : ℤ) → judge c w (ev (PrescientAssign v x)) ≡ 0 → C.Allowed (C.own E.PrescientAssign x) (cellOf w u v) (w .main v)
-  unfolding cellOf breaks noPartner differs is rowIn rows
-  own-prescient-assign v x p =
-      (untrue (w .pending u v) (row-kept 10 c w (ev (PrescientAssign v x)) p tt), eqZ-true x (w .announced u v) (untrue (eqZ x (w .announced u v)) (row-kept 18 c w (ev (PrescientAssign v x)) p tt)))
-
-  own-write : (v : ℕ) (x : ℤ) → judge c w (ev (Write v x)) ≡ 0 → C.Allowed (C.own E.Write x) (cellOf w u v) (w .main v)
-  unfolding cellOf breaks noPartner differs is rowIn rows
-  own-write v x p =
-      go (w .stores u v) (simp or-false at (row-kept 10 c w (ev (Write v x)) p tt)) (untrue (eqZ x (first (w .stores u v) .value)) (simp or-false at (row-kept 18 c w (ev (Write v x)) p tt)))
+  own-write : (v : ℕ) (x : ℤ) → judge c w (eventBy u ln (Write v x)) ≡ 0 → C.Allowed (C.own E.Write x) (cellOf w u v) (w .main v)
+  unfolding cellOf
+  own-write v x p = let r = row-of c w u ln (Write v x) p in go (w .stores u v) (r .0) (r .1)
     where
       go : (ss : List Slot) → none? ss ≡ false → eqZ x (first ss .value) ≡ true → (rest : List ℤ) × (map valued ss ≡ x ∷ rest)
       go [] a b = absurd (true≢false a)
       go (s ∷ ss) a b = (map valued ss, ap (λ y. y ∷ map valued ss) (sym (eqZ-true x (s .value) b)))
 
-  own-load : (v : ℕ) (x : ℤ) → judge c w (ev (Load v x)) ≡ 0 → C.Allowed (C.own E.Load x) (cellOf w u v) (w .main v)
-  unfolding cellOf breaks noPartner pendingBars notStored notWritten readBeforeWrite differs is rowIn rows
+  own-load : (v : ℕ) (x : ℤ) → judge c w (eventBy u ln (Load v x)) ≡ 0 → C.Allowed (C.own E.Load x) (cellOf w u v) (w .main v)
+  unfolding cellOf
   own-load v x p =
-      let q : (not (none? (w .stores u v)) || ltb (first (w .reads u v) .position) (w .lastWrite u v)) ≡ false = simp or-false at (row-kept 16 c w (ev (Load v x)) p tt) in
-      go (w .reads u v) (simp or-false at (row-kept 10 c w (ev (Load v x)) p tt)) (row-kept 13 c w (ev (Load v x)) p tt) (simp or-false at (row-kept 15 c w (ev (Load v x)) p tt))
-      (none (w .stores u v) (untrue (none? (w .stores u v)) (or-false-left (not (none? (w .stores u v))) (ltb (first (w .reads u v) .position) (w .lastWrite u v)) q)))
-      (ltb-false (first (w .reads u v) .position) (w .lastWrite u v) (or-false-right (not (none? (w .stores u v))) (ltb (first (w .reads u v) .position) (w .lastWrite u v)) q))
-      (untrue (eqZ x (first (w .reads u v) .value)) (simp or-false at (row-kept 18 c w (ev (Load v x)) p tt)))
+      let r = row-of c w u ln (Load v x) p in
+      go (w .reads u v) (r .0 .partner) (r .0 .notPending) (r .0 .stored) (none (w .stores u v) (r .0 .written)) (ltb-false (first (w .reads u v) .position) (w .lastWrite u v) (r .0 .after)) (r .1)
     where
       go : (ss : List Slot) → none? ss ≡ false → w .pending u v ≡ false → w .fresh u v ≡ false → map valued (w .stores u v) ≡ [] → w .lastWrite u v ≤ first ss .position → eqZ x (first ss .value) ≡ true
           → (r : C.Slot ℤ) × (rs : List (C.Slot ℤ)) × (map slotted ss ≡ r ∷ rs) × (w .pending u v ≡ false) × (w .fresh u v ≡ false) × (map valued (w .stores u v) ≡ []) × (w .lastWrite u v ≤ r .position) × (x ≡ r .value)
@@ -86,24 +68,16 @@ module _ (c : Counts) (w : Words) (u ln : ℕ) where
       go (s ∷ ss) a ow fr st wr q = (slotted s, map slotted ss, refl, ow, fr, st, wr, eqZ-true x (s .value) q)
 
   -- 13, at K: nothing is owed
-  bars-nothing : some (c .variables) (λ v. w .pending u v) ≡ false → (v : ℕ) → v < c .variables → C.Allowed C.locks (cellOf w u v) (w .main v)
+  own-lock : (l : ℕ) → judge c w (eventBy u ln (Lock l)) ≡ 0 → (v : ℕ) → v < c .variables → C.Allowed C.locks (cellOf w u v) (w .main v)
   unfolding cellOf
-  bars-nothing q v h = some-none (c .variables) (λ v. w .pending u v) q v h
-
-  own-lock : (l : ℕ) → judge c w (ev (Lock l)) ≡ 0 → (v : ℕ) → v < c .variables → C.Allowed C.locks (cellOf w u v) (w .main v)
-  unfolding breaks pendingBars is rowIn rows
-  own-lock l p = bars-nothing (simp or-false at (row-kept 13 c w (ev (Lock l)) p tt))
+  own-lock l p v h = some-none (c .variables) (λ v. w .pending u v) (row-of c w u ln (Lock l) p .notPending) v h
 
   -- 15 and 16, at N: nothing is fresh, and all is written
-  all-written : some (c .variables) (λ v. w .fresh u v) ≡ false → some (c .variables) (λ v. not (none? (w .stores u v))) ≡ false
-      → (v : ℕ) → v < c .variables → C.Allowed C.unlocks (cellOf w u v) (w .main v)
-  unfolding cellOf
-  all-written f s v h =
-      (some-none (c .variables) (λ v. w .fresh u v) f v h, λ o. none (w .stores u v) (untrue (none? (w .stores u v)) (some-none (c .variables) (λ v. not (none? (w .stores u v))) s v h)))
-
-  own-unlock : (l : ℕ) → judge c w (ev (Unlock l)) ≡ 0 → (v : ℕ) → v < c .variables → C.Allowed C.unlocks (cellOf w u v) (w .main v)
-  unfolding breaks notStored notWritten unwritten is rowIn rows
-  own-unlock l p = all-written (row-kept 15 c w (ev (Unlock l)) p tt) (row-kept 16 c w (ev (Unlock l)) p tt)
+  own-unlock : (l : ℕ) → judge c w (eventBy u ln (Unlock l)) ≡ 0 → (v : ℕ) → v < c .variables → C.Allowed C.unlocks (cellOf w u v) (w .main v)
+  unfolding cellOf unwritten
+  own-unlock l p v h =
+      let r = row-of c w u ln (Unlock l) p in
+      (some-none (c .variables) (λ v. w .fresh u v) (r .stored) v h, λ o. none (w .stores u v) (not-false (none? (w .stores u v)) (some-none (c .variables) (λ v. unwritten w u v) (r .written) v h)))
 
 -- an own act is allowed at the thread and the variable that see it as theirs
 seen : (w : Words) (k : E.Kind) (u v′ t v : ℕ) (x : ℤ) → C.Allowed (C.own k x) (cellOf w u v′) (w .main v′) → C.Allowed (C.act t v (E.mem k u v′ x)) (cellOf w t v) (w .main v)

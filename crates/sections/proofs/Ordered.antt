@@ -1,4 +1,4 @@
--- A trace that no refusal of 10 to 22 meets has a serial order.
+-- A trace that no refusal of 10 to 23 meets has a serial order.
 use Prim.Native.Nat.{ℕ, zero, suc, pred, _-_, _≤_, _<_}
 use native.Mathlib.Decide.{ℕ-discrete, decLt}
 use native.Mathlib.Omega.{arith}

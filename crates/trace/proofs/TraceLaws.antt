@@ -1,17 +1,18 @@
 -- Laws of the head, the guards and the trailer; and what a trace that is found has.
-use mathlib.Core.Path.{_≡_, refl, sym, ap, _∙_}
+use mathlib.Core.Path.{_≡_, refl, sym, ap, _∙_, subst}
 use mathlib.Core.Bool.{Bool, true, false, cond}
 use mathlib.Core.List.{List, [], _∷_}
 use Prim.Native.Nat.{ℕ, suc, _≤_, _<_, _+_, _-_}
 use native.Mathlib.Omega.{arith}
 use native.Mathlib.Numerals.{add-one}
 use borrow.Author.Tests.{lt-ltb, le-ltb, ltb-true}
-use lib.Dec.{eqb, ltb}
+use lib.Dec.{T, eqb, ltb}
 use lib.ListN.{length, getD, take, drop, set, length-take, length-drop, drop-of-length-le}
 use lib.Seq.{drop-cons, length-take-le, take-take, take-add, drop-at}
 use Rattle.rules.specs.declared.Counts.{Counts}
+use Rattle.rules.specs.Events.{among}
 use Rattle.rules.specs.Limits.{Limits, allowed}
-use Rattle.rules.specs.Rules.{Marked, accepted, refused, said}
+use Rattle.rules.specs.Rules.{Marked, accepted, refused, said, numberIn}
 use Rattle.lines.specs.Lines.{before, upTo, splitOn, letter}
 use Rattle.lines.proofs.FieldLaws.{up-le}
 use Rattle.decimal.specs.declared.Natural.{Natural}
@@ -134,7 +135,7 @@ trace-short m s h = rw (le-ltb _ _ h)
 
 module _ (m : Limits) (s : List ℕ) where
   pub data Finding : Trace → Type 0 where
-    denied : (n line : ℕ) → Finding (unfound (said (refused n line)))
+    denied : (n line : ℕ) → T (among (1 ∷ 2 ∷ 3 ∷ 6 ∷ []) n) → Finding (unfound (said (refused n line)))
     given : (h : Counts) (g : Guards) (a e : ℕ) → allowed m h ≡ true → a ≤ e → trailerOf s ≡ trailer.At e
         → Finding (record { verdict = said accepted; head = h; guards = g; from = a; to = e })
 
@@ -146,10 +147,10 @@ module _ (m : Limits) (s : List ℕ) where
         on : (a : ℕ) (g : GuardLine) (o : Bool) → a ≤ e
             → Finding (cond o (record { verdict = said accepted; head = h; guards = record { given = g .given; locks = g .locks }; from = a; to = e }) (unfound wrongGuards))
         on a g true q = given h (record { given = g .given; locks = g .locks }) a e f q k
-        on a g false q = denied 6 2
+        on a g false q = denied 6 2 tt
 
         by : (q : Bool) → ltb (before 10 u) (length u) ≡ q → (g : GuardLine) → Finding (cond q (withGuards (at + before 10 u + 1) e h g) (unfound wrongGuards))
-        by false r g = denied 6 2
+        by false r g = denied 6 2 tt
         by true r g = on (at + before 10 u + 1) g (g .ok) (omega (arith, l, ltb-true (before 10 u) (length u) r))
 
     finding-first : (u : List ℕ) → length u ≡ e → Finding (firstOf m u e)
@@ -159,11 +160,11 @@ module _ (m : Limits) (s : List ℕ) where
         on : (r : Headed) (o : Bool) → r .ok ≡ o → (r .ok ≡ true → allowed m (r .head) ≡ true) → before 10 u < length u
             → Finding (cond o (secondOf (drop (before 10 u + 1) u) (before 10 u + 1) e (r .head)) (unfound wrongHead))
         on r true q f i = finding-second (drop (before 10 u + 1) u) (before 10 u + 1) (r .head) (f q) (omega (arith, l, length-drop (before 10 u + 1) u))
-        on r false q f i = denied 3 1
+        on r false q f i = denied 3 1 tt
 
         by : (q : Bool) → ltb (before 10 u) (length u) ≡ q → (r : Headed) → (r .ok ≡ true → allowed m (r .head) ≡ true)
             → Finding (cond q (behindHead u (before 10 u) e r) (unfound wrongHead))
-        by false z r f = denied 3 1
+        by false z r f = denied 3 1 tt
         by true z r f = on r (r .ok) refl f (ltb-true (before 10 u) (length u) z)
 
   pub finding : Finding (traceOf m s)
@@ -171,8 +172,8 @@ module _ (m : Limits) (s : List ℕ) where
   finding = by (ltb (m .bytes) (length s)) (trailerOf s) refl
     where
       by : (q : Bool) (t : Trailer) → trailerOf s ≡ t → Finding (cond q (unfound tooLong) (behindTrailer m s t))
-      by true t r = denied 1 0
-      by false trailer.Wrong r = denied 2 0
+      by true t r = denied 1 0 tt
+      by false trailer.Wrong r = denied 2 0 tt
       by false (trailer.At e) r = finding-first e r (take e s) (length-take-le e s (trailer-le s e r))
 
 -- a trace that is found has an allowed head
@@ -180,15 +181,23 @@ pub found-allowed : (m : Limits) (s : List ℕ) → found (traceOf m s) ≡ acce
 found-allowed m s = by (finding m s)
   where
     by : {t : Trace} → Finding m s t → found t ≡ accepted → allowed m (t .head) ≡ true
-    by (denied n line) q = absurd (let z : _≡_ {A = ℕ} 0 1 = cc in omega arith)
+    by (denied n line o) q = absurd (let z : _≡_ {A = ℕ} 0 1 = cc in omega arith)
     by (given h g a e f l k) q = f
+
+-- one that is not found is refused with 1, 2, 3 or 6
+pub found-number : (m : Limits) (s : List ℕ) (n line : ℕ) → found (traceOf m s) ≡ refused n line → T (among (1 ∷ 2 ∷ 3 ∷ 6 ∷ []) n)
+found-number m s n line = by (finding m s)
+  where
+    by : {t : Trace} → Finding m s t → found t ≡ refused n line → T (among (1 ∷ 2 ∷ 3 ∷ 6 ∷ []) n)
+    by (denied k l o) q = subst (λ (i : ℕ). T (among (1 ∷ 2 ∷ 3 ∷ 6 ∷ []) i)) (ap numberIn q) o
+    by (given h g a e f l k) q = absurd (let z : _≡_ {A = ℕ} 0 1 = cc in omega arith)
 
 -- of a trace that is refused nothing is kept
 pub not-found : (m : Limits) (s : List ℕ) (n line : ℕ) → found (traceOf m s) ≡ refused n line → traceOf m s ≡ unfound (said (refused n line))
 not-found m s n line = by (finding m s)
   where
     by : {t : Trace} → Finding m s t → found t ≡ refused n line → t ≡ unfound (said (refused n line))
-    by (denied k l) q = ap (λ (v : Marked). unfound (said v)) q
+    by (denied k l o) q = ap (λ (v : Marked). unfound (said v)) q
     by (given h g a e f l k) q = absurd (let z : _≡_ {A = ℕ} 0 1 = cc in omega arith)
 
 -- ---- the part that holds the events
@@ -222,7 +231,7 @@ pub lies : (m : Limits) (s : List ℕ) → Lies (traceOf m s) s
 lies m s = by (finding m s)
   where
     by : {t : Trace} → Finding m s t → Lies t s
-    by (denied n line) = record { start = omega arith; end = omega arith; ended = unfold upTo in refl }
+    by (denied n line o) = record { start = omega arith; end = omega arith; ended = unfold upTo in refl }
     by (given h g a e f l k) =
         let p = trailer-at s e k in
         record { start = l; end = trailer-le s e k; ended = ap (λ (i : ℕ). upTo 10 (take i s)) p ∙ last-ended s ∙ sym p }

@@ -47,5 +47,6 @@ fn all_steps(times: usize, seed: u64) -> Tally {
     part("steps along long traces", 4, &mut |tally, rng| steps::walk(tally, rng, 2_000, 2, 40));
     part("steps from states in range", 2_000, &mut |tally, rng| steps::in_range(tally, rng, 40));
     part("steps from states out of range", 20, &mut steps::out_of_range);
+    steps::every_answer(&mut tally);
     tally
 }

@@ -1,4 +1,4 @@
-//! What document 01 says of one step from a state that a caller hands in, over the fields of `include/dabzhoni.h`.
+//! What documents 01 and 02 (a) say of one step from a state that a caller hands in, over the fields of `include/dabzhoni.h`.
 
 use crate::c_api::{Cell, Ring, Slot, State};
 use marker_a::rules::{self, ROWS};
@@ -70,26 +70,27 @@ fn breaks(number: u32, s: &State, e: &Event) -> bool {
         (b'B', 18) => c.announced != e.value,
         (b'R', 19) => c.reads.len >= 8,
         (_, 19) => c.stores.len >= 8,
+        (b'R', 23) => store.is_some() || (c.fresh && !c.pending),
+        (b'A', 23) => read.is_some() && !c.pending,
+        (b'P', 23) => read.is_some(),
         _ => unreachable!("no rule of this row"),
     }
 }
 
-/// "One step: 8, 9, 5, row." Number and line; 0 and 0 where the event is accepted.
-pub fn reply(s: &State, e: &Event) -> (usize, usize) {
-    if out_of_range(s) {
-        return (8, 0);
-    }
-    let line = s.events as usize + 3;
-    if s.events >= 2_000 {
-        return (9, line);
-    }
+/// "One step: 8, 9, 5, row." The numbers that the event breaks, where 8, 9 and 5 stand alone; the first is the answer.
+pub fn broken(s: &State, e: &Event) -> Vec<u32> {
     let places = if e.is_lock() { s.counts.locks } else { s.counts.variables };
-    if e.thread >= s.counts.threads || e.place >= places {
-        return (5, line);
+    if out_of_range(s) {
+        vec![8]
+    } else if s.events >= 2_000 {
+        vec![9]
+    } else if e.thread >= s.counts.threads || e.place >= places {
+        vec![5]
+    } else {
+        let kind = by_a::event(e).kind;
+        let (_, row) = ROWS.iter().find(|(k, _)| *k == kind).expect("a row for each kind");
+        row.iter().copied().filter(|&number| breaks(number, s, e)).collect()
     }
-    let kind = by_a::event(e).kind;
-    let (_, row) = ROWS.iter().find(|(k, _)| *k == kind).expect("a row for each kind");
-    row.iter().find(|&&number| breaks(number, s, e)).map_or((0, 0), |&number| (number as usize, line))
 }
 
 /// Takes an accepted event into the state.

@@ -4,9 +4,10 @@
 use crate::c_api::{Cell, Counts, Hold, Kept, Reply, Ring, Slot, State};
 use crate::model;
 use marker_a::paper;
-use papers::generate::{self, Rng, LETTERS};
+use papers::generate::{self, Rng, DOUBLES, LETTERS, PAIRS};
 use papers::shrink::shrink;
 use papers::{by_a, Event};
+use std::collections::BTreeMap;
 
 const PRINTED_FAILURES: usize = 20;
 
@@ -16,6 +17,8 @@ pub struct Tally {
     pub failed: usize,
     pub accepted: usize,
     pub refused: usize,
+    /// from states in range: how often a letter had an answer, and broke a later rule of its row too; 0 stands for none
+    pub answers: BTreeMap<(u8, u32, u32), usize>,
 }
 
 impl Tally {
@@ -237,7 +240,13 @@ pub fn state_in_range(rng: &mut Rng) -> Kept {
 
 /// One step against the model, the state after it included.
 fn against_model(tally: &mut Tally, before: &Kept, e: &Event) {
-    let reply = model::reply(before, e);
+    let broken = model::broken(before, e);
+    let number = broken.first().copied().unwrap_or(0);
+    for later in [0].iter().chain(broken.iter().skip(1)) {
+        *tally.answers.entry((e.letter, number, *later)).or_insert(0) += 1;
+    }
+    let line = if number == 8 { 0 } else { before.events as usize + 3 };
+    let reply = if number == 0 { (0, 0) } else { (number as usize, line) };
     let said = stepped(before, e, reply).and_then(|after| {
         let mut wanted = before.clone();
         if reply.0 == 0 {
@@ -260,6 +269,36 @@ pub fn in_range(tally: &mut Tally, rng: &mut Rng, each: usize) {
         let e = any_event(rng, &s);
         against_model(tally, &s, &e);
     }
+}
+
+/// Refusals, and two of them at once, that no event of a paper meets: only a step from a state that no events reach.
+const IN_NO_PAPER: [(u8, u32, u32); 8] = [
+    (b'L', 15, 0),
+    (b'L', 16, 0),
+    (b'L', 13, 16),
+    (b'L', 15, 16),
+    (b'L', 15, 18),
+    (b'L', 16, 18),
+    (b'R', 19, 23),
+    (b'P', 19, 23),
+];
+
+/// Each refusal of each row, and each two that one event can break, occurred in the steps from states in range. Prints how often those
+/// with 15, 16 or 23 did.
+pub fn every_answer(tally: &mut Tally) {
+    let pairs = PAIRS.map(|(letter, number)| (letter, number, 0));
+    let mut shown = Vec::new();
+    for (letter, number, later) in pairs.into_iter().chain(DOUBLES).chain(IN_NO_PAPER) {
+        let times = tally.answers.get(&(letter, number, later)).copied().unwrap_or(0);
+        let beside = if later == 0 { String::new() } else { format!(" beside {later}") };
+        let name = format!("{number}{beside} at {}", letter as char);
+        if [15, 16, 23].iter().any(|n| [number, later].contains(n)) {
+            shown.push(format!("{name}: {times}"));
+        }
+        let said = if times > 0 { Ok(()) } else { Err(format!("no step from a state in range has {name}")) };
+        tally.count((number as usize, 0), said);
+    }
+    println!("    {}", shown.join("; "));
 }
 
 /// The numbers of refusal 8: how many places each has, and what puts the one at a place out of range and no other number.

@@ -1,7 +1,7 @@
-//! A naive marker for the papers of document 01.
+//! A naive marker for the papers of document 01, with request (a) of document 02.
 //!
 //! Every word of 01 is computed anew from the list of earlier events.
-//! The quoted sentences are 01's.
+//! The quoted sentences are 01's, and for 23 those of 02 (a).
 
 pub mod listing;
 pub mod order;

@@ -1,4 +1,4 @@
-//! The words about earlier events, rules 5 and 9 to 19, and the rows.
+//! The words about earlier events, rules 5, 9 to 19 and 23, and the rows.
 //!
 //! Every function here reads the list of earlier events and keeps nothing.
 //! T is `t`, V is `v`, the list is `es`.
@@ -6,17 +6,18 @@
 use crate::Kind::{self, A, B, K, L, N, P, R, S, U, W};
 use crate::{Counts, Event, MAX_EVENTS, MAX_OUTSTANDING};
 
-/// "the ten rows of this table are fixed".
+/// "the ten rows of this table are fixed", with "23, dead read, after 19 in the rows of R, A
+/// and P".
 pub const ROWS: [(Kind, &[u32]); 10] = [
     (U, &[17, 18]),
-    (A, &[]),
+    (A, &[23]),
     (L, &[10, 13, 15, 16, 18]),
     (S, &[13, 14, 17, 18, 19]),
-    (R, &[18, 19]),
+    (R, &[18, 19, 23]),
     (W, &[10, 18]),
     (K, &[11, 13]),
     (N, &[12, 15, 16]),
-    (P, &[13, 19]),
+    (P, &[13, 19, 23]),
     (B, &[10, 18]),
 ];
 
@@ -55,6 +56,7 @@ pub fn breaks(number: u32, es: &[Event], counts: Counts, e: &Event) -> bool {
         17 => rule_17(es, e),
         18 => rule_18(es, e),
         19 => rule_19(es, e),
+        23 => rule_23(es, e),
         _ => false,
     }
 }
@@ -244,6 +246,20 @@ fn rule_19(es: &[Event], e: &Event) -> bool {
     match e.kind {
         R => outstanding_reads(es, e.thread, e.target).len() >= MAX_OUTSTANDING,
         S | P => outstanding_stores(es, e.thread, e.target).len() >= MAX_OUTSTANDING,
+        _ => false,
+    }
+}
+
+/// "23, dead read": "the event that leaves T an outstanding read of V which can never be
+/// loaded: an R while T has an outstanding store on V, or a fresh assign with V not owed; an
+/// A with V not owed, or a P, while T has an outstanding read of V. While V is owed and its
+/// store written, the coming B clears a fresh assign, so a read may yet be loaded."
+fn rule_23(es: &[Event], e: &Event) -> bool {
+    let (t, v) = (e.thread, e.target);
+    match e.kind {
+        R => !outstanding_stores(es, t, v).is_empty() || (fresh(es, t, v) && !owed(es, t, v)),
+        A => !owed(es, t, v) && !outstanding_reads(es, t, v).is_empty(),
+        P => !outstanding_reads(es, t, v).is_empty(),
         _ => false,
     }
 }

@@ -185,7 +185,9 @@ impl State {
         match letter {
             b'U' if !self.usable(t, p) => 17,
             b'U' if cell.copy != x => 18,
-            b'U' | b'A' => 0,
+            b'U' => 0,
+            b'A' if cell.reads.len > 0 && !cell.owed => 23,
+            b'A' => 0,
             b'L' => match cell.reads.front() {
                 None => 10,
                 Some(_) if cell.owed => 13,
@@ -202,6 +204,7 @@ impl State {
             b'S' => 0,
             b'R' if self.main[p] != x => 18,
             b'R' if cell.reads.full() => 19,
+            b'R' if cell.stores.len > 0 || (cell.fresh && !cell.owed) => 23,
             b'R' => 0,
             b'W' => match cell.stores.front() {
                 None => 10,
@@ -210,6 +213,7 @@ impl State {
             },
             b'P' if cell.owed => 13,
             b'P' if cell.stores.full() => 19,
+            b'P' if cell.reads.len > 0 => 23,
             b'P' => 0,
             b'B' if !cell.owed => 10,
             b'B' if cell.announced != x => 18,

@@ -231,13 +231,13 @@ impl<'a> Machine<'a> {
         let due_cell = if letter == b'R' { main } else { cell };
         let due = slot(due_cell, cell, row.due).read() as u32;
         let read = (slot(cell, cell, Pick { base: READS_AT as u32, count: READS_OUT as u32 }).read() >> 32) as u32;
-        let old = read < (*cell).last_write;
-        let broken = (thread.sets ^ row.sets_due) & row.sets & bits
+        // shifted, the owed set lies over the fresh one
+        let asked = thread.sets & !(thread.sets >> 16 & row.unless_owed);
+        let broken = (asked ^ row.sets_due) & row.sets & bits
             | (counts.wrapping_add(row.plus) ^ row.counts_due) & row.counts
-            | u64::from((due ^ value as u32) & row.value)
-            | u64::from(old) & row.load;
+            | u64::from((due ^ value as u32) & row.value);
         if broken != 0 {
-            return End::Refused(first_broken(letter, thread.sets & bits, (*cell).counts, due == value as u32, old));
+            return End::Refused(first_broken(letter, thread.sets & bits, (*cell).counts, due == value as u32));
         }
         if ORDER && row.under & !(thread.under >> v) != 0 {
             return End::Denied(20);
@@ -245,7 +245,6 @@ impl<'a> Machine<'a> {
         let now = events as u64 + 1;
         let to_cell = if letter == b'W' { main } else { cell };
         slot(to_cell, cell, row.to).write(now << 32 | u64::from(value as u32));
-        cell.cast::<u8>().add(row.position as usize).cast::<u32>().write(now as u32);
         (*cell).counts = (counts.wrapping_add(row.step) & COUNTS).to_le_bytes();
         let joins = row.set & bits | (u64::from(read > thread.last_lock) & row.load) << v;
         thread.sets = (thread.sets & !(row.clear & bits) | joins).wrapping_add(row.unwritten);

@@ -2,7 +2,6 @@
 //! path without a branch on the letter.
 
 use crate::{THREADS, VARIABLES};
-use std::mem::offset_of;
 
 /// What is kept for a thread.
 #[derive(Clone, Copy, Default)]
@@ -48,10 +47,6 @@ pub type Slot = u64;
 pub struct Cell {
     /// the lengths of the queues and their places, a byte each
     pub counts: [u8; 8],
-    /// the position of the thread's last write of the variable
-    pub last_write: u32,
-    /// where events other than writes put their position
-    other: u32,
     pub slots: [Slot; 17],
 }
 
@@ -67,8 +62,10 @@ const STORES_IN: usize = 4;
 const STORES_OUT: usize = 5;
 const STORES_LAST: usize = 6;
 const ZERO: usize = 7;
-/// A length is up to 8, a place up to 7. The sum of counts and steps is cut to these bits.
-pub const COUNTS: u64 = 0x00_07_07_07_07_07_0f_0f;
+/// A length is up to 8, a place up to 7; the reads' length has `OWING` more while an assign is owed. The sum of counts and steps is cut
+/// to these bits.
+pub const COUNTS: u64 = 0x00_07_07_07_07_07_0f_3f;
+const OWING: u64 = 0x30 << (8 * READS);
 /// A cell's counts before the first event: the place before 0 is 7.
 pub const NO_COUNTS: u64 = 7 << (8 * STORES_LAST);
 
@@ -103,14 +100,20 @@ const fn seven(length: usize) -> u64 {
     7 << (8 * length)
 }
 
+/// The reads' length has this bit once this is added if it is not 0 and no assign is owed: 1 to 8 become 32 to 39, and with `OWING` 0
+/// to 8 become 79 to 87.
+const READ_BARS: u64 = 32 << (8 * READS);
+const READ_PLUS: u64 = 31 << (8 * READS);
+
 /// What an event of a letter asks, and what it does.
 #[derive(Clone, Copy)]
 #[repr(align(64))]
 pub struct Row {
     pub letter: u8,
-    /// the sets that are asked, and those of them that must have the variable
+    /// the sets that are asked, and those of them that must have the variable; and the fresh set where it is asked unless one is owed
     pub sets: u64,
     pub sets_due: u64,
+    pub unless_owed: u64,
     /// of the counts: what is added before, the bits that are asked, and those of them that must be there
     pub plus: u64,
     pub counts: u64,
@@ -118,7 +121,7 @@ pub struct Row {
     /// the value that the event must have, and whether it must
     pub due: Pick,
     pub value: u32,
-    /// 1 where the oldest read must not be older than the last write, and makes the copy usable if it came after the last lock
+    /// 1 where the oldest read makes the copy usable if it came after the last lock
     pub load: u64,
     /// 1 where the variable must be under its guard
     pub under: u64,
@@ -128,9 +131,8 @@ pub struct Row {
     pub unwritten: u64,
     /// what is added to the counts
     pub step: u64,
-    /// where the value goes, and where in the cell the position
+    /// where the value and the position go
     pub to: Pick,
-    pub position: u32,
 }
 
 /// What a letter without a row has: a letter that leads to another row.
@@ -138,6 +140,7 @@ const NO_ROW: Row = Row {
     letter: b'u',
     sets: 0,
     sets_due: 0,
+    unless_owed: 0,
     plus: 0,
     counts: 0,
     counts_due: 0,
@@ -150,7 +153,6 @@ const NO_ROW: Row = Row {
     unwritten: 0,
     step: 0,
     to: THE_COPY,
-    position: offset_of!(Cell, other) as u32,
 };
 
 const STORED: Row = Row {
@@ -163,12 +165,13 @@ const STORED: Row = Row {
 
 const ROWS: [Row; 8] = [
     Row { letter: b'U', sets: USABLE, sets_due: USABLE, under: 1, ..NO_ROW },
-    Row { letter: b'A', value: 0, under: 1, set: USABLE | FRESH, ..NO_ROW },
+    Row { letter: b'A', plus: READ_PLUS, counts: READ_BARS, value: 0, under: 1, set: USABLE | FRESH, ..NO_ROW },
+    // 15 and 16 are not asked: the rows of R, A and P leave no read outstanding that would meet them
     Row {
         letter: b'L',
-        sets: OWED | FRESH,
-        plus: seven(READS) + seven(STORES),
-        counts: full(READS) | full(STORES),
+        sets: OWED,
+        plus: seven(READS),
+        counts: full(READS),
         counts_due: full(READS),
         due: pick(READS_AT, READS_OUT),
         load: 1,
@@ -176,7 +179,16 @@ const ROWS: [Row; 8] = [
         ..NO_ROW
     },
     Row { letter: b'S', sets: OWED | FRESH | USABLE, sets_due: FRESH | USABLE, clear: FRESH, ..STORED },
-    Row { letter: b'R', counts: full(READS), step: one(READS) + one(READS_IN), to: pick(READS_AT, READS_IN), ..NO_ROW },
+    Row {
+        letter: b'R',
+        sets: FRESH,
+        unless_owed: FRESH,
+        plus: seven(STORES),
+        counts: full(READS) | full(STORES),
+        step: one(READS) + one(READS_IN),
+        to: pick(READS_AT, READS_IN),
+        ..NO_ROW
+    },
     Row {
         letter: b'W',
         plus: seven(STORES),
@@ -185,10 +197,18 @@ const ROWS: [Row; 8] = [
         due: pick(STORES_AT, STORES_OUT),
         unwritten: UNWRITTEN.wrapping_neg(),
         step: one(STORES_OUT) - one(STORES),
-        position: offset_of!(Cell, last_write) as u32,
         ..NO_ROW
     },
-    Row { letter: b'P', sets: OWED, value: 0, set: OWED, ..STORED },
+    Row {
+        letter: b'P',
+        sets: OWED,
+        plus: seven(READS),
+        counts: full(READS) | full(STORES),
+        value: 0,
+        set: OWED,
+        step: STORED.step + OWING,
+        ..STORED
+    },
     // nothing is stored while an assign is owed, so that the announced value is in the latest store's place
     Row {
         letter: b'B',
@@ -198,6 +218,7 @@ const ROWS: [Row; 8] = [
         under: 1,
         clear: FRESH | OWED,
         set: USABLE,
+        step: OWING.wrapping_neg(),
         ..NO_ROW
     },
 ];
@@ -213,20 +234,19 @@ pub static TABLE: [Row; 32] = {
     table
 };
 
-/// The first refusal in a letter's row, one of which holds: by the sets that have the variable, the lengths of its queues, whether the
-/// value is the due one, and whether the oldest read is older than the last write.
+/// The first refusal in a letter's row, one of which holds: by the sets that have the variable, the lengths of its queues, and whether
+/// the value is the due one.
 #[cold]
 #[inline(never)]
-pub fn first_broken(letter: u8, sets: u64, counts: [u8; 8], same: bool, old: bool) -> usize {
+pub fn first_broken(letter: u8, sets: u64, counts: [u8; 8], same: bool) -> usize {
     let (usable, fresh, owed) = (sets & USABLE != 0, sets & FRESH != 0, sets & OWED != 0);
-    let (reads, stores) = (counts[READS], counts[STORES]);
+    let (reads, stores) = (counts[READS] % 16, counts[STORES]);
     match letter {
         b'U' if !usable => 17,
         b'U' => 18,
+        b'A' => 23,
         b'L' if reads == 0 => 10,
         b'L' if owed => 13,
-        b'L' if fresh => 15,
-        b'L' if stores > 0 || old => 16,
         b'L' => 18,
         b'S' if owed => 13,
         b'S' if !fresh => 14,
@@ -234,11 +254,13 @@ pub fn first_broken(letter: u8, sets: u64, counts: [u8; 8], same: bool, old: boo
         b'S' if !same => 18,
         b'S' => 19,
         b'R' if !same => 18,
-        b'R' => 19,
+        b'R' if reads == 8 => 19,
+        b'R' => 23,
         b'W' if stores == 0 => 10,
         b'W' => 18,
         b'P' if owed => 13,
-        b'P' => 19,
+        b'P' if stores == 8 => 19,
+        b'P' => 23,
         b'B' if !owed => 10,
         _ => 18,
     }

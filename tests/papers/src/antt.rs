@@ -1,7 +1,7 @@
 //! Short traces with marker A's answers as a file of definitions, to be compared by one `refl`.
 
 use crate::by_a::After;
-use crate::generate::{candidates, short, Aim, Rng, Short, DOUBLES, PAIRS};
+use crate::generate::{self, candidates, short, Aim, Rng, Short, DOUBLES, PAIRS};
 use crate::{Counts, Event};
 
 fn value(x: i32) -> String {
@@ -71,7 +71,7 @@ use Rattle.rules.specs.declared.Counts.{Counts}
 use Rattle.rules.specs.Events.{is, of, on, onLock, locks, unlocks, eqZ}
 use Rattle.rules.specs.Limits.{full, firstLine, declared}
 use Rattle.rules.specs.Words.{latest, valueIn, letterIn, lastAt, count, inOrder, by, locksBy, acquires, releases, reads, stores, copy, fresh, pending, announced, lastLock, lastWrite, usable, depth, main}
-use Rattle.rules.specs.Rules.{wordsOf, some, noPartner, lockTaken, notHeld, pendingBars, notFresh, notStored, readBeforeWrite, unwritten, notWritten, notUsable, differs, eightAlready, breaks, rows, rowIn, firstBroken, judge, answer, verdict, Marked, accepted, refused, markFrom, mark}
+use Rattle.rules.specs.Rules.{wordsOf, some, noPartner, lockTaken, notHeld, pendingBars, notFresh, notStored, readBeforeWrite, unwritten, notWritten, notUsable, differs, eightAlready, deadRead, breaks, rows, rowIn, firstBroken, judge, answer, verdict, Marked, accepted, refused, markFrom, mark}
 use Rattle.rules.specs.Memories.{Copy, below, each, memory, copies}
 use Rattle.rules.specs.Traces.{ev}
 
@@ -80,7 +80,7 @@ cp t v x = record { thread = t; variable = v; value = x }
 
 ";
 
-const UNFOLDING: &str = "ev cp is of on onLock locks unlocks eqZ firstLine declared latest valueIn letterIn lastAt count inOrder by locksBy acquires releases reads stores copy fresh pending announced lastLock lastWrite usable depth main wordsOf some noPartner lockTaken notHeld pendingBars notFresh notStored readBeforeWrite unwritten notWritten notUsable differs eightAlready breaks rows rowIn firstBroken judge answer verdict markFrom mark below each memory copies";
+const UNFOLDING: &str = "ev cp is of on onLock locks unlocks eqZ firstLine declared latest valueIn letterIn lastAt count inOrder by locksBy acquires releases reads stores copy fresh pending announced lastLock lastWrite usable depth main wordsOf some noPartner lockTaken notHeld pendingBars notFresh notStored readBeforeWrite unwritten notWritten notUsable differs eightAlready deadRead breaks rows rowIn firstBroken judge answer verdict markFrom mark below each memory copies";
 
 const CASES: &str = "pub record Case : Type 0 where
   pub head : Counts
@@ -107,8 +107,8 @@ unfoldable pub random : List Case
 random =
     ";
 
-/// The traces of one batch: some accepted, some undeclared, `each` for every pair of a letter and a refusal, and for every two
-/// refusals that one event can break at once.
+/// The traces of one batch: some accepted, some undeclared, `each` for every pair of a letter and a refusal, for every two refusals that
+/// one event can break at once, and for every case.
 pub fn batch(seed: u64, each: usize, most: usize) -> Vec<Short> {
     let mut rng = Rng::new(seed);
     let mut aims = vec![Aim::Accepted; 8 * each];
@@ -119,7 +119,9 @@ pub fn batch(seed: u64, each: usize, most: usize) -> Vec<Short> {
     for (letter, number, later) in DOUBLES {
         aims.extend(vec![Aim::Both(letter, number, later); each]);
     }
-    aims.extend(vec![Aim::FreshAndOwed; each]);
+    for case in generate::CASES {
+        aims.extend(vec![Aim::Case(case); each]);
+    }
     aims.into_iter().map(|aim| short(&mut rng, aim, most)).collect()
 }
 

@@ -52,12 +52,53 @@ impl After {
         row.iter().copied().filter(|&number| rules::breaks(number, &self.earlier, self.counts, &e)).collect()
     }
 
+    pub fn variables(&self) -> usize {
+        self.counts.variables as usize
+    }
+
     pub fn fresh(&self, t: usize, v: usize) -> bool {
         rules::fresh(&self.earlier, t as u32, v as u32)
     }
 
     pub fn owed(&self, t: usize, v: usize) -> bool {
         rules::owed(&self.earlier, t as u32, v as u32)
+    }
+
+    // of the thread and the variable of an event
+
+    pub fn is_fresh(&self, e: &Event) -> bool {
+        self.fresh(e.thread, e.place)
+    }
+
+    pub fn is_owed(&self, e: &Event) -> bool {
+        self.owed(e.thread, e.place)
+    }
+
+    /// How many reads are outstanding.
+    pub fn reads(&self, e: &Event) -> usize {
+        rules::outstanding_reads(&self.earlier, e.thread as u32, e.place as u32).len()
+    }
+
+    /// How many stores are outstanding.
+    pub fn stores(&self, e: &Event) -> usize {
+        rules::outstanding_stores(&self.earlier, e.thread as u32, e.place as u32).len()
+    }
+
+    /// The place of the oldest outstanding read.
+    fn read(&self, e: &Event) -> Option<usize> {
+        rules::outstanding_reads(&self.earlier, e.thread as u32, e.place as u32).first().copied()
+    }
+
+    /// The words and verdicts before the oldest outstanding read.
+    pub fn at_read(&self, e: &Event) -> Option<After> {
+        self.read(e).map(|place| After { counts: self.counts, earlier: self.earlier[..place].to_vec() })
+    }
+
+    /// Whether an event of this letter stands behind the oldest outstanding read.
+    pub fn since_read(&self, letter: u8, e: &Event) -> bool {
+        let wanted = event(&Event { letter, ..*e });
+        let same = |e: &marker_a::Event| (e.kind, e.thread, e.target) == (wanted.kind, wanted.thread, wanted.target);
+        self.read(e).is_some_and(|place| self.earlier[place..].iter().any(same))
     }
 
     /// Main memory, by variable.

@@ -1,4 +1,4 @@
-//! Papers with the listing that document 01 gives, or that follows from its words, worked out by hand.
+//! Papers with the listing that documents 01 and 02 (a) give, or that follows from their words, worked out by hand.
 
 use crate::generate::close;
 
@@ -32,14 +32,14 @@ const ONE_TWO_THREE: &str = "K 0 0, A 0 1 2, S 0 1 2, W 0 1 2, N 0 0, K 1 0, A 1
 S 1 1 100, W 1 1 100, N 1 0, A 1 0 1, S 1 0 1, W 1 0 1, R 0 0 1, L 0 0 1, U 0 0 1, U 0 1 2, L 0 1 3, U 0 1 3";
 const ONE_TWO_THREE_LISTING: &str = "accepted 23, main 0 1, main 1 100, copy 0 0 1, copy 0 1 3, copy 1 0 1, copy 1 1 100";
 
-/// "Short traces": events and listing. Two threads, variables and locks, no guards.
+/// "Short traces", with 23 by 02 (a): events and listing. Two threads, variables and locks, no guards.
 const SHORT: &[(&str, &str)] = &[
     ("", "accepted 0, main 0 0, main 1 0"),
     ("U 0 0 0", "refused 3 17"),
     ("R 0 0 0, L 0 0 0, U 0 0 0", "accepted 3, main 0 0, main 1 0, copy 0 0 0"),
     ("R 0 0 0, K 0 0, L 0 0 0, U 0 0 0", "refused 6 17"),
-    ("R 0 0 0, A 0 0 5, L 0 0 0", "refused 5 15"),
-    ("R 0 0 0, A 0 0 5, S 0 0 5, W 0 0 5, L 0 0 0", "refused 7 16"),
+    ("R 0 0 0, A 0 0 5, L 0 0 0", "refused 4 23"),
+    ("R 0 0 0, A 0 0 5, S 0 0 5, W 0 0 5, L 0 0 0", "refused 4 23"),
     ("A 0 0 5, S 0 0 5, S 0 0 5", "refused 5 14"),
     ("A 0 0 5, K 0 0, S 0 0 5", "refused 5 17"),
     ("K 0 0, A 0 0 5, S 0 0 5, N 0 0", "refused 6 16"),
@@ -62,7 +62,9 @@ const TRACES: &[(&str, &str, &str)] = &[
         "accepted 6, main 0 5, main 1 0, copy 0 0 5",
     ),
     ("store between P and B", "P 0 0 5, A 0 0 1, S 0 0 1", "refused 5 13"),
-    ("load between P and B", "R 0 0 0, P 0 0 5, L 0 0 0", "refused 5 13"),
+    ("load between P and B", "P 0 0 5, W 0 0 5, R 0 0 5, L 0 0 5", "refused 6 13"),
+    ("load between P and B, fresh", "P 0 0 5, W 0 0 5, R 0 0 5, A 0 0 1, L 0 0 5", "refused 7 13"),
+    ("load of another value between P and B", "P 0 0 5, W 0 0 5, R 0 0 5, L 0 0 6", "refused 6 13"),
     ("P between P and B", "P 0 0 5, P 0 0 5", "refused 4 13"),
     ("P and B of two variables", "P 0 0 5, P 0 1 6, B 0 1 6, B 0 0 5", "accepted 4, main 0 0, main 1 0, copy 0 0 5, copy 0 1 6"),
     ("owed on another variable bars no load", "R 0 1 0, P 0 0 5, L 0 1 0", "accepted 3, main 0 0, main 1 0, copy 0 1 0"),
@@ -81,9 +83,88 @@ const TRACES: &[(&str, &str, &str)] = &[
     ("W by another thread", "A 0 0 5, S 0 0 5, W 1 0 5", "refused 5 10"),
     ("L takes the oldest read", "R 0 0 0, A 1 0 5, S 1 0 5, W 1 0 5, R 0 0 5, L 0 0 5", "refused 8 18"),
     ("L without a read, owed and fresh", "A 0 0 1, P 0 0 5, L 0 0 0", "refused 5 10"),
-    ("L with an outstanding store", "A 0 0 5, S 0 0 5, R 0 0 0, L 0 0 0", "refused 6 16"),
-    ("L after an early store and its B", "P 0 0 5, B 0 0 5, R 0 0 0, L 0 0 0", "refused 6 16"),
-    ("L whose read came before a write of an early store", "P 0 0 5, R 0 0 0, W 0 0 5, B 0 0 5, L 0 0 0", "refused 7 16"),
+    ("L without a read, fresh", "A 0 0 1, L 0 0 0", "refused 4 10"),
+    ("L without a read, a store outstanding", "A 0 0 1, S 0 0 1, L 0 0 0", "refused 5 10"),
+    // dead reads, at R: an outstanding store
+    ("R with an outstanding store", "A 0 0 5, S 0 0 5, R 0 0 0, L 0 0 0", "refused 5 23"),
+    ("R with an outstanding store, one written", "A 0 0 1, S 0 0 1, A 0 0 2, S 0 0 2, W 0 0 1, R 0 0 1", "refused 8 23"),
+    ("R with an outstanding early store after its B", "P 0 0 5, B 0 0 5, R 0 0 0, L 0 0 0", "refused 5 23"),
+    ("R with an outstanding early store before its B", "P 0 0 5, R 0 0 0, W 0 0 5, B 0 0 5, L 0 0 0", "refused 4 23"),
+    ("R fresh and owed with an outstanding early store", "A 0 0 1, P 0 0 5, R 0 0 0", "refused 5 23"),
+    ("R owed, an older store written and the early one not", "A 0 0 1, S 0 0 1, P 0 0 5, W 0 0 1, R 0 0 1", "refused 7 23"),
+    ("R of another value with an outstanding store", "A 0 0 5, S 0 0 5, R 0 0 5", "refused 5 18"),
+    (
+        "R of another thread with an outstanding store",
+        "A 0 0 5, S 0 0 5, R 1 0 0, L 1 0 0",
+        "accepted 4, main 0 0, main 1 0, copy 0 0 5, copy 1 0 0",
+    ),
+    (
+        "R of another variable with an outstanding store",
+        "A 0 0 5, S 0 0 5, R 0 1 0, L 0 1 0",
+        "accepted 4, main 0 0, main 1 0, copy 0 0 5, copy 0 1 0",
+    ),
+    // at R: a fresh assign, not owed
+    ("R with a fresh assign", "A 0 0 5, R 0 0 0", "refused 4 23"),
+    ("R with a fresh assign after a write", "A 0 0 1, S 0 0 1, W 0 0 1, A 0 0 2, R 0 0 1", "refused 7 23"),
+    ("R with a fresh assign before a lock", "A 0 0 5, K 0 0, R 0 0 0", "refused 5 23"),
+    ("R with a fresh assign after B", "P 0 0 5, W 0 0 5, B 0 0 5, A 0 0 6, R 0 0 5", "refused 7 23"),
+    ("R with a fresh assign, owed on another variable", "P 0 1 7, W 0 1 7, A 0 0 5, R 0 0 0", "refused 6 23"),
+    ("R with a fresh assign, owed by another thread", "P 1 0 7, W 1 0 7, A 0 0 5, R 0 0 7", "refused 6 23"),
+    ("R of another value with a fresh assign", "A 0 0 5, R 0 0 5", "refused 4 18"),
+    (
+        "R of others with a fresh assign",
+        "A 0 0 5, R 0 1 0, R 1 0 0, L 0 1 0, L 1 0 0",
+        "accepted 5, main 0 0, main 1 0, copy 0 0 5, copy 0 1 0, copy 1 0 0",
+    ),
+    // at A: an outstanding read, not owed
+    ("A with an outstanding read, one loaded", "R 0 0 0, R 0 0 0, L 0 0 0, A 0 0 5", "refused 6 23"),
+    ("A with an outstanding read before a lock", "R 0 0 0, K 0 0, A 0 0 5", "refused 5 23"),
+    ("A with an outstanding read after B", "P 0 0 5, W 0 0 5, R 0 0 5, B 0 0 5, A 0 0 1", "refused 7 23"),
+    ("A with an outstanding read, owed on another variable", "P 0 1 5, R 0 0 0, A 0 0 1", "refused 5 23"),
+    ("A with an outstanding read, owed by another thread", "P 1 0 5, R 0 0 0, A 0 0 1", "refused 5 23"),
+    ("A after the load", "R 0 0 0, L 0 0 0, A 0 0 5", "accepted 3, main 0 0, main 1 0, copy 0 0 5"),
+    (
+        "A with outstanding reads of others",
+        "R 0 1 0, R 1 0 0, A 0 0 5, L 0 1 0, L 1 0 0",
+        "accepted 5, main 0 0, main 1 0, copy 0 0 5, copy 0 1 0, copy 1 0 0",
+    ),
+    // at P: an outstanding read
+    ("P with an outstanding read", "R 0 0 0, P 0 0 5", "refused 4 23"),
+    ("P with an outstanding read after B", "P 0 0 5, W 0 0 5, R 0 0 5, B 0 0 5, P 0 0 6", "refused 7 23"),
+    ("P with an outstanding read, owed", "P 0 0 5, W 0 0 5, R 0 0 5, P 0 0 6", "refused 6 13"),
+    ("P after the load", "R 0 0 0, L 0 0 0, P 0 0 5, W 0 0 5, B 0 0 5", "accepted 5, main 0 5, main 1 0, copy 0 0 5"),
+    (
+        "P with outstanding reads of others",
+        "R 0 1 0, R 1 0 0, P 0 0 5, W 0 0 5, L 0 1 0, L 1 0 0",
+        "accepted 6, main 0 5, main 1 0, copy 0 1 0, copy 1 0 0",
+    ),
+    // owed, and the early store written: the B comes before the load and ends fresh
+    (
+        "A between a read and B",
+        "P 0 0 5, W 0 0 5, R 0 0 5, A 0 0 1, B 0 0 5, L 0 0 5",
+        "accepted 6, main 0 5, main 1 0, copy 0 0 5",
+    ),
+    (
+        "A between a read and B, used",
+        "P 0 0 5, W 0 0 5, R 0 0 5, A 0 0 1, U 0 0 1, B 0 0 5, U 0 0 5, L 0 0 5, U 0 0 5",
+        "accepted 9, main 0 5, main 1 0, copy 0 0 5",
+    ),
+    (
+        "R owed with a fresh assign before P",
+        "A 0 0 1, P 0 0 5, W 0 0 5, R 0 0 5, B 0 0 5, L 0 0 5",
+        "accepted 6, main 0 5, main 1 0, copy 0 0 5",
+    ),
+    (
+        "R owed with a fresh assign after P",
+        "P 0 0 5, A 0 0 1, W 0 0 5, R 0 0 5, B 0 0 5, L 0 0 5",
+        "accepted 6, main 0 5, main 1 0, copy 0 0 5",
+    ),
+    (
+        "R owed of what another thread wrote",
+        "P 0 0 5, W 0 0 5, A 1 0 7, S 1 0 7, W 1 0 7, R 0 0 7, A 0 0 1, B 0 0 5, L 0 0 7",
+        "accepted 9, main 0 7, main 1 0, copy 0 0 7, copy 1 0 7",
+    ),
+    ("R after a write and B", "P 0 0 5, W 0 0 5, B 0 0 5, R 0 0 5, L 0 0 5", "accepted 5, main 0 5, main 1 0, copy 0 0 5"),
     (
         "L whose read came between a write and B",
         "P 0 0 5, W 0 0 5, R 0 0 5, B 0 0 5, L 0 0 5",
@@ -109,6 +190,7 @@ const TRACES: &[(&str, &str, &str)] = &[
     ("unlock of another's lock", "K 0 0, N 1 0", "refused 4 12"),
     ("unlock once too often", "K 0 0, N 0 0, N 0 0", "refused 5 12"),
     ("unlock not held before fresh", "A 0 0 5, N 0 0", "refused 4 12"),
+    ("fresh bars unlock", "K 0 0, A 0 0 5, N 0 0", "refused 5 15"),
     ("fresh on another variable bars unlock", "K 0 0, A 0 1 5, N 0 0", "refused 5 15"),
     ("store of another variable bars unlock", "K 0 0, A 0 1 5, S 0 1 5, N 0 0", "refused 6 16"),
     ("fresh before store not written", "K 0 0, A 0 0 1, S 0 0 1, A 0 0 2, N 0 0", "refused 7 15"),
@@ -311,6 +393,7 @@ const ORDERS: &[(&str, &str, &str, &str, &str)] = &[
     ),
     ("loads and stores want no guard", "H 1 1 1", "G 0", "R 0 0 0, L 0 0 0", "accepted 2, main 0 0, copy 0 0 0"),
     ("early store without the guard", "H 1 1 1", "G 0", "P 0 0 5, W 0 0 5", "accepted 2, main 0 5, unordered 5 22"),
+    ("a dead read, and no guard", "H 1 1 1", "G 0", "R 0 0 0, A 0 0 5", "refused 4 23"),
     (
         "lock after an unlock",
         "H 1 1 2",
@@ -397,6 +480,14 @@ pub fn papers() -> Vec<Expected> {
         "accepted 10, main 0 0, main 1 0, copy 0 0 0",
     );
     add("ninth read of another value".into(), two(reads(8) + ", R 0 0 1"), "refused 11 18");
+    let late = |n: usize| "P 0 0 5, W 0 0 5".to_string() + &", R 0 0 5".repeat(n);
+    add(
+        "eight reads while owed, eight loads after B".into(),
+        two(late(8) + ", A 0 0 1, B 0 0 5" + &", L 0 0 5".repeat(8)),
+        "accepted 20, main 0 5, main 1 0, copy 0 0 5",
+    );
+    add("nine reads while owed".into(), two(late(9)), "refused 13 19");
+    add("eight stores and a read".into(), two(stores(8) + ", R 0 0 0"), "refused 19 23");
     add("eight stores".into(), two(stores(8)), "accepted 16, main 0 0, main 1 0, copy 0 0 5");
     add("nine stores".into(), two(stores(9)), "refused 20 19");
     add("ninth store of another value".into(), two(stores(8) + ", A 0 0 5, S 0 0 6"), "refused 20 18");

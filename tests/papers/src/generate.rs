@@ -53,14 +53,13 @@ impl Rng {
 
 pub const LETTERS: &[u8; 10] = b"UALSRWKNPB";
 
-/// Every pair of a letter and a refusal of its row.
-pub const PAIRS: [(u8, u32); 25] = [
+/// Every pair of a letter and a refusal of its row that a paper can have. No L of a paper meets 15 or 16: 23 comes before.
+pub const PAIRS: [(u8, u32); 26] = [
     (b'U', 17),
     (b'U', 18),
+    (b'A', 23),
     (b'L', 10),
     (b'L', 13),
-    (b'L', 15),
-    (b'L', 16),
     (b'L', 18),
     (b'S', 13),
     (b'S', 14),
@@ -69,6 +68,7 @@ pub const PAIRS: [(u8, u32); 25] = [
     (b'S', 19),
     (b'R', 18),
     (b'R', 19),
+    (b'R', 23),
     (b'W', 10),
     (b'W', 18),
     (b'K', 11),
@@ -78,22 +78,21 @@ pub const PAIRS: [(u8, u32); 25] = [
     (b'N', 16),
     (b'P', 13),
     (b'P', 19),
+    (b'P', 23),
     (b'B', 10),
     (b'B', 18),
 ];
 
-/// Every letter and two refusals of its row that one event can break at once; the first is the answer.
-pub const DOUBLES: [(u8, u32, u32); 27] = [
+/// Every letter and two refusals of its row that one event of a paper can break at once; the first is the answer. With an outstanding
+/// read there is no outstanding store, no own write after it, and a fresh assign only where one is owed, so that L has no 16 beside 13, and R
+/// and P have no 23 beside 19.
+pub const DOUBLES: [(u8, u32, u32); 25] = [
     (b'U', 17, 18),
     (b'L', 10, 13),
     (b'L', 10, 15),
     (b'L', 10, 16),
     (b'L', 13, 15),
-    (b'L', 13, 16),
     (b'L', 13, 18),
-    (b'L', 15, 16),
-    (b'L', 15, 18),
-    (b'L', 16, 18),
     (b'S', 13, 14),
     (b'S', 13, 17),
     (b'S', 13, 18),
@@ -105,12 +104,38 @@ pub const DOUBLES: [(u8, u32, u32); 27] = [
     (b'S', 17, 19),
     (b'S', 18, 19),
     (b'R', 18, 19),
+    (b'R', 18, 23),
     (b'K', 11, 13),
     (b'N', 12, 15),
     (b'N', 12, 16),
     (b'N', 15, 16),
     (b'P', 13, 19),
+    (b'P', 13, 23),
     (b'B', 10, 18),
+];
+
+/// A letter, its answer, 0 where it is accepted, and what holds of the event and the events before it.
+pub type Case = (u8, u32, fn(&After, &Event) -> bool);
+
+/// Parts of a rule. T is the event's thread and V its variable.
+pub const CASES: [Case; 10] = [
+    // N: where T has a fresh assign it owes one too, and the early store is written
+    (b'N', 15, |after, e| {
+        let owed_too = |v| !after.fresh(e.thread, v) || after.owed(e.thread, v);
+        after.broken(e) == [15] && (0..after.variables()).all(owed_too)
+    }),
+    // R: an outstanding store alone; with an assign owed; a fresh assign alone; both
+    (b'R', 23, |after, e| after.stores(e) > 0 && !after.is_fresh(e) && !after.is_owed(e)),
+    (b'R', 23, |after, e| after.stores(e) > 0 && after.is_owed(e)),
+    (b'R', 23, |after, e| after.stores(e) == 0 && after.is_fresh(e)),
+    (b'R', 23, |after, e| after.stores(e) > 0 && after.is_fresh(e) && !after.is_owed(e)),
+    // what is accepted while an assign is owed and its early store written: R, with a fresh assign too; A with an outstanding read
+    (b'R', 0, |after, e| after.is_owed(e) && !after.is_fresh(e)),
+    (b'R', 0, |after, e| after.is_owed(e) && after.is_fresh(e)),
+    (b'A', 0, |after, e| after.is_owed(e) && after.reads(e) > 0),
+    // and the load of such a read, after the B: with an A between read and B; with a fresh assign before the read
+    (b'L', 0, |after, e| after.at_read(e).is_some_and(|then| then.is_owed(e)) && after.since_read(b'A', e)),
+    (b'L', 0, |after, e| after.at_read(e).is_some_and(|then| then.is_owed(e) && then.is_fresh(e))),
 ];
 
 /// Every event with these numbers and values.
@@ -136,7 +161,7 @@ pub struct Short {
     pub bad: Option<(Event, u32)>,
 }
 
-/// What the bad event of a short trace is to be.
+/// What the last event of a short trace is to be.
 #[derive(Clone, Copy)]
 pub enum Aim {
     Accepted,
@@ -145,8 +170,7 @@ pub enum Aim {
     Refused(u8, u32),
     /// The same, and it breaks this later rule of its row too.
     Both(u8, u32, u32),
-    /// N while T has a fresh assign and owes on the same variable, the early store written.
-    FreshAndOwed,
+    Case(Case),
 }
 
 /// A short trace of at most `most` events, by marker A.
@@ -209,18 +233,21 @@ pub fn short(rng: &mut Rng, aim: Aim, most: usize) -> Short {
                         .filter(|(e, _)| after.broken(e).contains(&later))
                         .map(|(&e, _)| (e, number))
                         .collect(),
-                    Aim::FreshAndOwed => all
+                    Aim::Case((letter, number, holds)) => all
                         .iter()
                         .zip(&verdicts)
-                        .filter(|(e, &r)| e.letter == b'N' && r == Some(15))
-                        .filter(|(e, _)| after.broken(e) == [15])
-                        .filter(|(e, _)| (0..counts.variables).all(|v| !after.fresh(e.thread, v) || after.owed(e.thread, v)))
-                        .map(|(&e, _)| (e, 15))
+                        .filter(|(e, &r)| e.letter == letter && r.unwrap_or(0) == number)
+                        .filter(|(e, _)| holds(&after, e))
+                        .map(|(&e, _)| (e, number))
                         .collect(),
                 };
                 if !fit.is_empty() {
-                    let bad = rng.pick(&fit);
-                    return Short { counts, good, bad: Some(bad) };
+                    let (last, number) = rng.pick(&fit);
+                    if number > 0 {
+                        return Short { counts, good, bad: Some((last, number)) };
+                    }
+                    good.push(last);
+                    return Short { counts, good, bad: None };
                 }
             }
             if good.len() + 1 >= most && !matches!(aim, Aim::Accepted) {
@@ -277,19 +304,20 @@ struct Style {
 }
 
 fn style(rng: &mut Rng) -> Style {
+    // an outstanding read bars an assign, so that loads weigh more than reads where assigns are wanted
     let weights = match rng.below(8) {
         // U A L S R W K N P B
-        0 | 1 => [6, 5, 6, 6, 6, 6, 2, 2, 3, 5],
-        // early stores, with assigns and uses between P and B
-        2 => [6, 5, 3, 3, 4, 5, 1, 1, 8, 2],
+        0 | 1 => [7, 6, 12, 6, 2, 6, 2, 2, 3, 5],
+        // early stores, with reads, assigns and uses between P and B
+        2 => [6, 5, 8, 3, 2, 8, 1, 1, 8, 2],
         // stores outstanding
-        3 => [3, 8, 2, 12, 2, 2, 1, 1, 4, 6],
+        3 => [5, 12, 8, 20, 1, 3, 1, 1, 6, 9],
         // reads outstanding over locks
-        4 => [3, 2, 2, 2, 12, 4, 4, 4, 1, 2],
+        4 => [3, 5, 4, 4, 10, 6, 4, 4, 3, 3],
         // locks, nested and repeated
-        5 => [3, 3, 3, 4, 3, 6, 8, 6, 1, 3],
+        5 => [4, 4, 8, 4, 2, 6, 8, 6, 2, 3],
         // loads
-        6 => [6, 2, 10, 4, 10, 6, 2, 3, 1, 3],
+        6 => [8, 3, 10, 4, 4, 6, 2, 3, 1, 3],
         _ => std::array::from_fn(|_| rng.pick(&[1, 2, 4, 8])),
     };
     let mut values = vec![0];

@@ -26,10 +26,6 @@ first-of-requires c κs = search needs
 loaded-requires : tie.Need-loaded-requires
 loaded-requires c κs = search needs
 
-returns : tie.Need-returns
-unfolding readsTurn readsWith nextCell readAfter rowOf table rows rowIn
-returns c = rw (c .loaded .ensures, c .before .first-of .ensures, c .before .before .row-at .ensures, c .before .before .before .load-checks .ensures, c .before .before .before .before .before .oldest .ensures, c .before .before .before .before .if1 .taken, toZ-ofZ valueWidth (c .before .before .before .before .before .before .before .args .x) (c .before .before .before .before .before .before .before .fits .x)) refl
-
 read-checks-requires : tie.Need-read-checks-requires
 read-checks-requires c κs = search needs
 
@@ -41,6 +37,10 @@ first-of-requires-2 c κs = search needs
 
 has-read-requires : tie.Need-has-read-requires
 has-read-requires c κs = search needs
+
+returns : tie.Need-returns
+unfolding readsTurn readsWith nextCell readAfter rowOf table rows rowIn
+returns c = rw (c .loaded .ensures, c .before .first-of .ensures, c .before .before .row-at .ensures, c .before .before .before .load-checks .ensures, c .before .before .before .before .before .oldest .ensures, c .before .before .before .before .if1 .taken, toZ-ofZ valueWidth (c .before .before .before .before .before .before .before .args .x) (c .before .before .before .before .before .before .before .fits .x)) refl
 
 returns-2 : tie.Need-returns-2
 unfolding readsTurn readsWith nextCell readAfter rowOf table rows rowIn
@@ -59,10 +59,10 @@ reads-turn-spec =
     row-at-requires
     first-of-requires
     loaded-requires
-    returns
     read-checks-requires
     row-at-requires-2
     first-of-requires-2
     has-read-requires
+    returns
     returns-2
     returns-3)

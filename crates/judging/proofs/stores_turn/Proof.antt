@@ -26,10 +26,6 @@ first-of-requires c κs = search needs
 has-written-requires : tie.Need-has-written-requires
 has-written-requires c κs = search needs
 
-returns : tie.Need-returns
-unfolding storesTurn storesWith nextCell storeAfter mainAfter rowOf table rows rowIn
-returns c = rw (c .has-written .ensures, c .before .first-of .ensures, c .before .before .row-at .ensures, c .before .before .before .write-checks .ensures, c .before .before .before .before .oldest .ensures, c .before .before .before .before .before .before .if1 .taken, toZ-ofZ valueWidth (c .before .before .before .before .before .before .before .args .x) (c .before .before .before .before .before .before .before .fits .x)) refl
-
 store-checks-requires : tie.Need-store-checks-requires
 store-checks-requires c κs = search needs
 
@@ -42,10 +38,6 @@ first-of-requires-2 c κs = search needs
 stored-requires : tie.Need-stored-requires
 stored-requires c κs = search needs
 
-returns-2 : tie.Need-returns-2
-unfolding storesTurn storesWith nextCell storeAfter mainAfter rowOf table rows rowIn
-returns-2 c = rw (c .stored .ensures, c .before .first-of2 .ensures, c .before .before .row-at2 .ensures, c .before .before .before .store-checks .ensures, c .before .before .before .before .if2 .taken, toZ-ofZ valueWidth (c .before .before .before .before .before .before .args .x) (c .before .before .before .before .before .before .fits .x)) refl
-
 prescient-store-checks-requires : tie.Need-prescient-store-checks-requires
 prescient-store-checks-requires c κs = search needs
 
@@ -57,6 +49,14 @@ first-of-requires-3 c κs = search needs
 
 prescient-stored-requires : tie.Need-prescient-stored-requires
 prescient-stored-requires c κs = search needs
+
+returns : tie.Need-returns
+unfolding storesTurn storesWith nextCell storeAfter mainAfter rowOf table rows rowIn
+returns c = rw (c .has-written .ensures, c .before .first-of .ensures, c .before .before .row-at .ensures, c .before .before .before .write-checks .ensures, c .before .before .before .before .oldest .ensures, c .before .before .before .before .before .before .if1 .taken, toZ-ofZ valueWidth (c .before .before .before .before .before .before .before .args .x) (c .before .before .before .before .before .before .before .fits .x)) refl
+
+returns-2 : tie.Need-returns-2
+unfolding storesTurn storesWith nextCell storeAfter mainAfter rowOf table rows rowIn
+returns-2 c = rw (c .stored .ensures, c .before .first-of2 .ensures, c .before .before .row-at2 .ensures, c .before .before .before .store-checks .ensures, c .before .before .before .before .if2 .taken, toZ-ofZ valueWidth (c .before .before .before .before .before .before .args .x) (c .before .before .before .before .before .before .fits .x)) refl
 
 returns-3 : tie.Need-returns-3
 unfolding storesTurn storesWith nextCell storeAfter mainAfter rowOf table rows rowIn
@@ -75,15 +75,15 @@ stores-turn-spec =
     row-at-requires
     first-of-requires
     has-written-requires
-    returns
     store-checks-requires
     row-at-requires-2
     first-of-requires-2
     stored-requires
-    returns-2
     prescient-store-checks-requires
     row-at-requires-3
     first-of-requires-3
     prescient-stored-requires
+    returns
+    returns-2
     returns-3
     returns-4)

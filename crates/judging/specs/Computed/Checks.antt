@@ -36,6 +36,10 @@ noChecks = five false false false false false
 abbrev pub useChecks : Cell → ℕ → ℤ → Checks
 useChecks c q x = five (not (ltb q (c .source))) (not (eqZ x (c .copy))) false false false
 
+-- A
+abbrev pub assignChecks : Cell → Checks
+assignChecks c = five (not (c .pending) && not (eqb (c .reads .len) 0)) false false false false
+
 -- L; r is the oldest outstanding read
 abbrev pub loadChecks : Cell → Slot → ℤ → Checks
 loadChecks c r x = five (eqb (c .reads .len) 0) (c .pending) (c .fresh) (not (eqb (c .stores .len) 0) || ltb (r .position) (c .written)) (not (eqZ x (r .value)))
@@ -46,7 +50,7 @@ storeChecks c q x = five (c .pending) (not (c .fresh)) (not (ltb q (c .source)))
 
 -- R
 abbrev pub readChecks : Cell → Main → ℤ → Checks
-readChecks c m x = five (not (eqZ x (m .value))) (leb most (c .reads .len)) false false false
+readChecks c m x = five (not (eqZ x (m .value))) (leb most (c .reads .len)) (not (eqb (c .stores .len) 0) || c .fresh && not (c .pending)) false false
 
 -- W; r is the oldest outstanding store
 abbrev pub writeChecks : Cell → Slot → ℤ → Checks
@@ -62,7 +66,7 @@ unlockChecks a w t = five (not (ltb 0 (depthOf a t))) (w .fresh) (w .stored) fal
 
 -- P
 abbrev pub prescientStoreChecks : Cell → Checks
-prescientStoreChecks c = five (c .pending) (leb most (c .stores .len)) false false false
+prescientStoreChecks c = five (c .pending) (leb most (c .stores .len)) (not (eqb (c .reads .len) 0)) false false
 
 -- B
 abbrev pub prescientAssignChecks : Cell → ℤ → Checks

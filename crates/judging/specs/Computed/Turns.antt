@@ -23,7 +23,7 @@ use Rattle.judging.specs.declared.StoresTurn.{StoresTurn}
 use Rattle.judging.specs.declared.LockTurn.{LockTurn}
 use Rattle.judging.specs.declared.Parts.{Parts}
 use Rattle.judging.specs.declared.Turn.{Turn}
-use Rattle.judging.specs.Computed.Checks.{oldestOf, noChecks, useChecks, loadChecks, storeChecks, readChecks, writeChecks, lockChecks, unlockChecks, prescientStoreChecks, prescientAssignChecks, rowOf, firstOf}
+use Rattle.judging.specs.Computed.Checks.{oldestOf, noChecks, useChecks, assignChecks, loadChecks, storeChecks, readChecks, writeChecks, lockChecks, unlockChecks, prescientStoreChecks, prescientAssignChecks, rowOf, firstOf}
 
 -- a cell after an event with one of these letters; as it was after another
 abbrev pub cellOn : List ℕ → ℕ → Slot → ℕ → ℤ → Cell → Cell
@@ -40,7 +40,7 @@ useRule c q x = firstOf (useChecks c q x) (rowOf U)
 -- U, A, B; p is the position of the event
 unfoldable pub cellTurn : Cell → ℕ → ℕ → ℤ → ℕ → CellTurn
 cellTurn c q k x p = record {
-  rule = firstOf (cond (eqb U k) (useChecks c q x) (cond (eqb B k) (prescientAssignChecks c x) noChecks)) (rowOf k);
+  rule = firstOf (cond (eqb U k) (useChecks c q x) (cond (eqb A k) (assignChecks c) (cond (eqb B k) (prescientAssignChecks c x) noChecks))) (rowOf k);
   cell = cellOn (A ∷ B ∷ []) p noSlot k x c;
 }
 

@@ -1,15 +1,19 @@
 //! Tests, and the helpers that build papers.
 
+mod dead_reads;
 mod format;
 mod marking;
 mod ordering;
+mod short_lists;
 mod traces;
 mod walks;
 
-use crate::{line_of, mark, paper, Event};
+use crate::{judge, line_of, mark, paper, Counts, Event};
 
 /// The head and `G` line of the short traces: "Two threads, variables and locks."
 const TRACE_HEAD: &str = "H 2 2 2\nG -\n";
+/// The counts of that head.
+const TWO: Counts = Counts { threads: 2, variables: 2, locks: 2 };
 
 /// The bytes, and a right trailer after them.
 fn with_trailer(before: &[u8]) -> Vec<u8> {
@@ -55,6 +59,13 @@ fn expect_refused_last(head: &str, events: &str, number: u32) {
     assert_eq!(first_line(&paper_of(head, events)), format!("refused {line} {number}"), "{events}");
     let before = events.trim_end_matches([';', ' ']).rfind(';').map_or("", |end| &events[..end]);
     expect_accepted(head, before);
+}
+
+/// What `judge` says of the last event after the others, whether or not a paper can hold them.
+fn judged(events: &str) -> u32 {
+    let list = events_of(events);
+    let (e, earlier) = list.split_last().expect("an event");
+    judge(earlier, TWO, e)
 }
 
 /// The bytes are refused with this line and number.

@@ -1,11 +1,10 @@
 //! Corners O: 20 to 22, sections, the plain memory.
 
 use super::*;
-use crate::{demand3, denial, line_of, outcome, plain_run, sections, Counts, Given, Order, Section};
+use crate::{demand3, denial, outcome, plain_run, sections, Given, Order, Section};
 
 /// Two threads, two variables, two locks; lock 0 guards variable 0, lock 1 variable 1.
 const GUARDED: &str = "H 2 2 2\nG 0 1\n";
-const TWO: Counts = Counts { threads: 2, variables: 2, locks: 2 };
 
 /// The printed sections of a paper with an order, after demand 3 has been checked.
 fn printed_sections(head: &str, events: &str) -> Vec<String> {

@@ -28,11 +28,9 @@ fn short_traces_accepted() {
 
 #[test]
 fn short_traces_refused() {
-    let rows: [(&str, u32); 11] = [
+    let rows: [(&str, u32); 9] = [
         ("U 0 0 0", 17),
         ("R 0 0 0; K 0 0; L 0 0 0; U 0 0 0", 17),
-        ("R 0 0 0; A 0 0 5; L 0 0 0", 15),
-        ("R 0 0 0; A 0 0 5; S 0 0 5; W 0 0 5; L 0 0 0", 16),
         ("A 0 0 5; S 0 0 5; S 0 0 5", 14),
         ("A 0 0 5; K 0 0; S 0 0 5", 17),
         ("K 0 0; A 0 0 5; S 0 0 5; N 0 0", 16),
@@ -45,6 +43,14 @@ fn short_traces_refused() {
         expect_refused_last(TRACE_HEAD, events, number);
     }
     assert_eq!(print(&paper_of(TRACE_HEAD, "U 0 0 0")), "refused 3 17\n");
+}
+
+/// "The traces in 01 with those verdicts at L get the new one at the earlier event".
+#[test]
+fn short_traces_with_a_dead_read() {
+    for events in ["R 0 0 0; A 0 0 5; L 0 0 0", "R 0 0 0; A 0 0 5; S 0 0 5; W 0 0 5; L 0 0 0"] {
+        expect_refused(&paper_of(TRACE_HEAD, events), line_of(1), 23);
+    }
 }
 
 #[test]

@@ -48,9 +48,11 @@ fn denied(guards: &[u32], es: &[Event], e: &Event) -> bool {
     matches!(crate::denial(all, guards, &list), Some((20 | 21, _)))
 }
 
-/// A walk of accepted events that 20 and 21 do not deny.
-fn walk(seed: u64, counts: Counts, guards: &[u32], steps: usize) -> Vec<Event> {
+/// A walk of accepted events that 20 and 21 do not deny, and how often 23 refused one.
+/// "In a paper L can then no longer meet 15 or 16".
+fn walk(seed: u64, counts: Counts, guards: &[u32], steps: usize) -> (Vec<Event>, usize) {
     let mut dice = Dice(seed);
+    let mut dead = 0;
     let mut es: Vec<Event> = Vec::new();
     for step in 0..steps {
         let e = candidate(&mut dice, counts, &es);
@@ -62,12 +64,15 @@ fn walk(seed: u64, counts: Counts, guards: &[u32], steps: usize) -> Vec<Event> {
         }
         // An N on the guard of an owed variable would leave the B outside its guard.
         let loses_guard = e.kind == N && (0..counts.variables).any(|v| guards[v as usize] == e.target && owed(&es, e.thread, v));
-        if loses_guard || judge(&es, counts, &e) != 0 || denied(guards, &es, &e) {
+        let number = judge(&es, counts, &e);
+        assert!(e.kind != L || !matches!(number, 15 | 16), "seed {seed}, step {step}");
+        dead += usize::from(number == 23);
+        if loses_guard || number != 0 || denied(guards, &es, &e) {
             continue;
         }
         es.push(e);
     }
-    es
+    (es, dead)
 }
 
 fn text_of(es: &[Event]) -> String {
@@ -82,9 +87,10 @@ fn text_of(es: &[Event]) -> String {
 fn demand_3_on_walks() {
     let counts = Counts { threads: 3, variables: 2, locks: 2 };
     let guards = [0, 1];
-    let (mut orders, mut uses, mut early, mut slips) = (0, 0, 0, 0);
+    let (mut orders, mut uses, mut early, mut slips, mut refused) = (0, 0, 0, 0, 0);
     for seed in 0..60 {
-        let es = walk(seed, counts, &guards, 3_000);
+        let (es, dead) = walk(seed, counts, &guards, 3_000);
+        refused += dead;
         let paper = paper_of("H 3 2 2\nG 0 1\n", &text_of(&es));
         let o = outcome(&paper);
         assert_eq!(o.verdict, Verdict::Accepted(es.len()), "seed {seed}");
@@ -99,8 +105,8 @@ fn demand_3_on_walks() {
         list.sort_by_key(|s| s.first);
         slips += usize::from(demand3(&Outcome { order: Order::Sections(list), ..o }).is_err());
     }
-    // Enough papers have an order, and ordering by first lock fails on some of them.
-    let seen = format!("orders {orders}, uses {uses}, early {early}, slips {slips}");
-    assert!(orders >= 30 && uses >= 100 && early >= 30 && slips >= 1, "{seen}");
+    // Enough papers have an order, ordering by first lock fails on some of them, and 23 is met.
+    let seen = format!("orders {orders}, uses {uses}, early {early}, slips {slips}, 23 {refused}");
+    assert!(orders >= 30 && uses >= 100 && early >= 30 && slips >= 1 && refused >= 100, "{seen}");
     println!("{seen}");
 }

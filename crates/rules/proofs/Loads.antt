@@ -1,0 +1,248 @@
+-- Document 02 (a): in a paper L meets neither 15 nor 16, and each outstanding read may yet be loaded.
+use Prim.Native.Nat.{ℕ, suc, _+_, _≤_, _<_}
+use native.Mathlib.Omega.{arith}
+use mathlib.Core.Path.{_≡_, refl, sym, ap, _∙_, subst}
+use mathlib.Core.Bool.{Bool, true, false, cond, _&&_, _||_, or-false, false≢true}
+use mathlib.Core.List.{List, [], _∷_, _++_, append-assoc, reverse}
+use mathlib.Core.Logic.{_⊎_, inl, inr}
+use lib.Dec.{T, ltb, leb}
+use lib.IntN.{ℤ}
+use lib.ListN.{length, length-append}
+use borrow.Author.Tests.{lt-ltb, ltb-true, le-ltb, eq-eqb}
+use Rattle.rules.specs.declared.Kind.{Kind}
+use Rattle.rules.specs.declared.Kind.the-variants.{Use, Assign, Load, Store, Read, Write, Lock, Unlock, PrescientStore, PrescientAssign}
+use Rattle.rules.specs.declared.Event.{Event}
+use Rattle.rules.specs.declared.Slot.{Slot}
+use Rattle.rules.specs.declared.Counts.{Counts}
+use Rattle.rules.specs.Events.{L, N, letter, place, among, is, of, on, onLock}
+use Rattle.rules.specs.Limits.{Limits, declared}
+use Rattle.rules.specs.Words.{first, count, inOrder, by, reads, pending, announced}
+use Rattle.rules.specs.Rules.{Words, wordsOf, none?, noPartner, pendingBars, notStored, readBeforeWrite, notWritten, breaks, rows, rowIn, firstBroken, judge, answer, verdict, Accepted, legal, FirstBad}
+use Rattle.rules.specs.DeadReads.{loadsOf, Loadable}
+use Rattle.rules.proofs.Laws.{cases, or-left, or-right, broken-is, named-among, earlier, is-true, and-left, and-right, legal-cons, legal-known, legal-before, accepted-legal, legal-accepted}
+use Rattle.rules.proofs.Signed.{eqZ-refl}
+use Rattle.rules.proofs.Next.{others, next}
+use Rattle.rules.proofs.Simulation.{legal-next}
+use Rattle.rules.proofs.Cells.{eventBy, cellOf, changed, cell-own, cell-cases}
+use Rattle.rules.proofs.Rows.{Kept, allowed-by}
+use Rattle.rules.proofs.Live.{Placed, AllLive, live, others-some}
+
+-- ---- L meets neither 15 nor 16
+
+-- the oldest of the reads came after the last write
+first-after : (a b : ℕ) (ss : List Slot) → none? ss ≡ false → Placed a b ss → ltb (first ss .position) a ≡ false
+first-after a b [] q p = absurd (false≢true (sym q))
+first-after a b (s ∷ ss) q p = le-ltb (s .position) a (p .0)
+
+load-live : (h : Counts) (w : Words) (t n : ℕ) (k : Kind) → AllLive w → T (is (L ∷ []) (eventBy t n k))
+    → (judge h w (eventBy t n k) ≡ 15 → ⊥) × (judge h w (eventBy t n k) ≡ 16 → ⊥)
+unfolding judge firstBroken rowIn rows breaks noPartner pendingBars notStored readBeforeWrite notWritten is cellOf
+load-live h w t n (Use v x) l o = absurd o
+load-live h w t n (Assign v x) l o = absurd o
+load-live h w t n (Load v x) l o = (λ p. stored (earlier row h w e 10 15 p tt) (earlier row h w e 13 15 p tt) (broken-is row h w e 14 p), λ p. written (earlier row h w e 10 16 p tt) (broken-is row h w e 15 p))
+  where
+    e : Event
+    e = eventBy t n (Load v x)
+
+    row : List ℕ
+    row = rowIn rows L
+
+    stored : breaks 10 h w e ≡ false → breaks 13 h w e ≡ false → breaks 15 h w e ≡ true → ⊥
+    stored a b q = false≢true (sym b ∙ l t v .stored (simp or-false at a) (simp or-false at q))
+
+    written : breaks 10 h w e ≡ false → breaks 16 h w e ≡ true → ⊥
+    written a q =
+        let some : none? (w .reads t v) ≡ false = simp or-false at a in
+        false≢true (rw (l t v .written some, first-after (w .lastWrite t v) (w .events) (w .reads t v) some (l t v .placed)) at q)
+load-live h w t n (Store v x) l o = absurd o
+load-live h w t n (Read v x) l o = absurd o
+load-live h w t n (Write v x) l o = absurd o
+load-live h w t n (Lock m) l o = absurd o
+load-live h w t n (Unlock m) l o = absurd o
+load-live h w t n (PrescientStore v x) l o = absurd o
+load-live h w t n (PrescientAssign v x) l o = absurd o
+
+-- In a paper L can then no longer meet 15 or 16.
+pub load-clear : (h : Counts) (es : List Event) (e : Event) → T (legal h es) → T (is (L ∷ []) e) → (judge h (wordsOf es) e ≡ 15 → ⊥) × (judge h (wordsOf es) e ≡ 16 → ⊥)
+load-clear h es e l o = load-live h (wordsOf es) (e .thread) (e .line) (e .kind) (live h es l) o
+
+-- 15 and 16 stand in the rows of L and N alone
+rows-of : (t n : ℕ) (k : Kind) → T (among (rowIn rows (letter k)) 15 || among (rowIn rows (letter k)) 16) → (T (is (L ∷ []) (eventBy t n k)) → ⊥) → T (is (N ∷ []) (eventBy t n k))
+unfolding rowIn rows is
+rows-of t n (Use v x) r f = absurd r
+rows-of t n (Assign v x) r f = absurd r
+rows-of t n (Load v x) r f = absurd (f tt)
+rows-of t n (Store v x) r f = absurd r
+rows-of t n (Read v x) r f = absurd r
+rows-of t n (Write v x) r f = absurd r
+rows-of t n (Lock m) r f = absurd r
+rows-of t n (Unlock m) r f = tt
+rows-of t n (PrescientStore v x) r f = absurd r
+rows-of t n (PrescientAssign v x) r f = absurd r
+
+-- and so these refusals are of N
+pub unlock-alone : (h : Counts) (es : List Event) (e : Event) → T (legal h es) → (judge h (wordsOf es) e ≡ 15) ⊎ (judge h (wordsOf es) e ≡ 16) → T (is (N ∷ []) e)
+unfolding judge
+unlock-alone h es e l (inl p) = rows-of (e .thread) (e .line) (e .kind) (or-left (among (rowIn rows (letter (e .kind))) 15) (among (rowIn rows (letter (e .kind))) 16) (named-among _ h (wordsOf es) e 14 p)) (λ o. load-clear h es e l o .0 p)
+unlock-alone h es e l (inr p) = rows-of (e .thread) (e .line) (e .kind) (or-right (among (rowIn rows (letter (e .kind))) 15) (among (rowIn rows (letter (e .kind))) 16) (named-among _ h (wordsOf es) e 15 p)) (λ o. load-clear h es e l o .1 p)
+
+-- a refusal with a number that is neither 5 nor that of an event too many is the row's, of a declared event
+pub row-refused : (m : Limits) (h : Counts) (w : Words) (e : Event) (n : ℕ) → (m .excess ≡ n → ⊥) → (5 ≡ n → ⊥) → answer m h w e ≡ n → (declared h e ≡ true) × (judge h w e ≡ n)
+unfolding answer
+row-refused m h w e n x y p = go (leb (m .events) (w .events)) (declared h e) refl p
+  where
+    go : (a b : Bool) → declared h e ≡ b → cond a (m .excess) (cond b (judge h w e) 5) ≡ n → (declared h e ≡ true) × (judge h w e ≡ n)
+    go true b d q = absurd (x q)
+    go false true d q = (d, q)
+    go false false d q = absurd (y q)
+
+-- the first bad event of a trace that is refused with 15 or 16 is an N
+pub unlock-refused : (m : Limits) (h : Counts) (events : List Event) (number line : ℕ) → 0 < m .excess → (m .excess ≡ number → ⊥) → (number ≡ 15) ⊎ (number ≡ 16)
+    → (b : FirstBad m h events number line) → T (is (N ∷ []) (b .event))
+unfolding verdict
+unlock-refused m h events number line x y o b = unlock-alone h (reverse (b .before)) (b .event) (accepted-legal m h (reverse (b .before)) x (b .clean)) (go o)
+  where
+    row : (5 ≡ number → ⊥) → judge h (wordsOf (reverse (b .before))) (b .event) ≡ number
+    row z = row-refused m h (wordsOf (reverse (b .before))) (b .event) number y z (b .number-is) .1
+
+    go : (number ≡ 15) ⊎ (number ≡ 16) → (judge h (wordsOf (reverse (b .before))) (b .event) ≡ 15) ⊎ (judge h (wordsOf (reverse (b .before))) (b .event) ≡ 16)
+    go (inl q) = inl (row (λ p. omega arith) ∙ q)
+    go (inr q) = inr (row (λ p. omega arith) ∙ q)
+
+-- ---- an outstanding read is of a declared thread and variable
+
+abbrev Known : Counts → Words → Type 0
+Known h w = (t v : ℕ) → none? (cellOf w t v .reads) ≡ false → (t < h .threads) × (v < h .variables)
+
+known-change : (h : Counts) (w : Words) (t n : ℕ) (k : Kind) → declared h (eventBy t n k) ≡ true → Known h w
+    → none? (changed (suc (w .events)) k (cellOf w t (place k)) .reads) ≡ false → (t < h .threads) × (place k < h .variables)
+unfolding declared onLock is
+known-change h w t n (Use v x) d g q = g t v q
+known-change h w t n (Assign v x) d g q = g t v q
+known-change h w t n (Load v x) d g q = g t v (others-some (cellOf w t v .reads) q)
+known-change h w t n (Store v x) d g q = g t v q
+known-change h w t n (Read v x) d g q = (ltb-true t (h .threads) (is-true (and-left (ltb t (h .threads)) (ltb v (h .variables)) b)), ltb-true v (h .variables) (is-true (and-right (ltb t (h .threads)) (ltb v (h .variables)) b)))
+  where
+    b : T (ltb t (h .threads) && ltb v (h .variables))
+    b = subst T (sym d) tt
+known-change h w t n (Write v x) d g q = g t v q
+known-change h w t n (Lock l) d g q = g t l q
+known-change h w t n (Unlock l) d g q = g t l q
+known-change h w t n (PrescientStore v x) d g q = g t v q
+known-change h w t n (PrescientAssign v x) d g q = g t v q
+
+known-next : (h : Counts) (w : Words) (t n : ℕ) (k : Kind) → declared h (eventBy t n k) ≡ true → Known h w → Known h (next w (eventBy t n k))
+known-next h w t n k d g u m =
+    cell-cases (λ c. none? (c .reads) ≡ false → (u < h .threads) × (m < h .variables)) w t n k u m
+    (λ a b q. rw (← a, ← b) (known-change h w t n k d g q))
+    (g u m)
+
+known-start : (h : Counts) → Known h (wordsOf [])
+unfolding wordsOf cellOf reads inOrder count
+known-start h t v q = absurd (false≢true (sym q))
+
+known : (h : Counts) (es : List Event) → T (legal h es) → Known h (wordsOf es)
+known h [] l = known-start h
+known h (e ∷ es) l = rw (legal-next h e es (legal-before h e es l)) (known-next h (wordsOf es) (e .thread) (e .line) (e .kind) (legal-known h e es l) (known h es (legal-before h e es l)))
+
+-- ---- each outstanding read may yet be loaded
+
+pub reads-cell : (es : List Event) (t v : ℕ) → cellOf (wordsOf es) t v .reads ≡ reads t v es
+unfolding cellOf wordsOf
+reads-cell es t v = refl
+
+count-last : (p : Event → Bool) (xs : List Event) (e : Event) → count p (xs ++ (e ∷ [])) ≡ count p (e ∷ []) + count p xs
+unfolding count
+count-last p [] e = omega arith
+count-last p (x ∷ xs) e = go (p x) (count-last p xs e)
+  where
+    go : (b : Bool) → count p (xs ++ (e ∷ [])) ≡ count p (e ∷ []) + count p xs → cond b (suc (count p (xs ++ (e ∷ [])))) (count p (xs ++ (e ∷ []))) ≡ count p (e ∷ []) + cond b (suc (count p xs)) (count p xs)
+    go true q = omega (arith, q)
+    go false q = q
+
+-- what goes on behind e goes on from before it
+before-it : (h : Counts) (t v n : ℕ) (e : Event) (es : List Event) → Loadable h t v n (e ∷ es) → count (by (L ∷ []) t v) (e ∷ []) + length (reads t v (e ∷ es)) ≡ length (reads t v es)
+    → Loadable h t v (suc n) es
+before-it h t v n e es m q = record {
+  more = m .more ++ (e ∷ []);
+  goes = subst (λ fs. T (legal h fs)) (sym (append-assoc (m .more) (e ∷ []) es)) (m .goes);
+  loads = count-last (by (L ∷ []) t v) (m .more) e ∙ ap (λ i. count (by (L ∷ []) t v) (e ∷ []) + i) (m .loads) ∙ q;
+  few = rw (length-append (m .more) (e ∷ [])) (omega (arith, m .few));
+}
+
+one-load : (t v n : ℕ) (x : ℤ) → count (by (L ∷ []) t v) (eventBy t n (Load v x) ∷ []) ≡ 1
+unfolding count by is of on
+one-load t v n x = rw (eq-eqb t t refl, eq-eqb v v refl)
+
+no-load : (t v n : ℕ) (x : ℤ) → count (by (L ∷ []) t v) (eventBy t n (PrescientAssign v x) ∷ []) ≡ 0
+unfolding count by is
+no-load t v n x = refl
+
+-- L's row, of the oldest of the reads
+loads-row : (h : Counts) (t v : ℕ) (s : Slot) (rs : List Slot) (w : Words) → AllLive w → cellOf w t v .reads ≡ s ∷ rs → cellOf w t v .pending ≡ false → cellOf w t v .fresh ≡ false → Kept h w t (Load v (s .value))
+unfolding cellOf
+loads-row h t v s rs w l q p f =
+    let some : none? (w .reads t v) ≡ false = rw q in
+    (record { partner = some; notPending = p; stored = f; written = l t v .written some; after = first-after (w .lastWrite t v) (w .events) (w .reads t v) some (l t v .placed) }, rw q (eqZ-refl (s .value)))
+
+module _ (h : Counts) (t v : ℕ) (a : t < h .threads) (b : v < h .variables) where
+  -- one event more, which its row allows
+  goes-on : (k : Kind) → place k ≡ v → onLock (eventBy t 0 k) ≡ false → (es : List Event) → T (legal h es) → Kept h (wordsOf es) t k
+      → T (legal h (eventBy t 0 k ∷ es)) × (cellOf (wordsOf (eventBy t 0 k ∷ es)) t v ≡ changed (suc (wordsOf es .events)) k (cellOf (wordsOf es) t v))
+  goes-on k s o es l r = (
+    legal-cons h (eventBy t 0 k) es (unfold declared in rw (o, s, lt-ltb t (h .threads) a, lt-ltb v (h .variables) b)) (allowed-by h (wordsOf es) t 0 k r) l,
+    subst (λ z. cellOf (wordsOf (eventBy t 0 k ∷ es)) t z ≡ changed (suc (wordsOf es .events)) k (cellOf (wordsOf es) t z)) s
+        (ap (λ w. cellOf w t (place k)) (legal-next h (eventBy t 0 k) es l) ∙ cell-own (wordsOf es) t 0 k),
+  )
+
+  -- with V not owed and no assign fresh, each read is loaded
+  loads-all : (rs : List Slot) (es : List Event) → T (legal h es) → cellOf (wordsOf es) t v .reads ≡ rs → cellOf (wordsOf es) t v .pending ≡ false → cellOf (wordsOf es) t v .fresh ≡ false
+      → Loadable h t v (length rs) es
+  loads-all [] es l q p f = record { more = []; goes = l; loads = unfold count in ap length (sym q ∙ reads-cell es t v); few = omega arith }
+  loads-all (s ∷ rs) es l q p f =
+      let g = goes-on (Load v (s .value)) refl (unfold onLock is in refl) es l (loads-row h t v s rs (wordsOf es) (live h es l) q p f) in
+      before-it h t v (length rs) (eventBy t 0 (Load v (s .value))) es
+      (loads-all rs (eventBy t 0 (Load v (s .value)) ∷ es) (g .0) (ap (λ c. c .reads) (g .1) ∙ ap others q) (ap (λ c. c .pending) (g .1) ∙ p) (ap (λ c. c .fresh) (g .1) ∙ f))
+      (omega (arith, one-load t v 0 (s .value), rest (g .1), sum))
+    where
+      rest : cellOf (wordsOf (eventBy t 0 (Load v (s .value)) ∷ es)) t v ≡ changed (suc (wordsOf es .events)) (Load v (s .value)) (cellOf (wordsOf es) t v) → length (reads t v (eventBy t 0 (Load v (s .value)) ∷ es)) ≡ length rs
+      rest g = ap length (sym (reads-cell (eventBy t 0 (Load v (s .value)) ∷ es) t v) ∙ ap (λ c. c .reads) g ∙ ap others q)
+
+      sum : length (reads t v es) ≡ length (s ∷ rs)
+      sum = ap length (sym (reads-cell es t v) ∙ q)
+
+  -- B where V is owed, then the loads
+  loads-owed : (es : List Event) → T (legal h es) → none? (cellOf (wordsOf es) t v .reads) ≡ false → (o : Bool) → pending t v es ≡ o
+      → Loadable h t v (cond o (suc (length (reads t v es))) (length (reads t v es))) es
+  loads-owed es l q true p =
+      let k = PrescientAssign v (cellOf (wordsOf es) t v .announced) in
+      let g = goes-on k refl (unfold onLock is in refl) es l (unfold cellOf wordsOf in (p, eqZ-refl (announced t v es))) in
+      before-it h t v (length (reads t v es)) (eventBy t 0 k) es
+      (loads-all (reads t v es) (eventBy t 0 k ∷ es) (g .0) (ap (λ c. c .reads) (g .1) ∙ reads-cell es t v) (ap (λ c. c .pending) (g .1)) (ap (λ c. c .fresh) (g .1)))
+      (omega (arith, no-load t v 0 (cellOf (wordsOf es) t v .announced), ap length (sym (reads-cell (eventBy t 0 k ∷ es) t v) ∙ ap (λ c. c .reads) (g .1) ∙ reads-cell es t v)))
+  loads-owed es l q false p =
+      let c : cellOf (wordsOf es) t v .pending ≡ false = unfold cellOf wordsOf in p in
+      loads-all (reads t v es) es l (reads-cell es t v) c (cases (cellOf (wordsOf es) t v .fresh) (λ f. absurd (false≢true (sym c ∙ live h es l t v .stored q f))) (λ f. f))
+
+-- Each outstanding read may yet be loaded: while V is owed, its store is written, and the coming B clears a fresh assign.
+pub all-loadable : (h : Counts) (es : List Event) → T (legal h es) → (t v : ℕ) → Loadable h t v (loadsOf t v es) es
+unfolding loadsOf
+all-loadable h es l t v = go (none? (reads t v es)) refl
+  where
+    length-none : (ss : List Slot) → none? ss ≡ true → 0 ≡ length ss
+    length-none [] q = refl
+    length-none (s ∷ ss) q = absurd (false≢true q)
+
+    go : (b : Bool) → none? (reads t v es) ≡ b → Loadable h t v (loadsOf t v es) es
+    go true q = record { more = []; goes = l; loads = unfold count in length-none (reads t v es) q; few = omega arith }
+    go false q =
+        let some : none? (cellOf (wordsOf es) t v .reads) ≡ false = rw (reads-cell es t v) q in
+        let k = known h es l t v some in
+        loads-owed h t v (k .0) (k .1) es l some (pending t v es) refl
+
+-- and these events are accepted where the limit leaves room for them
+pub accepted-loadable : (m : Limits) (h : Counts) (es : List Event) → 0 < m .excess → T (Accepted m h es) → (t v : ℕ) → length es + loadsOf t v es ≤ m .events
+    → (l : Loadable h t v (loadsOf t v es) es) × T (Accepted m h (l .more ++ es))
+accepted-loadable m h es x a t v r =
+    let l = all-loadable h es (accepted-legal m h es x a) t v in
+    (l, legal-accepted m h (l .more ++ es) (l .goes) (rw (length-append (l .more) es) (omega (arith, l .few, r))))

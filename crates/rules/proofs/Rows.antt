@@ -1,0 +1,119 @@
+-- What the row of each kind asks, in one statement for each kind: an event breaks no rule of its row exactly where it holds.
+use Prim.Native.Nat.{ℕ}
+use mathlib.Core.Path.{_≡_}
+use mathlib.Core.Bool.{true, false, not, _&&_, or-false}
+use lib.Dec.{eqb, ltb, leb}
+use lib.IntN.{ℤ}
+use lib.ListN.{length}
+use borrow.Author.Tests.{not-false}
+use Rattle.rules.specs.declared.Kind.{Kind}
+use Rattle.rules.specs.declared.Kind.the-variants.{Use, Assign, Load, Store, Read, Write, Lock, Unlock, PrescientStore, PrescientAssign}
+use Rattle.rules.specs.declared.Counts.{Counts}
+use Rattle.rules.specs.Events.{is, eqZ}
+use Rattle.rules.specs.Limits.{most}
+use Rattle.rules.specs.Words.{first}
+use Rattle.rules.specs.Rules.{Words, some, none?, held, noPartner, lockTaken, notHeld, pendingBars, notFresh, notStored, readBeforeWrite, unwritten, notWritten, notUsable, differs, eightAlready, deadRead, breaks, rows, rowIn, judge}
+use Rattle.rules.proofs.Laws.{row-kept, accepts, or-false-left, or-false-right}
+use Rattle.rules.proofs.Cells.{eventBy}
+
+-- L: a read is outstanding, V is not owed, nothing is fresh or to be written, and the read came after the last write
+pub record LoadRow (w : Words) (t v : ℕ) : Type 0 where
+  pub partner : none? (w .reads t v) ≡ false
+  pub notPending : w .pending t v ≡ false
+  pub stored : w .fresh t v ≡ false
+  pub written : none? (w .stores t v) ≡ true
+  pub after : ltb (first (w .reads t v) .position) (w .lastWrite t v) ≡ false
+
+-- S: V is not owed, its copy is fresh and usable, and a store more has room
+pub record StoreRow (w : Words) (t v : ℕ) : Type 0 where
+  pub notPending : w .pending t v ≡ false
+  pub fresh : w .fresh t v ≡ true
+  pub usable : w .usable t v ≡ true
+  pub room : leb most (length (w .stores t v)) ≡ false
+
+-- R: a read more has room, and is not dead
+pub record ReadRow (w : Words) (t v : ℕ) (x : ℤ) : Type 0 where
+  pub room : leb most (length (w .reads t v)) ≡ false
+  pub live : deadRead w (eventBy t 0 (Read v x)) ≡ false
+
+-- K: no other thread holds the lock, and T owes nothing
+pub record LockRow (h : Counts) (w : Words) (t l : ℕ) : Type 0 where
+  pub free : some (h .threads) (λ u. not (eqb u t) && held w u l) ≡ false
+  pub notPending : some (h .variables) (λ v. w .pending t v) ≡ false
+
+-- N: T holds the lock, and has stored and written its assigns
+pub record UnlockRow (h : Counts) (w : Words) (t l : ℕ) : Type 0 where
+  pub held : held w t l ≡ true
+  pub stored : some (h .variables) (λ v. w .fresh t v) ≡ false
+  pub written : some (h .variables) (λ v. unwritten w t v) ≡ false
+
+-- P: V is not owed, a store more has room, and it leaves no read dead
+pub record PrescientStoreRow (w : Words) (t v : ℕ) (x : ℤ) : Type 0 where
+  pub notPending : w .pending t v ≡ false
+  pub room : leb most (length (w .stores t v)) ≡ false
+  pub live : deadRead w (eventBy t 0 (PrescientStore v x)) ≡ false
+
+-- what an event of thread t keeps that breaks no rule of its row
+abbrev pub Kept : Counts → Words → ℕ → Kind → Type 0
+Kept h w t (Use v x) = (w .usable t v ≡ true) × (eqZ x (w .copy t v) ≡ true)
+Kept h w t (Assign v x) = deadRead w (eventBy t 0 (Assign v x)) ≡ false
+Kept h w t (Load v x) = LoadRow w t v × (eqZ x (first (w .reads t v) .value) ≡ true)
+Kept h w t (Store v x) = StoreRow w t v × (eqZ x (w .copy t v) ≡ true)
+Kept h w t (Read v x) = ReadRow w t v x × (eqZ x (w .main v) ≡ true)
+Kept h w t (Write v x) = (none? (w .stores t v) ≡ false) × (eqZ x (first (w .stores t v) .value) ≡ true)
+Kept h w t (Lock l) = LockRow h w t l
+Kept h w t (Unlock l) = UnlockRow h w t l
+Kept h w t (PrescientStore v x) = PrescientStoreRow w t v x
+Kept h w t (PrescientAssign v x) = (w .pending t v ≡ true) × (eqZ x (w .announced t v) ≡ true)
+
+-- an event that breaks no rule of its row has it
+pub row-of : (h : Counts) (w : Words) (t n : ℕ) (k : Kind) → judge h w (eventBy t n k) ≡ 0 → Kept h w t k
+unfolding rowIn rows breaks noPartner lockTaken notHeld pendingBars notFresh notStored readBeforeWrite notWritten notUsable differs eightAlready deadRead is
+row-of h w t n (Use v x) p = (not-false _ (row-kept 17 h w (eventBy t n (Use v x)) p tt), not-false _ (simp or-false at (row-kept 18 h w (eventBy t n (Use v x)) p tt)))
+row-of h w t n (Assign v x) p = row-kept 23 h w (eventBy t n (Assign v x)) p tt
+row-of h w t n (Load v x) p = (
+  record {
+    partner = simp or-false at (row-kept 10 h w (eventBy t n (Load v x)) p tt);
+    notPending = row-kept 13 h w (eventBy t n (Load v x)) p tt;
+    stored = simp or-false at (row-kept 15 h w (eventBy t n (Load v x)) p tt);
+    written = not-false _ (or-false-left (not (none? (w .stores t v))) _ (simp or-false at (row-kept 16 h w (eventBy t n (Load v x)) p tt)));
+    after = or-false-right (not (none? (w .stores t v))) _ (simp or-false at (row-kept 16 h w (eventBy t n (Load v x)) p tt));
+  },
+  not-false _ (simp or-false at (row-kept 18 h w (eventBy t n (Load v x)) p tt)),
+)
+row-of h w t n (Store v x) p = (
+  record {
+    notPending = row-kept 13 h w (eventBy t n (Store v x)) p tt;
+    fresh = not-false _ (row-kept 14 h w (eventBy t n (Store v x)) p tt);
+    usable = not-false _ (row-kept 17 h w (eventBy t n (Store v x)) p tt);
+    room = row-kept 19 h w (eventBy t n (Store v x)) p tt;
+  },
+  not-false _ (simp or-false at (row-kept 18 h w (eventBy t n (Store v x)) p tt)),
+)
+row-of h w t n (Read v x) p = (
+  record {
+    room = simp or-false at (row-kept 19 h w (eventBy t n (Read v x)) p tt);
+    live = row-kept 23 h w (eventBy t n (Read v x)) p tt;
+  },
+  not-false _ (simp or-false at (row-kept 18 h w (eventBy t n (Read v x)) p tt)),
+)
+row-of h w t n (Write v x) p = (simp or-false at (row-kept 10 h w (eventBy t n (Write v x)) p tt), not-false _ (simp or-false at (row-kept 18 h w (eventBy t n (Write v x)) p tt)))
+row-of h w t n (Lock l) p = record { free = row-kept 11 h w (eventBy t n (Lock l)) p tt; notPending = simp or-false at (row-kept 13 h w (eventBy t n (Lock l)) p tt) }
+row-of h w t n (Unlock l) p = record { held = not-false _ (row-kept 12 h w (eventBy t n (Unlock l)) p tt); stored = row-kept 15 h w (eventBy t n (Unlock l)) p tt; written = row-kept 16 h w (eventBy t n (Unlock l)) p tt }
+row-of h w t n (PrescientStore v x) p = record { notPending = row-kept 13 h w (eventBy t n (PrescientStore v x)) p tt; room = row-kept 19 h w (eventBy t n (PrescientStore v x)) p tt; live = row-kept 23 h w (eventBy t n (PrescientStore v x)) p tt }
+row-of h w t n (PrescientAssign v x) p = (not-false _ (row-kept 10 h w (eventBy t n (PrescientAssign v x)) p tt), not-false _ (row-kept 18 h w (eventBy t n (PrescientAssign v x)) p tt))
+
+-- and what has it breaks none
+pub allowed-by : (h : Counts) (w : Words) (t n : ℕ) (k : Kind) → Kept h w t k → judge h w (eventBy t n k) ≡ 0
+unfolding judge rowIn rows breaks noPartner lockTaken notHeld pendingBars notFresh notStored readBeforeWrite notWritten notUsable differs eightAlready deadRead is
+allowed-by h w t n (Use v x) r = accepts _ h w _ (rw (r .0), (rw (r .1), tt))
+allowed-by h w t n (Assign v x) r = accepts _ h w _ (r, tt)
+allowed-by h w t n (Load v x) r =
+    accepts _ h w _ (rw (r .0 .partner), (r .0 .notPending, (rw (r .0 .stored), (rw (r .0 .written, r .0 .after), (rw (r .1), tt)))))
+allowed-by h w t n (Store v x) r = accepts _ h w _ (r .0 .notPending, (rw (r .0 .fresh), (rw (r .0 .usable), (rw (r .1), (r .0 .room, tt)))))
+allowed-by h w t n (Read v x) r = accepts _ h w _ (rw (r .1), (rw (r .0 .room), (r .0 .live, tt)))
+allowed-by h w t n (Write v x) r = accepts _ h w _ (rw (r .0), (rw (r .1), tt))
+allowed-by h w t n (Lock l) r = accepts _ h w _ (r .free, (rw (r .notPending), tt))
+allowed-by h w t n (Unlock l) r = accepts _ h w _ (rw (r .held), (r .stored, (r .written, tt)))
+allowed-by h w t n (PrescientStore v x) r = accepts _ h w _ (r .notPending, (r .room, (r .live, tt)))
+allowed-by h w t n (PrescientAssign v x) r = accepts _ h w _ (rw (r .0), (rw (r .1), tt))
