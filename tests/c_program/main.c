@@ -11,7 +11,7 @@ static void expect(const char *what, bool ok) {
   if (!ok) printf("%s: FAILED\n", what);
 }
 
-/* ---- steps: the short traces of document 01, traces of 02 (a), refusals 4, 5, 8 and 9, states that no events reach */
+/* ---- steps: the short traces of document 01, traces of 02 (a) and (d), refusals 4, 5, 8 and 9, states that no events reach */
 
 static struct dabzhoni_state state;
 
@@ -62,7 +62,7 @@ static void steps(void) {
   expect("main memory", state.memory[0] == 5);
   trace("P 0 0 5;K 0 0", 13);
   trace("K 0 0;K 0 0;N 0 0;K 1 0", 11);
-  trace("K 0 0;P 0 0 5;N 0 0", 16);
+  trace("K 0 0;P 0 0 5;N 0 0", 0);
   trace("R 0 0 0;R 0 0 0;R 0 0 0;R 0 0 0;R 0 0 0;R 0 0 0;R 0 0 0;R 0 0 0;R 0 0 0", 19);
   trace("A 1 1 -2147483648;S 1 1 -2147483648;W 1 1 -2147483648;R 0 1 -2147483648;L 0 1 -2147483648;U 0 1 2147483647", 18);
   trace("A 0 0 5;R 0 0 0", 23);
@@ -73,6 +73,10 @@ static void steps(void) {
   trace("P 0 0 5;W 0 0 5;R 0 0 5;A 0 0 1;B 0 0 5;L 0 0 5", 0);
   trace("A 0 0 1;P 0 0 5;W 0 0 5;R 0 0 5;B 0 0 5;L 0 0 5", 0);
   trace("K 0 0;A 0 0 5;N 0 0", 15);
+  trace("K 0 0;P 0 0 5;A 0 0 1;N 0 0", 15);
+  trace("K 0 0;P 0 0 5;B 0 0 5;N 0 0", 16);
+  trace("K 0 0;A 0 0 1;S 0 0 1;P 0 0 5;N 0 0", 16);
+  trace("K 0 0;A 0 0 1;S 0 0 1;P 0 0 5;W 0 0 1;N 0 0;B 0 0 5;W 0 0 5", 0);
 
   dabzhoni_initial(&state, 2, 2, 2);
   reply("no letter", "X 0 0 0", 4, 3);
@@ -106,6 +110,18 @@ static void steps(void) {
   reply("nine stores before a dead read", "P 0 0 0", 19, 5);
   state.cells[0].reads.len = 8;
   reply("nine reads before a dead read", "R 0 0 0", 19, 5);
+
+  /* stores that no events reach; with an assign owed the latest is taken for the early one */
+  trace("K 0 0", 0);
+  state.cells[0].stores.len = 1;
+  reply("unlock with a store", "N 0 0", 16, 4);
+  state.cells[1].pending = true;
+  reply("unlock with a store and an assign of another variable owed", "N 0 0", 16, 4);
+  state.cells[0].pending = true;
+  state.cells[0].stores.len = 2;
+  reply("unlock with two stores and an assign owed", "N 0 0", 16, 4);
+  state.cells[0].stores.len = 1;
+  reply("unlock with a store and its assign owed", "N 0 0", 0, 0);
 }
 
 /* ---- whole papers */
@@ -154,6 +170,12 @@ static const struct paper PAPERS[] = {
      .ordering = "section 1 4 8\nsection 0 3 14\n",
      .sections = 2,
      .entries = {1 << 24 | 8 << 12 | 4, 14 << 12 | 3}},
+    {.name = "an early store over an unlock",
+     .text = "H 1 1 2\nG 0\nK 0 0\nK 0 1\nP 0 0 5\nN 0 1\nW 0 0 5\nB 0 0 5\nN 0 0\nZ 60\n",
+     .memories = "accepted 7\nmain 0 5\ncopy 0 0 5\n",
+     .ordering = "section 0 3 9\n",
+     .sections = 1,
+     .entries = {9 << 12 | 3}},
     {.name = "an empty order", .text = "H 8 1 8\nG 7\nZ 12\n", .memories = "accepted 0\nmain 0 0\n", .ordering = ""},
     {.name = "no guards",
      .text = "H 2 2 2\nG -\nA 1 1 -2147483648\nA 0 0 2147483647\nZ 47\n",
@@ -187,6 +209,11 @@ static const struct paper PAPERS[] = {
     {.name = "6", .text = "H 1 1 0\nG 0\nZ 12\n", .memories = "refused 2 6\n", .number = 6, .line = 2},
     {.name = "4", .text = "H 1 1 0\nG -\nA 0 0 5\nX\nZ 22\n", .memories = "refused 4 4\n", .number = 4, .line = 4},
     {.name = "5", .text = "H 1 1 1\nG 0\nK 0 1\nZ 18\n", .memories = "refused 3 5\n", .number = 5, .line = 3},
+    {.name = "16",
+     .text = "H 1 1 1\nG 0\nK 0 0\nP 0 0 5\nB 0 0 5\nN 0 0\nZ 40\n",
+     .memories = "refused 6 16\n",
+     .number = 16,
+     .line = 6},
     {.name = "17", .text = "H 2 1 1\nG 0\nK 0 0\nU 0 0 0\nZ 26\n", .memories = "refused 4 17\n", .number = 17, .line = 4},
     {.name = "23", .text = "H 1 1 1\nG 0\nR 0 0 0\nA 0 0 5\nZ 28\n", .memories = "refused 4 23\n", .number = 23, .line = 4},
 };

@@ -3,9 +3,9 @@
 use Prim.Native.Nat.{ℕ, _+_, _*_, _%_, _≤_, _<_}
 use native.Mathlib.Omega.{arith}
 use mathlib.Core.Path.{_≡_, refl, sym, ap, _∙_, subst}
-use mathlib.Core.Bool.{Bool, true, false, not, cond, or-false}
+use mathlib.Core.Bool.{Bool, true, false, cond, or-false}
 use mathlib.Core.List.{List, [], _∷_}
-use lib.Dec.{T, eqb}
+use lib.Dec.{T, eqb, ltb}
 use lib.IntN.{ℤ}
 use lib.ListN.{getD, set}
 use lib.Seq.{set-getD}
@@ -33,7 +33,7 @@ use Rattle.judging.specs.declared.ReadsTurn.{ReadsTurn}
 use Rattle.judging.specs.declared.StoresTurn.{StoresTurn}
 use Rattle.judging.specs.declared.LockTurn.{LockTurn}
 use Rattle.judging.specs.Computed.Checks.{oldestOf, rowOf}
-use Rattle.judging.specs.Computed.Turns.{holdFor, useRule, cellTurn, readsWith, readsTurn, storesWith, storesTurn, lockTurn, someOf}
+use Rattle.judging.specs.Computed.Turns.{holdFor, useRule, cellTurn, readsWith, readsTurn, storesWith, storesTurn, lockTurn, awaitsWrite, someOf}
 use Rattle.judging.proofs.Locks.{others-same}
 
 -- an event by its numbers
@@ -54,9 +54,9 @@ lock-place {k = k} n h = n .place ∙ rw (subst (λ (m : ℕ). among (K ∷ N �
 
 -- ---- the rule of a turn is the row's
 
-stored-same : (s : State) (t n : ℕ) → some n (λ v. not (eqb (cellAt s t v .stores .len) 0)) ≡ some n (λ v. unwritten (wordsIn s) t v)
+stored-same : (s : State) (t n : ℕ) → some n (λ v. awaitsWrite (cellAt s t v)) ≡ some n (λ v. unwritten (wordsIn s) t v)
 unfolding unwritten wordsIn storesAt
-stored-same s t n = ap (λ (f : ℕ → Bool). some n f) (λ i. λ v. not (sym (queued-none (s .stores) (16 * t + v) (cellAt s t v .stores)) i))
+stored-same s t n = ap (λ (f : ℕ → Bool). some n f) (λ i. λ v. ltb (cond (cellAt s t v .pending) 1 0) (sym (queued-length (s .stores) (16 * t + v) (cellAt s t v .stores)) i))
 
 module _ (s : State) (e : Event) where
   abbrev own : Cell

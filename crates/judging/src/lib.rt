@@ -31,7 +31,7 @@ use state::Cell;
 use state::Hold;
 use state::Ring;
 
-// What some variable of a thread has: a pending prescient store, a fresh assign, an outstanding store.
+// What some variable of a thread has: a pending prescient store, a fresh assign, an outstanding store that N counts.
 pub struct OnSome {
     pub pending: bool,
     pub fresh: bool,

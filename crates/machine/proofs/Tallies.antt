@@ -1,10 +1,10 @@
 -- The tallies beside the state: they start at 0, a changed cell moves the one of its thread, and they answer what K and N ask for.
-use Prim.Native.Nat.{ℕ, zero, suc, _+_, _*_, _-_, _≤_, _<_}
+use Prim.Native.Nat.{ℕ, zero, suc, _+_, _*_, _≤_, _<_}
 use native.Mathlib.Omega.{arith}
 use native.Mathlib.Nat.{not-suc-le-zero}
 use native.Mathlib.Numerals.{add-one}
 use mathlib.Core.Path.{_≡_, refl, sym, ap, _∙_, subst}
-use mathlib.Core.Bool.{Bool, true, false, not, cond, _&&_, _||_}
+use mathlib.Core.Bool.{Bool, true, false, cond, _&&_, _||_}
 use mathlib.Core.List.{List, [], _∷_}
 use lib.Dec.{T, eqb, ltb}
 use lib.IntN.{ℤ}
@@ -17,7 +17,6 @@ use Rattle.rules.specs.Events.{L, R, among}
 use Rattle.rules.specs.Memories.{from}
 use Rattle.rules.specs.Rules.{some}
 use Rattle.rules.proofs.From.{length-from, from-at, from-all}
-use Rattle.state.specs.declared.Ring.{Ring}
 use Rattle.state.specs.declared.Cell.{Cell}
 use Rattle.state.specs.declared.State.{State}
 use Rattle.state.specs.State.{blank, cellAt, start}
@@ -26,10 +25,10 @@ use Rattle.state.specs.Computed.Places.{cellPlace}
 use Rattle.state.proofs.LeafLaws.{place-is}
 use Rattle.state.proofs.Stands.{start-cell}
 use Rattle.judging.specs.declared.OnSome.{OnSome}
-use Rattle.judging.specs.Computed.Turns.{someOf}
+use Rattle.judging.specs.Computed.Turns.{awaitsWrite, someOf}
 use Rattle.judging.proofs.Turned.{reads-tally}
 use Rattle.machine.specs.declared.Tally.{Tally}
-use Rattle.machine.specs.Computed.Tallies.{number, noTally, sent, tallyOf, moved, tallyAfter, Small, someIn}
+use Rattle.machine.specs.Computed.Tallies.{number, noTally, tallyOf, moved, tallyAfter, Small, someIn}
 
 -- ---- numbers of what has something
 
@@ -117,7 +116,7 @@ unfolding tallyOf
 start-tally h t = λ i. record {
   pending = zeros (start h .counts .variables) (λ v. cellAt (start h) t v .pending) (λ v. ap (λ (c : Cell). c .pending) (start-cell h t v)) i;
   fresh = zeros (start h .counts .variables) (λ v. cellAt (start h) t v .fresh) (λ v. ap (λ (c : Cell). c .fresh) (start-cell h t v)) i;
-  stored = zeros (start h .counts .variables) (λ v. sent (cellAt (start h) t v)) (λ v. ap sent (start-cell h t v)) i;
+  stored = zeros (start h .counts .variables) (λ v. awaitsWrite (cellAt (start h) t v)) (λ v. ap awaitsWrite (start-cell h t v)) i;
 }
 
 pub start-tallies : (h : Counts) → replicate 8 noTally ≡ from (tallyOf (start h)) 0 8
@@ -129,18 +128,18 @@ unfolding someIn tallyOf someOf
 some-is s t a any ea ey = ey ∙ ap (λ (x : Tally). someIn x) ea ∙ (λ i. record {
   pending = number-some (s .counts .variables) (λ v. cellAt s t v .pending) i;
   fresh = number-some (s .counts .variables) (λ v. cellAt s t v .fresh) i;
-  stored = number-some (s .counts .variables) (λ v. sent (cellAt s t v)) i;
+  stored = number-some (s .counts .variables) (λ v. awaitsWrite (cellAt s t v)) i;
 })
 
 pub small : (s : State) (t : ℕ) (a : Tally) → s .counts .variables ≤ 16 → a ≡ tallyOf s t → Small a
 small s t a m e = subst Small (sym e) (unfold tallyOf in record {
   pending = omega (arith, number-le (s .counts .variables) (λ v. cellAt s t v .pending));
   fresh = omega (arith, number-le (s .counts .variables) (λ v. cellAt s t v .fresh));
-  stored = omega (arith, number-le (s .counts .variables) (λ v. sent (cellAt s t v)));
+  stored = omega (arith, number-le (s .counts .variables) (λ v. awaitsWrite (cellAt s t v)));
 })
 
 -- a tally counted over all declared variables
-pub tally-is : (s : State) (t : ℕ) {a b c n : ℕ} → n ≡ s .counts .variables → a ≡ number n (λ v. cellAt s t v .pending) → b ≡ number n (λ v. cellAt s t v .fresh) → c ≡ number n (λ v. sent (cellAt s t v))
+pub tally-is : (s : State) (t : ℕ) {a b c n : ℕ} → n ≡ s .counts .variables → a ≡ number n (λ v. cellAt s t v .pending) → b ≡ number n (λ v. cellAt s t v .fresh) → c ≡ number n (λ v. awaitsWrite (cellAt s t v))
     → record { pending = a; fresh = b; stored = c } ≡ tallyOf s t
 unfolding tallyOf
 tally-is s t n p q r = rw (p, q, r, n) refl
@@ -196,14 +195,14 @@ module _ (s s′ : State) (t v : ℕ) (d : Cell) (len : length (s .cells) ≡ 12
 
   tally-own : tallyOf s′ t ≡ tallyAfter (tallyOf s t) (getD (s .cells) (16 * t + v) blank) d
   unfolding tallyOf tallyAfter
-  tally-own = λ i. record { pending = field-moved (λ c. c .pending) i; fresh = field-moved (λ c. c .fresh) i; stored = field-moved sent i }
+  tally-own = λ i. record { pending = field-moved (λ c. c .pending) i; fresh = field-moved (λ c. c .fresh) i; stored = field-moved awaitsWrite i }
 
   tally-other : (u : ℕ) → (u ≡ t → ⊥) → tallyOf s′ u ≡ tallyOf s u
   unfolding tallyOf
   tally-other u n = λ i. record {
     pending = number (same i .variables) (λ w. other u w (λ z. n (z .0)) i .pending);
     fresh = number (same i .variables) (λ w. other u w (λ z. n (z .0)) i .fresh);
-    stored = number (same i .variables) (λ w. sent (other u w (λ z. n (z .0)) i));
+    stored = number (same i .variables) (λ w. awaitsWrite (other u w (λ z. n (z .0)) i));
   }
 
   pub tallied-set : (ts : List Tally) → Tallied s ts → (a : Tally) → a ≡ tallyAfter (getD ts t noTally) (getD (s .cells) (16 * t + v) blank) d → Tallied s′ (set ts t a)
@@ -231,7 +230,7 @@ module _ (s s′ : State) (t v : ℕ) (d : Cell) (len : length (s .cells) ≡ 12
       same-tally a c q = unfold tallyAfter in (λ i. record {
         pending = (ap (λ (b : Bool). moved (a .pending) (c .pending) b) (q .0) ∙ none (a .pending) (c .pending)) i;
         fresh = (ap (λ (b : Bool). moved (a .fresh) (c .fresh) b) (q .1) ∙ none (a .fresh) (c .fresh)) i;
-        stored = (ap (λ (x : Ring). moved (a .stored) (sent c) (not (eqb (x .len) 0))) (q .2) ∙ none (a .stored) (sent c)) i;
+        stored = ((λ j. moved (a .stored) (awaitsWrite c) (ltb (cond (q .0 j) 1 0) (q .2 j .len))) ∙ none (a .stored) (awaitsWrite c)) i;
       })
 
 -- ---- the same, for a cell at its place

@@ -1,12 +1,15 @@
--- Steps from states that no events reach, by computation: what events of which 23 refuses one would leave. Document 02 (a): "In a paper L can then no
--- longer meet 15 or 16, though a step from a state that no events reach still can; N still can in both."
+-- Steps, by computation, from states that no events reach: those that a list with a refused event would leave. Document 02 (a): "In a paper L can then
+-- no longer meet 15 or 16, though a step from a state that no events reach still can; N still can in both."
+use Prim.Native.Nat.{ℕ}
 use native.Mathlib.Omega.{arith}
-use mathlib.Core.Path.{_≡_, refl, subst}
-use mathlib.Core.Bool.{false≢true}
+use mathlib.Core.Path.{_≡_, refl, sym, subst}
+use mathlib.Core.Bool.{true, false≢true}
 use mathlib.Core.List.{List, [], _∷_, _++_}
 use lib.Dec.{T}
+use lib.IntN.{pos}
 use lib.ListN.{replicate}
 use Rattle.rules.specs.declared.Event.{Event}
+use Rattle.rules.specs.declared.Slot.{Slot}
 use Rattle.rules.specs.declared.Counts.{Counts}
 use Rattle.rules.specs.Events.{is, onLock, eqZ}
 use Rattle.rules.specs.Limits.{full, lineAfter, allowed, declared}
@@ -14,6 +17,7 @@ use Rattle.rules.specs.Rules.{wordsOf, some, noPartner, notHeld, pendingBars, n
 use Rattle.rules.specs.Traces.{ev, A, L, S, R, W, P, K, N, two}
 use Rattle.rules.proofs.Cells.{cellOf}
 use Rattle.rules.proofs.Live.{AllLive, live}
+use Rattle.rules.proofs.PrescientStores.{AllAnnounced, last-announced}
 use Rattle.state.specs.State.{around, queued, cellAt, readsAt, storesAt, depthOf, wordsIn, start}
 use Rattle.state.specs.Range.{every, holdsOk, cellsOk, queueOk, queuesOk, inRange}
 use Rattle.state.specs.Step.{nextCell, readAfter, storeAfter, holdAfter, mainAfter, lockedAfter, varOf, lockOf, stepState, stateAfter}
@@ -48,14 +52,29 @@ pub dead-already : stepsTo (P 0 0 5 ∷ R 0 0 0 ∷ []) (A 0 0 6) ≡ accepted
 unfolding ev A R P start stateAfter stepState nextCell readAfter storeAfter holdAfter mainAfter lockedAfter varOf lockOf stepped inRange allowed holdsOk cellsOk queueOk queuesOk every answer declared onLock is wordsIn cellAt readsAt storesAt queued around depthOf judge firstBroken rowIn rows breaks deadRead some eqZ
 dead-already = refl
 
--- No events leave the first three states.
+-- K P W S: with V owed the one store is not the early one. It is taken for it, and N accepted. K P W S S: 16.
+pub store-owed : (stepsTo (S 0 0 6 ∷ W 0 0 5 ∷ P 0 0 5 ∷ K 0 0 ∷ []) (N 0 0) ≡ accepted) × (stepsTo (S 0 0 6 ∷ S 0 0 6 ∷ W 0 0 5 ∷ P 0 0 5 ∷ K 0 0 ∷ []) (N 0 0) ≡ refused 16 (lineAfter two 5))
+unfolding ev S W P K N start stateAfter stepState nextCell readAfter storeAfter holdAfter mainAfter lockedAfter varOf lockOf stepped inRange allowed holdsOk cellsOk queueOk queuesOk every answer declared onLock is wordsIn cellAt readsAt storesAt queued around depthOf judge firstBroken rowIn rows breaks notHeld notStored unwritten notWritten some eqZ
+store-owed = (refl, refl)
+
+-- No events leave the first three states, nor the last two.
 pub unreached : (h : Counts) (es : List Event) → T (legal h es)
     → (wordsOf es ≡ wordsIn (stateAfter two (A 0 0 5 ∷ R 0 0 0 ∷ K 0 0 ∷ [])) → ⊥)
     × (wordsOf es ≡ wordsIn (stateAfter two (S 0 0 5 ∷ A 0 0 5 ∷ R 0 0 0 ∷ K 0 0 ∷ [])) → ⊥)
     × (wordsOf es ≡ wordsIn (stateAfter two (W 0 0 5 ∷ S 0 0 5 ∷ A 0 0 5 ∷ R 0 0 0 ∷ K 0 0 ∷ [])) → ⊥)
-unfolding ev A S R W K start stateAfter stepState nextCell readAfter storeAfter holdAfter mainAfter lockedAfter varOf lockOf wordsIn cellAt readsAt storesAt queued around cellOf
+    × (wordsOf es ≡ wordsIn (stateAfter two (S 0 0 6 ∷ W 0 0 5 ∷ P 0 0 5 ∷ K 0 0 ∷ [])) → ⊥)
+    × (wordsOf es ≡ wordsIn (stateAfter two (S 0 0 6 ∷ S 0 0 6 ∷ W 0 0 5 ∷ P 0 0 5 ∷ K 0 0 ∷ [])) → ⊥)
+unfolding ev A S R W P K start stateAfter stepState nextCell readAfter storeAfter holdAfter mainAfter lockedAfter varOf lockOf wordsIn cellAt readsAt storesAt queued around cellOf eqZ
 unreached h es l = (
   λ q. false≢true (subst AllLive q (live h es l) 0 0 .stored refl refl),
   λ q. false≢true (subst AllLive q (live h es l) 0 0 .written refl),
   λ q. omega (arith, subst AllLive q (live h es l) 0 0 .placed .0),
+  λ q. other (subst AllAnnounced q (last-announced h es l) 0 0 [] (stored 4) refl refl),
+  λ q. other (subst AllAnnounced q (last-announced h es l) 0 0 (stored 4 ∷ []) (stored 5) refl refl),
 )
+  where
+    stored : ℕ → Slot
+    stored p = record { value = pos 6; position = p }
+
+    other : pos 6 ≡ pos 5 → ⊥
+    other q = false≢true (subst (λ x. eqZ x (pos 5) ≡ true) (sym q) refl)

@@ -10,7 +10,7 @@ ghost use Rattle.rules.specs.Rules.{judge, accepted, refused, said};
 ghost use Rattle.rules.specs.Memories.{memoriesOf, noMemories};
 ghost use Rattle.state.specs.State.{wordsIn};
 ghost use Rattle.state.specs.Step.{stepState};
-ghost use Rattle.judging.specs.Computed.Turns.{partsAt};
+ghost use Rattle.judging.specs.Computed.Turns.{partsAt, awaitsWrite};
 ghost use Rattle.records.specs.Records.{rowLines};
 ghost use Rattle.machine.specs.Stepped.{unchanged, stepped};
 ghost use Rattle.machine.specs.Rows.{MarksRow};
@@ -41,7 +41,7 @@ pub struct Outcome {
     pub memories: Memories,
 }
 
-// How many of a thread's declared variables have a pending prescient store, a fresh assign, an outstanding store.
+// How many of a thread's declared variables have a pending prescient store, a fresh assign, an outstanding store that N counts.
 pub struct Tally {
     pub pending: u32,
     pub fresh: u32,
@@ -54,6 +54,15 @@ fn one(b: bool) -> u32
     ensures { λ r. ⌜ r ≡ cond b 1 0 ⌝ }
 {
     if b { 1 } else { 0 }
+}
+
+// Whether a store that N counts is outstanding: with an assign owed the latest is left aside.
+fn awaits_write(c: Cell) -> bool
+    ensures { λ r. ⌜ r ≡ awaitsWrite c ⌝ }
+{
+    let o = c.stores;
+    let n = o.len as u32;
+    one(c.pending) < n
 }
 
 // n things have it, of which one had it or not and has it or not now.
@@ -71,12 +80,12 @@ fn tally_after(a: Tally, c: Cell, d: Cell) -> Tally
     requires { ⌜ Small a ⌝ }
     ensures { λ r. ⌜ r ≡ tallyAfter a c d ⌝ }
 {
-    let q = c.stores;
-    let o = d.stores;
+    let was = awaits_write(c);
+    let is = awaits_write(d);
     Tally {
         pending: moved(a.pending, c.pending, d.pending),
         fresh: moved(a.fresh, c.fresh, d.fresh),
-        stored: moved(a.stored, q.len != 0, o.len != 0),
+        stored: moved(a.stored, was, is),
     }
 }
 
@@ -104,10 +113,10 @@ fn tally_of(s: State, t: usize) -> Tally
     while v < h.variables {
         let i = state::cell_place(t, v);
         let c = s.cells[i];
-        let o = c.stores;
+        let waits = awaits_write(c);
         pending = one(c.pending) + pending;
         fresh = one(c.fresh) + fresh;
-        stored = one(o.len != 0) + stored;
+        stored = one(waits) + stored;
         v += 1;
     }
     Tally {

@@ -1,3 +1,4 @@
 pub mod Whole
 pub mod Refused
 pub mod ReadRows
+pub mod Stays

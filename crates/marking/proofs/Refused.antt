@@ -1,7 +1,7 @@
--- The first bad event of a trace that is refused by 5 or by a row; and so, document 02 (a), what 15, 16 and 23 say of a paper.
+-- The first bad event of a trace that is refused by 5 or by a row; and so, document 02 (a) and (d), what 15, 16 and 23 say of a paper.
 use Prim.Native.Nat.{ℕ, suc}
 use native.Mathlib.Omega.{arith}
-use mathlib.Core.Path.{_≡_, sym, ap, _∙_, subst}
+use mathlib.Core.Path.{_≡_, refl, sym, ap, _∙_, subst}
 use mathlib.Core.Bool.{Bool, true, false, cond}
 use mathlib.Core.List.{List, [], _∷_, reverse}
 use mathlib.Core.Logic.{_⊎_, inl, inr}
@@ -9,16 +9,18 @@ use mathlib.Core.Option.{Option, none, some}
 use lib.Dec.{T, leb}
 use Rattle.rules.specs.declared.Event.{Event}
 use Rattle.rules.specs.declared.Counts.{Counts}
-use Rattle.rules.specs.Events.{N, among, is}
+use Rattle.rules.specs.Events.{N, letter, among, is}
 use Rattle.rules.specs.Limits.{Limits, full, lineAfter, declared}
-use Rattle.rules.specs.Rules.{wordsOf, loc, judge, verdict, Marked, accepted, refused, told, numberIn, refusedOr, mark, markRead, FirstBad}
+use Rattle.rules.specs.Rules.{wordsOf, loc, onSome, breaks, rows, rowIn, judge, verdict, Marked, accepted, refused, told, numberIn, refusedOr, mark, markRead, FirstBad}
 use Rattle.rules.specs.Reading.{readFrom, stopFrom}
 use Rattle.rules.specs.DeadReads.{Dead}
-use Rattle.rules.proofs.Laws.{each-among, accepted-legal}
+use Rattle.rules.specs.PrescientStores.{madeUnwritten}
+use Rattle.rules.proofs.Laws.{broken-is, each-among, accepted-legal}
 use Rattle.rules.proofs.Marking.{mark-refuses}
 use Rattle.rules.proofs.Readings.{marked-apart}
 use Rattle.rules.proofs.Loads.{row-refused, unlock-refused}
 use Rattle.rules.proofs.DeadReads.{refused-dead}
+use Rattle.rules.proofs.PrescientStores.{unlock-exact}
 use Rattle.trace.specs.Trace.{traceOf}
 use Rattle.trace.proofs.TraceLaws.{found-number}
 use Rattle.marking.specs.Marking.{linesIn, markedOf, readIn}
@@ -77,6 +79,29 @@ unlock-line s number line o q = (b, unlock-refused full (traceOf full s .head) (
 
     b : FirstBad full (traceOf full s .head) (readIn full s) number line
     b = first-bad s number line (ofEvent o) q
+
+-- A paper that is refused with 16 is so at an N of a thread that has an outstanding store whose assign is made.
+pub unwritten-line : (s : List ℕ) (line : ℕ) → markedOf full s ≡ refused 16 line
+    → (b : FirstBad full (traceOf full s .head) (readIn full s) 16 line) × T (is (N ∷ []) (b .event)) × (onSome (traceOf full s .head) (λ t v. madeUnwritten t v (reverse (b .before))) (b .event) ≡ true)
+unwritten-line s line q = (b, n, sym (unlock-exact h es (accepted-legal full h es (omega arith) (b .clean)) (b .event) n) ∙ broken)
+  where
+    u : (b : FirstBad full (traceOf full s .head) (readIn full s) 16 line) × T (is (N ∷ []) (b .event))
+    u = unlock-line s 16 line (inr refl) q
+
+    b : FirstBad full (traceOf full s .head) (readIn full s) 16 line
+    b = u .0
+
+    n : T (is (N ∷ []) (b .event))
+    n = u .1
+
+    h : Counts
+    h = traceOf full s .head
+
+    es : List Event
+    es = reverse (b .before)
+
+    broken : breaks 16 h (wordsOf es) (b .event) ≡ true
+    broken = unfold judge verdict in broken-is (rowIn rows (letter (b .event .kind))) h (wordsOf es) (b .event) 15 (row-refused full h (wordsOf es) (b .event) 16 (λ p. omega (arith, p)) (λ p. omega (arith, p)) (b .number-is) .1)
 
 -- A paper that is refused with 23 is so at an event that leaves a read which can never be loaded.
 pub dead-line : (s : List ℕ) (line : ℕ) → markedOf full s ≡ refused 23 line

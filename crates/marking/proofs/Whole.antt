@@ -26,10 +26,10 @@ use Rattle.marking.specs.Marking.{linesIn, markedOf, pastOf, eventsIn, r
 
 -- ---- an accepted trace
 
-abbrev Both : Marked → Marked → Type 0
+abbrev pub Both : Marked → Marked → Type 0
 Both a b = (a ≡ accepted) × (b ≡ accepted)
 
-both : (a b : Marked) → refusedOr a b ≡ accepted → Both a b
+pub both : (a b : Marked) → refusedOr a b ≡ accepted → Both a b
 both accepted b q = (refl, q)
 both (refused n l) b q = absurd (let z : _≡_ {A = ℕ} 0 1 = cc in omega arith)
 

@@ -73,7 +73,7 @@ events-next w e = refl
 -- What holds of a cell after an event: it is the event's own, or it is as it was.
 pub cell-cases : (Q : Cell → Type 0) (w : Words) (t n : ℕ) (k : Kind) (u m : ℕ)
     → (t ≡ u → place k ≡ m → Q (changed (suc (w .events)) k (cellOf w t (place k))))
-    → Q (cellOf w u m)
+    → ((eqb t u && eqb (place k) m) ≡ false → Q (cellOf w u m))
     → Q (cellOf (next w (eventBy t n k)) u m)
 cell-cases Q w t n k u m own off = rw (cell-next w t n k u m) (go (eqb t u && eqb (place k) m) refl)
   where
@@ -82,4 +82,4 @@ cell-cases Q w t n k u m own off = rw (cell-next w t n k u m) (go (eqb t u && eq
         let p = eqb-true t u (is-true (and-left (eqb t u) (eqb (place k) m) (subst T (sym q) tt))) in
         let r = eqb-true (place k) m (is-true (and-right (eqb t u) (eqb (place k) m) (subst T (sym q) tt))) in
         subst (λ a. Q (changed (suc (w .events)) k (cellOf w a m))) p (subst (λ b. Q (changed (suc (w .events)) k (cellOf w t b))) r (own p r))
-    go false q = off
+    go false q = off q

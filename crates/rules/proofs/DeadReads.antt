@@ -5,7 +5,7 @@ use mathlib.Core.Path.{_≡_, refl, sym, _∙_, subst}
 use mathlib.Core.Bool.{Bool, true, false, not, cond, _&&_, _||_, or-false, false≢true}
 use mathlib.Core.List.{List, [], _∷_, _++_}
 use mathlib.Core.Logic.{_⊎_, inl, inr, _↔_}
-use lib.Dec.{T, eqb, eqb→eq}
+use lib.Dec.{T, eqb}
 use lib.IntN.{ℤ}
 use lib.ListN.{length}
 use borrow.Author.Tests.{not-true, lt-ltb, eqb-true, eqb-false}
@@ -17,9 +17,9 @@ use Rattle.rules.specs.declared.Counts.{Counts}
 use Rattle.rules.specs.Events.{L, letter, place, is, of, on}
 use Rattle.rules.specs.Limits.{declared}
 use Rattle.rules.specs.Words.{first, count, by, reads}
-use Rattle.rules.specs.Rules.{Words, wordsOf, none?, loc, deadRead, breaks, rows, rowIn, firstBroken, judge, legal}
-use Rattle.rules.specs.DeadReads.{except, judgeBut, legalBut, Dead}
-use Rattle.rules.proofs.Laws.{cases, Unbroken, unbroken, broken-is, accepts, is-true, and-left, and-right, legal-cons, legal-known, legal-row, legal-before}
+use Rattle.rules.specs.Rules.{Words, wordsOf, none?, loc, deadRead, breaks, rows, rowIn, firstBroken, judge, legalBy, legal}
+use Rattle.rules.specs.DeadReads.{except, judgeBut, Dead}
+use Rattle.rules.proofs.Laws.{cases, Unbroken, unbroken, broken-is, accepts, is-true, and-left, and-right, legal-cons, legal-by-cons, legal-by-known, legal-by-row, legal-by-before, legal-by-less}
 use Rattle.rules.proofs.Next.{next}
 use Rattle.rules.proofs.Simulation.{Paired, Partnered, partnered, paired-next, paired-none, words-next, legal-next}
 use Rattle.rules.proofs.Cells.{eventBy, Cell, cellOf, slotAt, changed, cell-own, cell-cases, events-next}
@@ -104,7 +104,7 @@ barred-next : (h : Counts) (w : Words) (t n : ℕ) (k : Kind) → judgeBut 23 h 
 barred-next h w t n k p u m d =
     cell-cases (λ c. Barred c (suc (w .events))) w t n k u m
     (λ a b. barred-change h w t n k p (rw (a, b) d))
-    (barred-later (cellOf w u m) (w .events) d)
+    (λ q. barred-later (cellOf w u m) (w .events) d)
 
 -- and the event is no load of it
 barred-no-load : (h : Counts) (w : Words) (t n : ℕ) (k : Kind) → judgeBut 23 h w (eventBy t n k) ≡ 0 → (u m : ℕ) → Barred (cellOf w u m) (w .events)
@@ -142,25 +142,9 @@ partnered-but h w t n (Unlock l) p = partnered h w (eventBy t n (Unlock l)) p
 partnered-but h w t n (PrescientStore v x) p = record { loads = λ o. absurd o; writes = λ o. absurd o }
 partnered-but h w t n (PrescientAssign v x) p = partnered h w (eventBy t n (PrescientAssign v x)) p
 
-but-row : (n : ℕ) (h : Counts) (e : Event) (es : List Event) → T (legalBut n h (e ∷ es)) → judgeBut n h (wordsOf es) e ≡ 0
-unfolding legalBut
-but-row n h e es l = eqb→eq (judgeBut n h (wordsOf es) e) 0 (and-left (eqb (judgeBut n h (wordsOf es) e) 0) (legalBut n h es) (and-right (declared h e) (eqb (judgeBut n h (wordsOf es) e) 0 && legalBut n h es) l))
-
-but-known : (n : ℕ) (h : Counts) (e : Event) (es : List Event) → T (legalBut n h (e ∷ es)) → declared h e ≡ true
-unfolding legalBut
-but-known n h e es l = is-true (and-left (declared h e) (eqb (judgeBut n h (wordsOf es) e) 0 && legalBut n h es) l)
-
-but-cons : (n : ℕ) (h : Counts) (e : Event) (es : List Event) → declared h e ≡ true → judgeBut n h (wordsOf es) e ≡ 0 → T (legalBut n h es) → T (legalBut n h (e ∷ es))
-unfolding legalBut
-but-cons n h e es k p l = rw (k, p) l
-
-but-before : (n : ℕ) (h : Counts) (e : Event) (es : List Event) → T (legalBut n h (e ∷ es)) → T (legalBut n h es)
-unfolding legalBut
-but-before n h e es l = and-right (eqb (judgeBut n h (wordsOf es) e) 0) (legalBut n h es) (and-right (declared h e) (eqb (judgeBut n h (wordsOf es) e) 0 && legalBut n h es) l)
-
-paired-but : (h : Counts) (es : List Event) → T (legalBut 23 h es) → Paired es
+paired-but : (h : Counts) (es : List Event) → T (legalBy (judgeBut 23) h es) → Paired es
 paired-but h [] l = paired-none
-paired-but h (e ∷ es) l = paired-next e es (partnered-but h (wordsOf es) (e .thread) (e .line) (e .kind) (but-row 23 h e es l)) (paired-but h es (but-before 23 h e es l))
+paired-but h (e ∷ es) l = paired-next e es (partnered-but h (wordsOf es) (e .thread) (e .line) (e .kind) (legal-by-row (judgeBut 23) h e es l)) (paired-but h es (legal-by-before (judgeBut 23) h e es l))
 
 -- none of these rules is broken, so none of them without n is
 unbroken-except : (n : ℕ) (ns : List ℕ) (h : Counts) (w : Words) (e : Event) → Unbroken ns h w e → Unbroken (except n ns) h w e
@@ -176,10 +160,8 @@ judge-but : (n : ℕ) (h : Counts) (w : Words) (e : Event) → judge h w e ≡ 0
 unfolding judge judgeBut
 judge-but n h w e p = accepts (except n (rowIn rows (letter (e .kind)))) h w e (unbroken-except n (rowIn rows (letter (e .kind))) h w e (unbroken (rowIn rows (letter (e .kind))) h w e p))
 
-legal-but : (n : ℕ) (h : Counts) (es : List Event) → T (legal h es) → T (legalBut n h es)
-unfolding legalBut
-legal-but n h [] l = tt
-legal-but n h (e ∷ es) l = but-cons n h e es (legal-known h e es l) (judge-but n h (wordsOf es) e (legal-row h e es l)) (legal-but n h es (legal-before h e es l))
+legal-but : (n : ℕ) (h : Counts) (es : List Event) → T (legal h es) → T (legalBy (judgeBut n) h es)
+legal-but n h es l = legal-by-less judge (judgeBut n) h (judge-but n h) es l
 
 -- none of these rules is broken but for n: the first broken one is n, or there is none
 only : (n : ℕ) (ns : List ℕ) (h : Counts) (w : Words) (e : Event) → Unbroken (except n ns) h w e → (firstBroken ns h w e ≡ 0) ⊎ (firstBroken ns h w e ≡ n)
@@ -202,13 +184,13 @@ judge-only n h w e p = only n (rowIn rows (letter (e .kind))) h w e (unbroken (e
 -- ---- events that go on
 
 -- what goes on from a read that is dead does not load it
-barred-ever : (h : Counts) (es : List Event) (t v : ℕ) → Barred (cellOf (wordsOf es) t v) (wordsOf es .events) → (more : List Event) → T (legalBut 23 h (more ++ es))
+barred-ever : (h : Counts) (es : List Event) (t v : ℕ) → Barred (cellOf (wordsOf es) t v) (wordsOf es .events) → (more : List Event) → T (legalBy (judgeBut 23) h (more ++ es))
     → Barred (cellOf (wordsOf (more ++ es)) t v) (wordsOf (more ++ es) .events) × (count (by (L ∷ []) t v) more ≡ 0)
 barred-ever h es t v d [] l = (d, unfold count in refl)
 barred-ever h es t v d (e ∷ more) l =
-    let r = barred-ever h es t v d more (but-before 23 h e (more ++ es) l) in
-    let p = but-row 23 h e (more ++ es) l in (
-      subst (λ w. Barred (cellOf w t v) (w .events)) (sym (words-next e (more ++ es) (paired-but h (more ++ es) (but-before 23 h e (more ++ es) l))))
+    let r = barred-ever h es t v d more (legal-by-before (judgeBut 23) h e (more ++ es) l) in
+    let p = legal-by-row (judgeBut 23) h e (more ++ es) l in (
+      subst (λ w. Barred (cellOf w t v) (w .events)) (sym (words-next e (more ++ es) (paired-but h (more ++ es) (legal-by-before (judgeBut 23) h e (more ++ es) l))))
           (barred-events (wordsOf (more ++ es)) e (barred-next h (wordsOf (more ++ es)) (e .thread) (e .line) (e .kind) p t v (r .0))),
       count-skip (by (L ∷ []) t v) e more (barred-no-load h (wordsOf (more ++ es)) (e .thread) (e .line) (e .kind) p t v (r .0)) (r .1),
     )
@@ -316,7 +298,7 @@ refused-last h w e p = accepts (except 23 (rowIn rows (letter (e .kind)))) h w e
 -- Refuse the event that leaves T an outstanding read of V which can never be loaded.
 pub refused-dead : (h : Counts) (es : List Event) (e : Event) → T (legal h es) → declared h e ≡ true → judge h (wordsOf es) e ≡ 23 → Dead h (e .thread) (loc e) (e ∷ es)
 refused-dead h es e l k p = record {
-  goes = but-cons 23 h e es k (refused-last h (wordsOf es) e p) (legal-but 23 h es l);
+  goes = legal-by-cons (judgeBut 23) h e es k (refused-last h (wordsOf es) e p) (legal-but 23 h es l);
   before = 0;
   waits = length-some (reads (e .thread) (loc e) (e ∷ es)) (rw (← (reads-cell (e ∷ es) (e .thread) (loc e))) (barred .waits));
   never = λ more g. omega (arith, barred-ever h (e ∷ es) (e .thread) (loc e) barred more g .1);
@@ -334,11 +316,11 @@ refused-dead h es e l k p = record {
 
 -- An event that leaves a read dead, of whichever thread and variable, is refused with 23.
 pub dead-refused : (h : Counts) (es : List Event) (e : Event) → T (legal h es) → (t v : ℕ) → Dead h t v (e ∷ es) → judge h (wordsOf es) e ≡ 23
-dead-refused h es e l t v d = go (judge-only 23 h (wordsOf es) e (but-row 23 h e es (d .goes)))
+dead-refused h es e l t v d = go (judge-only 23 h (wordsOf es) e (legal-by-row (judgeBut 23) h e es (d .goes)))
   where
     go : (judge h (wordsOf es) e ≡ 0) ⊎ (judge h (wordsOf es) e ≡ 23) → judge h (wordsOf es) e ≡ 23
     go (inl q) =
-        let m = all-loadable h (e ∷ es) (legal-cons h e es (but-known 23 h e es (d .goes)) q l) t v in
+        let m = all-loadable h (e ∷ es) (legal-cons h e es (legal-by-known (judgeBut 23) h e es (d .goes)) q l) t v in
         absurd (omega (arith, d .waits, d .never (m .more) (legal-but 23 h (m .more ++ (e ∷ es)) (m .goes)), m .loads))
     go (inr q) = q
 

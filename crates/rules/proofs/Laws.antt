@@ -12,7 +12,7 @@ use Rattle.rules.specs.declared.Event.{Event}
 use Rattle.rules.specs.Events.{K, L, N, P, R, S, W, letter, among, is}
 use Rattle.rules.specs.declared.Counts.{Counts}
 use Rattle.rules.specs.Limits.{Limits, most, declared}
-use Rattle.rules.specs.Rules.{Words, wordsOf, none?, loc, held, some, noPartner, lockTaken, notHeld, eightAlready, breaks, rows, rowIn, firstBroken, judge, answer, verdict, Accepted, legal}
+use Rattle.rules.specs.Rules.{Words, wordsOf, none?, loc, held, some, noPartner, lockTaken, notHeld, eightAlready, breaks, rows, rowIn, firstBroken, judge, answer, verdict, Accepted, legalBy, legal}
 
 -- ---- Booleans
 
@@ -248,25 +248,46 @@ few m c (e ∷ es) x a = leb-false (m .events) (length es) (passed m c (wordsOf 
 
 -- ---- a legal list
 
-pub legal-cons : (c : Counts) (e : Event) (es : List Event) → declared c e ≡ true → judge c (wordsOf es) e ≡ 0 → T (legal c es) → T (legal c (e ∷ es))
-unfolding legal
-legal-cons c e es d p l = rw (d, p) l
+-- by whichever judgement j
+module _ (j : Counts → Words → Event → ℕ) (c : Counts) (e : Event) (es : List Event) where
+  pub legal-by-cons : declared c e ≡ true → j c (wordsOf es) e ≡ 0 → T (legalBy j c es) → T (legalBy j c (e ∷ es))
+  unfolding legalBy
+  legal-by-cons d p l = rw (d, p) l
 
-pub legal-known : (c : Counts) (e : Event) (es : List Event) → T (legal c (e ∷ es)) → declared c e ≡ true
-unfolding legal
-legal-known c e es l = is-true (and-left (declared c e) (eqb (judge c (wordsOf es) e) 0 && legal c es) l)
+  pub legal-by-known : T (legalBy j c (e ∷ es)) → declared c e ≡ true
+  unfolding legalBy
+  legal-by-known l = is-true (and-left (declared c e) (eqb (j c (wordsOf es) e) 0 && legalBy j c es) l)
 
-pub legal-row : (c : Counts) (e : Event) (es : List Event) → T (legal c (e ∷ es)) → judge c (wordsOf es) e ≡ 0
-unfolding legal
-legal-row c e es l = eqb→eq (judge c (wordsOf es) e) 0 (and-left (eqb (judge c (wordsOf es) e) 0) (legal c es) (and-right (declared c e) (eqb (judge c (wordsOf es) e) 0 && legal c es) l))
+  pub legal-by-row : T (legalBy j c (e ∷ es)) → j c (wordsOf es) e ≡ 0
+  unfolding legalBy
+  legal-by-row l = eqb→eq (j c (wordsOf es) e) 0 (and-left (eqb (j c (wordsOf es) e) 0) (legalBy j c es) (and-right (declared c e) (eqb (j c (wordsOf es) e) 0 && legalBy j c es) l))
 
-pub legal-before : (c : Counts) (e : Event) (es : List Event) → T (legal c (e ∷ es)) → T (legal c es)
-unfolding legal
-legal-before c e es l = and-right (eqb (judge c (wordsOf es) e) 0) (legal c es) (and-right (declared c e) (eqb (judge c (wordsOf es) e) 0 && legal c es) l)
+  pub legal-by-before : T (legalBy j c (e ∷ es)) → T (legalBy j c es)
+  unfolding legalBy
+  legal-by-before l = and-right (eqb (j c (wordsOf es) e) 0) (legalBy j c es) (and-right (declared c e) (eqb (j c (wordsOf es) e) 0 && legalBy j c es) l)
+
+-- what is legal by the judgement j is so by one that finds nothing where j finds nothing
+pub legal-by-less : (j i : Counts → Words → Event → ℕ) (c : Counts) → ((w : Words) (e : Event) → j c w e ≡ 0 → i c w e ≡ 0) → (es : List Event) → T (legalBy j c es) → T (legalBy i c es)
+legal-by-less j i c f [] l = unfold legalBy in tt
+legal-by-less j i c f (e ∷ es) l = legal-by-cons i c e es (legal-by-known j c e es l) (f (wordsOf es) e (legal-by-row j c e es l)) (legal-by-less j i c f es (legal-by-before j c e es l))
+
+-- by the rows
+module _ (c : Counts) (e : Event) (es : List Event) where
+  pub legal-cons : declared c e ≡ true → judge c (wordsOf es) e ≡ 0 → T (legal c es) → T (legal c (e ∷ es))
+  legal-cons = legal-by-cons judge c e es
+
+  pub legal-known : T (legal c (e ∷ es)) → declared c e ≡ true
+  legal-known = legal-by-known judge c e es
+
+  pub legal-row : T (legal c (e ∷ es)) → judge c (wordsOf es) e ≡ 0
+  legal-row = legal-by-row judge c e es
+
+  pub legal-before : T (legal c (e ∷ es)) → T (legal c es)
+  legal-before = legal-by-before judge c e es
 
 -- an accepted list is legal
 pub accepted-legal : (m : Limits) (c : Counts) (es : List Event) → 0 < m .excess → T (Accepted m c es) → T (legal c es)
-unfolding legal verdict
+unfolding legalBy verdict
 accepted-legal m c [] x a = tt
 accepted-legal m c (e ∷ es) x a =
     let p = passed m c (wordsOf es) e x (accepted-last m c e es a) in

@@ -16,3 +16,4 @@ pub mod Rows
 pub mod Live
 pub mod Loads
 pub mod DeadReads
+pub mod PrescientStores

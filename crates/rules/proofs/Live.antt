@@ -34,15 +34,15 @@ pub record Live (c : Cell) (n : ℕ) : Type 0 where
 
 -- ---- queues
 
-placed-later : (a b : ℕ) (ss : List Slot) → Placed a b ss → Placed a (suc b) ss
+pub placed-later : (a b : ℕ) (ss : List Slot) → Placed a b ss → Placed a (suc b) ss
 placed-later a b [] p = tt
 placed-later a b (s ∷ ss) p = (p .0, omega arith, placed-later a b ss (p .2))
 
-placed-others : (a b : ℕ) (ss : List Slot) → Placed a b ss → Placed a b (others ss)
+pub placed-others : (a b : ℕ) (ss : List Slot) → Placed a b ss → Placed a b (others ss)
 placed-others a b [] p = tt
 placed-others a b (s ∷ ss) p = p .2
 
-placed-append : (a b : ℕ) (x : ℤ) (ss : List Slot) → a ≤ b → Placed a b ss → Placed a (suc b) (ss ++ (slotAt (suc b) x ∷ []))
+pub placed-append : (a b : ℕ) (x : ℤ) (ss : List Slot) → a ≤ b → Placed a b ss → Placed a (suc b) (ss ++ (slotAt (suc b) x ∷ []))
 placed-append a b x [] h p = (omega arith, omega arith, tt)
 placed-append a b x (s ∷ ss) h p = (p .0, omega arith, placed-append a b x ss h (p .2))
 
@@ -136,7 +136,7 @@ unfolding next
 live-next h w t n k p l u m =
     cell-cases (λ c. Live c (suc (w .events))) w t n k u m
     (λ a b. live-change h w t k (row-of h w t n k p) (l t (place k)))
-    (live-later (cellOf w u m) (w .events) (l u m))
+    (λ q. live-later (cellOf w u m) (w .events) (l u m))
 
 live-start : AllLive (wordsOf [])
 unfolding wordsOf cellOf reads stores fresh pending lastWrite inOrder latest letterIn lastAt count

@@ -135,7 +135,7 @@ known-next : (h : Counts) (w : Words) (t n : ℕ) (k : Kind) → declared h (eve
 known-next h w t n k d g u m =
     cell-cases (λ c. none? (c .reads) ≡ false → (u < h .threads) × (m < h .variables)) w t n k u m
     (λ a b q. rw (← a, ← b) (known-change h w t n k d g q))
-    (g u m)
+    (λ q. g u m)
 
 known-start : (h : Counts) → Known h (wordsOf [])
 unfolding wordsOf cellOf reads inOrder count

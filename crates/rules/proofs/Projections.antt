@@ -354,9 +354,13 @@ module _ (c : Counts) (e : Event) (es fs : List Event) (o : own (e .thread) es �
   unfolding notStored wordsOf
   same-15 = rw (some-same (c .variables) _ _ (fresh-same (e .thread) es fs o), fresh-same (e .thread) es fs o (loc e))
 
+  unwritten-same : (v : ℕ) → unwritten (wordsOf es) (e .thread) v ≡ unwritten (wordsOf fs) (e .thread) v
+  unfolding unwritten wordsOf
+  unwritten-same v = rw (pending-same (e .thread) es fs o v, stores-same (e .thread) es fs o v .2)
+
   same-16 : notWritten c (wordsOf es) e ≡ notWritten c (wordsOf fs) e
-  unfolding notWritten unwritten wordsOf
-  same-16 = rw (some-same (c .variables) _ _ (λ v. ap not (stores-same (e .thread) es fs o v .0)), stores-same (e .thread) es fs o (loc e) .0, order-same (e .thread) es fs o (loc e))
+  unfolding notWritten wordsOf
+  same-16 = rw (some-same (c .variables) _ _ unwritten-same, stores-same (e .thread) es fs o (loc e) .0, order-same (e .thread) es fs o (loc e))
 
   same-17 : notUsable (wordsOf es) e ≡ notUsable (wordsOf fs) e
   unfolding notUsable wordsOf

@@ -1,13 +1,16 @@
 -- The tables of short traces, and the 1-2-3 run, are what the definitions give: by computation.
 use mathlib.Core.Path.{_≡_, refl}
 use mathlib.Core.List.{[], _∷_, map, reverse}
+use mathlib.Core.Option.{some as found}
 use lib.IntN.{pos}
+use Rattle.rules.specs.declared.Event.{Event}
 use Rattle.rules.specs.Events.{is, of, on, onLock, locks, unlocks, eqZ}
-use Rattle.rules.specs.Limits.{full, declared}
+use Rattle.rules.specs.Limits.{full, lineAfter, declared}
 use Rattle.rules.specs.Words.{latest, valueIn, letterIn, lastAt, count, inOrder, by, locksBy, acquires, releases, reads, stores, copy, fresh, pending, announced, lastLock, lastWrite, usable, depth, main}
-use Rattle.rules.specs.Rules.{wordsOf, some, noPartner, lockTaken, notHeld, pendingBars, notFresh, notStored, readBeforeWrite, unwritten, notWritten, notUsable, differs, eightAlready, deadRead, breaks, rows, rowIn, firstBroken, judge, answer, verdict, accepted, markFrom, mark}
+use Rattle.rules.specs.Rules.{wordsOf, some, noPartner, lockTaken, notHeld, pendingBars, notFresh, notStored, readBeforeWrite, unwritten, notWritten, notUsable, differs, eightAlready, deadRead, breaks, rows, rowIn, firstBroken, judge, answer, verdict, accepted, refused, markFrom, mark}
+use Rattle.rules.specs.PrescientStores.{judgeStrict, verdictStrict, markStrict}
 use Rattle.rules.specs.Memories.{below, each, memory}
-use Rattle.rules.specs.Traces.{ev, U, A, L, S, R, W, P, B, K, N, trace, with-main, traces, slips, deadReads, computed, oneTwoThreeCounts, oneTwoThree}
+use Rattle.rules.specs.Traces.{ev, U, A, L, S, R, W, P, B, K, N, trace, with-main, traces, slips, deadReads, prescientStores, computed, two, oneTwoThreeCounts, oneTwoThree}
 
 pub short-traces : map computed traces ≡ traces
 unfolding ev U A L S R W P B K N trace with-main traces computed is of on onLock locks unlocks eqZ declared latest valueIn letterIn lastAt count inOrder by locksBy acquires releases reads stores copy fresh pending announced lastLock lastWrite usable depth main wordsOf some noPartner lockTaken notHeld pendingBars notFresh notStored readBeforeWrite unwritten notWritten notUsable differs eightAlready deadRead breaks rows rowIn firstBroken judge answer verdict markFrom mark
@@ -20,6 +23,15 @@ slips-computed = refl
 pub dead-reads-computed : map computed deadReads ≡ deadReads
 unfolding ev U A L S R W P B K N trace with-main deadReads computed is of on onLock locks unlocks eqZ declared latest valueIn letterIn lastAt count inOrder by locksBy acquires releases reads stores copy fresh pending announced lastLock lastWrite usable depth main wordsOf some noPartner lockTaken notHeld pendingBars notFresh notStored readBeforeWrite unwritten notWritten notUsable differs eightAlready deadRead breaks rows rowIn firstBroken judge answer verdict markFrom mark
 dead-reads-computed = refl
+
+pub prescient-stores-computed : map computed prescientStores ≡ prescientStores
+unfolding ev U A L S R W P B K N trace with-main prescientStores computed is of on onLock locks unlocks eqZ declared latest valueIn letterIn lastAt count inOrder by locksBy acquires releases reads stores copy fresh pending announced lastLock lastWrite usable depth main wordsOf some noPartner lockTaken notHeld pendingBars notFresh notStored readBeforeWrite unwritten notWritten notUsable differs eightAlready deadRead breaks rows rowIn firstBroken judge answer verdict markFrom mark
+prescient-stores-computed = refl
+
+-- with every store counted, the row of `K P N` is as document 01 has it
+pub strict-computed : markStrict full two [] (map (λ (e : Event). found e) (K 0 0 ∷ P 0 0 5 ∷ N 0 0 ∷ [])) ≡ refused 16 (lineAfter two 2)
+unfolding ev P K N is of on onLock locks unlocks eqZ declared latest valueIn letterIn lastAt count inOrder by locksBy acquires releases reads stores copy fresh pending announced lastLock lastWrite usable depth main wordsOf some noPartner lockTaken notHeld pendingBars notFresh notStored readBeforeWrite unwritten notWritten notUsable differs eightAlready deadRead breaks rows rowIn firstBroken judge judgeStrict verdictStrict markStrict
+strict-computed = refl
 
 pub one-two-three : mark full oneTwoThreeCounts oneTwoThree ≡ accepted
 unfolding ev U A L S R W K N oneTwoThree is of on onLock locks unlocks eqZ declared latest valueIn letterIn lastAt count inOrder by locksBy acquires releases reads stores copy fresh pending announced lastLock lastWrite usable depth main wordsOf some noPartner lockTaken notHeld pendingBars notFresh notStored readBeforeWrite unwritten notWritten notUsable differs eightAlready deadRead breaks rows rowIn firstBroken judge answer verdict markFrom mark

@@ -2,16 +2,15 @@
 -- proofs/DeadReads.antt proves that 23 is said of these events, and of no others, where they break no other rule.
 use Prim.Native.Nat.{ℕ, suc, _≤_, _<_}
 use mathlib.Core.Path.{_≡_}
-use mathlib.Core.Bool.{Bool, true, cond, _&&_}
+use mathlib.Core.Bool.{cond}
 use mathlib.Core.List.{List, [], _∷_, _++_}
 use lib.Dec.{T, eqb}
 use lib.ListN.{length}
 use Rattle.rules.specs.declared.Event.{Event}
 use Rattle.rules.specs.declared.Counts.{Counts}
 use Rattle.rules.specs.Events.{L, letter}
-use Rattle.rules.specs.Limits.{declared}
 use Rattle.rules.specs.Words.{count, by, reads, pending}
-use Rattle.rules.specs.Rules.{Words, wordsOf, rows, rowIn, firstBroken, legal}
+use Rattle.rules.specs.Rules.{Words, rows, rowIn, firstBroken, legalBy, legal}
 
 -- these numbers without n
 unfoldable pub except : ℕ → List ℕ → List ℕ
@@ -22,18 +21,13 @@ except n (k ∷ ks) = cond (eqb k n) (except n ks) (k ∷ except n ks)
 unfoldable pub judgeBut : ℕ → Counts → Words → Event → ℕ
 judgeBut n h w e = firstBroken (except n (rowIn rows (letter (e .kind)))) h w e
 
--- a legal list, the rule n left aside
-unfoldable pub legalBut : ℕ → Counts → List Event → Bool
-legalBut n h [] = true
-legalBut n h (e ∷ es) = declared h e && (eqb (judgeBut n h (wordsOf es) e) 0 && legalBut n h es)
-
 -- T has an outstanding read of V which can never be loaded. The events es go by the other rules. Reads are loaded in their order; whatever
 -- events go on from es by the other rules, no more loads come than there are outstanding reads before this one.
 pub record Dead (h : Counts) (t v : ℕ) (es : List Event) : Type 0 where
-  pub goes : T (legalBut 23 h es)
+  pub goes : T (legalBy (judgeBut 23) h es)
   pub before : ℕ
   pub waits : before < length (reads t v es)
-  pub never : (more : List Event) → T (legalBut 23 h (more ++ es)) → count (by (L ∷ []) t v) more ≤ before
+  pub never : (more : List Event) → T (legalBy (judgeBut 23) h (more ++ es)) → count (by (L ∷ []) t v) more ≤ before
 
 -- how many events load the outstanding reads of T on V: a load for each, and B before them where V is owed
 unfoldable pub loadsOf : ℕ → ℕ → List Event → ℕ

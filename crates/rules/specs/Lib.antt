@@ -7,3 +7,4 @@ pub mod Projections
 pub mod Reading
 pub mod Traces
 pub mod DeadReads
+pub mod PrescientStores

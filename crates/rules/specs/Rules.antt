@@ -1,4 +1,4 @@
--- Document 01, the refusals 5 and 9 to 19, and document 02, 23; the table of rows, and the verdict over a list of events. The rules
+-- Document 01, the refusals 5 and 9 to 19, and document 02, 16 at N and 23; the table of rows, and the verdict over a list of events. The rules
 -- speak of the words; `wordsOf` takes the words from a list of earlier events. A caller's state is read by the same rules, with its own
 -- contents for the words.
 use Prim.Native.Nat.{ℕ, zero, suc, _<_}
@@ -107,11 +107,13 @@ notStored h w e =
 unfoldable pub readBeforeWrite : Words → ℕ → ℕ → Bool
 readBeforeWrite w t v = ltb (first (w .reads t v) .position) (w .lastWrite t v)
 
--- N's test: T has an outstanding store on V. The syllabus counts an early store here like the others.
+-- N's test: T has an outstanding store on V. "A store whose assign is owed counts no longer": with V owed the latest is left aside
+-- (`unwritten-exact` in proofs/PrescientStores.antt).
 unfoldable pub unwritten : Words → ℕ → ℕ → Bool
-unwritten w t v = not (none? (w .stores t v))
+unwritten w t v = ltb (cond (w .pending t v) 1 0) (length (w .stores t v))
 
--- 16. Store not written: L with an outstanding store of T on V, or whose read came before a write of T on V; N while T has an outstanding store.
+-- 16. Store not written: L with an outstanding store of T on V, or whose read came before a write of T on V; N while T has an outstanding store
+-- whose assign is not owed.
 unfoldable pub notWritten : Counts → Words → Event → Bool
 notWritten h w e =
     is (L ∷ []) e && (not (none? (w .stores (e .thread) (loc e))) || readBeforeWrite w (e .thread) (loc e))
@@ -197,9 +199,13 @@ firstBroken (n ∷ ns) h w e = cond (breaks n h w e) n (firstBroken ns h w e)
 unfoldable pub judge : Counts → Words → Event → ℕ
 judge h w e = firstBroken (rowIn rows (letter (e .kind))) h w e
 
+-- 9, 5, then n
+abbrev pub answerWith : Limits → Counts → Words → Event → ℕ → ℕ
+answerWith m h w e n = cond (leb (m .events) (w .events)) (m .excess) (cond (declared h e) n 5)
+
 -- 9, 5, then the row; 0: accepted. (4 comes before these, where a line is no event.)
 unfoldable pub answer : Limits → Counts → Words → Event → ℕ
-answer m h w e = cond (leb (m .events) (w .events)) (m .excess) (cond (declared h e) (judge h w e) 5)
+answer m h w e = answerWith m h w e (judge h w e)
 
 -- ---- over a list of events
 
@@ -212,10 +218,14 @@ unfoldable pub Accepted : Limits → Counts → List Event → Bool
 Accepted m h [] = true
 Accepted m h (e ∷ es) = eqb (verdict m h es e) 0 && Accepted m h es
 
+-- each event is declared, and the judgement j finds nothing broken after those before it
+unfoldable pub legalBy : (Counts → Words → Event → ℕ) → Counts → List Event → Bool
+legalBy j h [] = true
+legalBy j h (e ∷ es) = declared h e && (eqb (j h (wordsOf es) e) 0 && legalBy j h es)
+
 -- Each event is declared and breaks no rule of its row after those before it: acceptance with the limit of events set aside.
-unfoldable pub legal : Counts → List Event → Bool
-legal h [] = true
-legal h (e ∷ es) = declared h e && (eqb (judge h (wordsOf es) e) 0 && legal h es)
+abbrev pub legal : Counts → List Event → Bool
+legal h es = legalBy judge h es
 
 -- a whole trace, its events in their own order: accepted, or the refusal of the first bad event: number and line
 pub data Marked : Type 0 where
@@ -264,11 +274,16 @@ markFrom m h es (e ∷ rest) = let later = markFrom m h (e ∷ es) rest in unles
 unfoldable pub mark : Limits → Counts → List Event → Marked
 mark m h events = markFrom m h [] events
 
--- Line by line 4, 9, 5 and the row. Each line is an event or none, and the events es are earlier, the latest first.
+-- Line by line 4, then the refusal f of an event after those before it. Each line is an event or none, and the events es are earlier, the latest
+-- first.
+abbrev pub markBy : (List Event → Event → ℕ) → Counts → List Event → List (Option Event) → Marked
+markBy f h es [] = accepted
+markBy f h es (none ∷ rest) = refused 4 (lineAfter h (length es))
+markBy f h es (some′ e ∷ rest) = unless (f es e) (lineAfter h (length es)) (markBy f h (e ∷ es) rest)
+
+-- line by line 4, 9, 5 and the row
 unfoldable pub markRead : Limits → Counts → List Event → List (Option Event) → Marked
-markRead m h es [] = accepted
-markRead m h es (none ∷ rest) = refused 4 (lineAfter h (length es))
-markRead m h es (some′ e ∷ rest) = unless (verdict m h es e) (lineAfter h (length es)) (markRead m h (e ∷ es) rest)
+markRead m h es rs = markBy (verdict m h) h es rs
 
 -- on where the number is 0
 abbrev pub passing : {X : Type 0} → ℕ → X → X → X
@@ -276,10 +291,13 @@ passing zero stop on = on
 passing (suc n) stop on = stop
 
 -- the events before the first refusal, the latest first
+abbrev pub pastBy : (List Event → Event → ℕ) → List Event → List (Option Event) → List Event
+pastBy f es [] = es
+pastBy f es (none ∷ rest) = es
+pastBy f es (some′ e ∷ rest) = passing (f es e) es (pastBy f (e ∷ es) rest)
+
 unfoldable pub pastRead : Limits → Counts → List Event → List (Option Event) → List Event
-pastRead m h es [] = es
-pastRead m h es (none ∷ rest) = es
-pastRead m h es (some′ e ∷ rest) = passing (verdict m h es e) es (pastRead m h (e ∷ es) rest)
+pastRead m h es rs = pastBy (verdict m h) es rs
 
 -- the first bad event of a trace: it comes behind accepted events and is refused with this number and line
 pub record FirstBad (m : Limits) (c : Counts) (events : List Event) (number line : ℕ) : Type 0 where

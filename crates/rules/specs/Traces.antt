@@ -1,5 +1,5 @@
--- Document 01, "Short traces": the rows marked as proved, one table, two of them with the verdict of document 02 (a); more traces of both
--- documents; and the 1-2-3 run. `proofs/ShortTraces.antt` proves each table by one theorem, and that the run is accepted.
+-- Document 01, "Short traces": the rows marked as proved, one table, two of them with the verdict of document 02 (a) and one with that
+-- of (d); more traces of both documents; and the 1-2-3 run. `proofs/ShortTraces.antt` proves each table by one theorem, and that the run is accepted.
 use Prim.Native.Nat.{ℕ, zero, suc}
 use mathlib.Core.List.{List, [], _∷_, reverse}
 use mathlib.Core.Option.{Option, none, some}
@@ -81,7 +81,7 @@ traces =
     ∷ with-main (P 0 0 5 ∷ W 0 0 5 ∷ B 0 0 5 ∷ []) accepted (pos 5)
     ∷ trace (P 0 0 5 ∷ K 0 0 ∷ []) (bad 13 2)
     ∷ trace (K 0 0 ∷ K 0 0 ∷ N 0 0 ∷ K 1 0 ∷ []) (bad 11 4)
-    ∷ trace (K 0 0 ∷ P 0 0 5 ∷ N 0 0 ∷ []) (bad 16 3)
+    ∷ trace (K 0 0 ∷ P 0 0 5 ∷ N 0 0 ∷ []) accepted
     ∷ []
 
 -- Document 01, "Where candidates and programmers slip": a lock spoils all of the thread's copies, and a copy is not fresh after B. (That
@@ -103,6 +103,19 @@ deadReads =
     ∷ trace (P 0 0 5 ∷ W 0 0 5 ∷ R 0 0 5 ∷ A 0 0 6 ∷ B 0 0 5 ∷ L 0 0 5 ∷ []) accepted
     ∷ trace (P 0 0 5 ∷ W 0 0 5 ∷ A 0 0 6 ∷ R 0 0 5 ∷ B 0 0 5 ∷ L 0 0 5 ∷ []) accepted
     ∷ trace (K 0 0 ∷ A 0 0 5 ∷ N 0 0 ∷ []) (bad 15 3)
+    ∷ []
+
+-- Document 02 (d): at N "a store whose assign is owed counts no longer". A store before it counts, and so does its own after the B; a fresh assign
+-- is 15. (An N with the early store alone is a row of the table above.)
+unfoldable pub prescientStores : List Trace
+prescientStores =
+    trace (K 0 0 ∷ A 0 0 5 ∷ S 0 0 5 ∷ P 0 0 6 ∷ N 0 0 ∷ []) (bad 16 5)
+    ∷ trace (K 0 0 ∷ A 0 0 5 ∷ S 0 0 5 ∷ P 0 0 6 ∷ W 0 0 5 ∷ N 0 0 ∷ []) accepted
+    ∷ trace (K 0 0 ∷ P 0 0 5 ∷ B 0 0 5 ∷ N 0 0 ∷ []) (bad 16 4)
+    ∷ trace (K 0 0 ∷ P 0 0 5 ∷ B 0 0 5 ∷ P 0 0 6 ∷ N 0 0 ∷ []) (bad 16 5)
+    ∷ trace (K 0 0 ∷ P 0 0 5 ∷ A 0 0 6 ∷ N 0 0 ∷ []) (bad 15 4)
+    ∷ trace (K 0 0 ∷ P 0 0 5 ∷ A 0 1 5 ∷ S 0 1 5 ∷ N 0 0 ∷ []) (bad 16 5)
+    ∷ with-main (K 0 0 ∷ P 0 0 5 ∷ N 0 0 ∷ W 0 0 5 ∷ B 0 0 5 ∷ []) accepted (pos 5)
     ∷ []
 
 -- the same row, as the definitions give it

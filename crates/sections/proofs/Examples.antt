@@ -1,5 +1,5 @@
 -- The theorem is not empty: document 01's listing, its example of sections that their first lock would order wrongly (here with an
--- early store that is written before its assign), and a trace for each denial.
+-- early store that is written before its assign), an early store across an unlock, and a trace for each denial.
 use Prim.Native.Nat.{ℕ}
 use native.Mathlib.Decide.{ℕ-discrete}
 use native.Mathlib.Omega.{arith}
@@ -54,6 +54,30 @@ crossed-trace = record {
 
 pub crossed-demand : Demand3 two (λ v. 1) crossed fit (section 1 4 8 ∷ section 0 3 14 ∷ [])
 crossed-demand = rw (← crossed-fit, ← crossed-order) (demand-3 full two (λ v. 1) crossed crossed-trace)
+
+-- Document 02 (d): thread 0 stores early and unlocks lock 1 with the store unwritten and its assign owed; thread 1 has a section before the write
+-- and the assign, and another that uses the value.
+abbrev waiting : List Event
+waiting = K 0 0 ∷ K 0 1 ∷ P 0 0 5 ∷ N 0 1 ∷ K 1 1 ∷ N 1 1 ∷ W 0 0 5 ∷ B 0 0 5 ∷ N 0 0 ∷ K 1 0 ∷ R 1 0 5 ∷ L 1 0 5 ∷ U 1 0 5 ∷ N 1 0 ∷ []
+
+waiting-fit : denial two (λ v. 0) waiting ≡ fit
+unfolding ev U A L S R W P B K N firstLine is of on locks unlocks latest letterIn count by acquires releases pending depth wordsOf some usesOrAssigns unlocksBy holdsSome afterUnlock notUnder lateLock unfinished denialFrom denial
+waiting-fit = refl
+
+waiting-order : order two waiting ≡ section 0 3 11 ∷ section 1 7 8 ∷ section 1 12 16 ∷ []
+unfolding ev U A L S R W P B K N firstLine is of on locks unlocks count acquires releases depth wordsOf some holdsSome sections order ℕ-discrete Q.next Q.push Q.current Q.without
+waiting-order = refl
+
+waiting-trace : AcceptedTrace full two waiting
+unfolding ev U A L S R W P B K N firstLine is of on onLock locks unlocks eqZ declared allowed latest valueIn letterIn lastAt count inOrder by locksBy acquires releases reads stores copy fresh pending announced lastLock lastWrite usable depth main wordsOf some noPartner lockTaken notHeld pendingBars notFresh notStored readBeforeWrite unwritten notWritten notUsable differs eightAlready deadRead breaks rows rowIn firstBroken judge answer verdict markFrom mark
+waiting-trace = record {
+  limits = record { threads = omega arith; variables = omega arith; locks = omega arith; events = omega arith; excess = omega arith };
+  head = refl;
+  marked = refl;
+}
+
+pub waiting-demand : Demand3 two (λ v. 0) waiting fit (section 0 3 11 ∷ section 1 7 8 ∷ section 1 12 16 ∷ [])
+waiting-demand = rw (← waiting-fit, ← waiting-order) (demand-3 full two (λ v. 0) waiting waiting-trace)
 
 -- a use not under its guard: 20 at its line
 pub unguarded : denial two (λ v. 1) (K 0 0 ∷ A 0 0 5 ∷ []) ≡ denied 20 4

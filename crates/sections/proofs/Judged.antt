@@ -1,12 +1,15 @@
 -- An event that the rules accept is one that the theory allows.
 use Prim.Native.Nat.{ℕ, _≤_, _<_}
 use native.Mathlib.Decide.{ℕ-discrete}
+use native.Mathlib.Omega.{arith}
 use mathlib.Core.Path.{_≡_, refl, sym, ap, subst, subst₂}
 use mathlib.Core.Logic.{ite}
 use mathlib.Core.Bool.{true, false, true≢false, false≢true}
 use mathlib.Core.List.{List, [], _∷_, map}
+use lib.Dec.{ltb}
 use lib.IntN.{ℤ}
-use borrow.Author.Tests.{ltb-false, not-false}
+use lib.ListN.{length}
+use borrow.Author.Tests.{ltb-false}
 use Rattle.rules.specs.declared.Kind.{Kind}
 use Rattle.rules.specs.declared.Kind.the-variants.{Use, Assign, Load, Store, Read, Write, Lock, Unlock, PrescientStore, PrescientAssign}
 use Rattle.rules.specs.Events.{eqZ}
@@ -26,6 +29,11 @@ use Rattle.sections.proofs.Cells.{cellOf, slotted, valued}
 none : (ss : List Slot) → none? ss ≡ true → map valued ss ≡ []
 none [] p = refl
 none (s ∷ ss) p = absurd (false≢true p)
+
+-- as N's test counts them, with V not owed
+none-counted : (ss : List Slot) → ltb 0 (length ss) ≡ false → map valued ss ≡ []
+none-counted [] p = refl
+none-counted (s ∷ ss) p = absurd (let h = ltb-false 0 (length (s ∷ ss)) p in omega arith)
 
 module _ (c : Counts) (w : Words) (u ln : ℕ) where
   own-use : (v : ℕ) (x : ℤ) → judge c w (eventBy u ln (Use v x)) ≡ 0 → C.Allowed (C.own E.Use x) (cellOf w u v) (w .main v)
@@ -72,12 +80,12 @@ module _ (c : Counts) (w : Words) (u ln : ℕ) where
   unfolding cellOf
   own-lock l p v h = some-none (c .variables) (λ v. w .pending u v) (row-of c w u ln (Lock l) p .notPending) v h
 
-  -- 15 and 16, at N: nothing is fresh, and all is written
+  -- 15 and 16, at N: nothing is fresh, and with V not owed all is written
   own-unlock : (l : ℕ) → judge c w (eventBy u ln (Unlock l)) ≡ 0 → (v : ℕ) → v < c .variables → C.Allowed C.unlocks (cellOf w u v) (w .main v)
   unfolding cellOf unwritten
   own-unlock l p v h =
       let r = row-of c w u ln (Unlock l) p in
-      (some-none (c .variables) (λ v. w .fresh u v) (r .stored) v h, λ o. none (w .stores u v) (not-false (none? (w .stores u v)) (some-none (c .variables) (λ v. unwritten w u v) (r .written) v h)))
+      (some-none (c .variables) (λ v. w .fresh u v) (r .stored) v h, λ o. none-counted (w .stores u v) (rw o at (some-none (c .variables) (λ v. unwritten w u v) (r .written) v h)))
 
 -- an own act is allowed at the thread and the variable that see it as theirs
 seen : (w : Words) (k : E.Kind) (u v′ t v : ℕ) (x : ℤ) → C.Allowed (C.own k x) (cellOf w u v′) (w .main v′) → C.Allowed (C.act t v (E.mem k u v′ x)) (cellOf w t v) (w .main v)

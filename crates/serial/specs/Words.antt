@@ -122,7 +122,7 @@ module _ {X : Type 0} where
   abbrev pub uses : ℕ → Event X → Bool
   uses v e = guardedAt (touch v e)
 
-  -- what rows U to B ask of an act, over the cell and the variable's main memory
+  -- what the serial order needs of rows U to B for an act, over the cell and the variable's main memory
   abbrev pub Allowed : Act X → Cell X → X → Type 0
   Allowed (own Use x) c m = (c .usable ≡ true) × (x ≡ c .copy)
   Allowed (own Assign x) c m = Unit {0}

@@ -1,4 +1,4 @@
-//! What documents 01 and 02 (a) say of one step from a state that a caller hands in, over the fields of `include/dabzhoni.h`.
+//! What documents 01 and 02 (a) and (d) say of one step from a state that a caller hands in, over the fields of `include/dabzhoni.h`.
 
 use crate::c_api::{Cell, Ring, Slot, State};
 use marker_a::rules::{self, ROWS};
@@ -47,7 +47,8 @@ fn breaks(number: u32, s: &State, e: &Event) -> bool {
             (b'K', 13) => variables.any(|v| own(v).pending),
             (b'N', 12) => a.holder != t + 1,
             (b'N', 15) => variables.any(|v| own(v).fresh),
-            (b'N', 16) => variables.any(|v| own(v).stores.len > 0),
+            // with an assign owed, the latest outstanding store is taken for the early one
+            (b'N', 16) => variables.any(|v| own(v).stores.len > u8::from(own(v).pending)),
             _ => unreachable!("no rule of this row"),
         };
     }

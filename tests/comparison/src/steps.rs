@@ -19,6 +19,8 @@ pub struct Tally {
     pub refused: usize,
     /// from states in range: how often a letter had an answer, and broke a later rule of its row too; 0 stands for none
     pub answers: BTreeMap<(u8, u32, u32), usize>,
+    /// the same for each part of 16 at N
+    pub unlocks: [usize; UNLOCKS.len()],
 }
 
 impl Tally {
@@ -193,10 +195,11 @@ pub fn state_in_range(rng: &mut Rng) -> Kept {
     let n = rng.pick(&[1, 50, 1_999, any, any, any]);
     s.events = n;
     let few = rng.chance(50);
+    let bars = rng.below(4);
     let value = |rng: &mut Rng| if few { rng.pick(&[0, 1]) } else { rng.next() as i32 };
     let ring = |rng: &mut Rng| Ring { first: rng.next() as u8, len: position(rng, 8) as u8 };
     for i in 0..128 {
-        s.cells[i] = Cell {
+        let mut c = Cell {
             copy: value(rng),
             announced: value(rng),
             source: position(rng, n),
@@ -206,24 +209,26 @@ pub fn state_in_range(rng: &mut Rng) -> Kept {
             fresh: rng.chance(30),
             pending: rng.chance(10),
         };
+        match bars {
+            // half of the states have no thread that bars a lock or an unlock
+            0 | 1 => (c.pending, c.fresh, c.stores.len) = (false, false, 0),
+            // a quarter have early stores that wait, and few others
+            2 => {
+                (c.pending, c.fresh) = (rng.chance(50), false);
+                c.stores.len = u8::from(c.pending && rng.chance(70)) + u8::from(rng.chance(8));
+            }
+            _ => {}
+        }
+        s.cells[i] = c;
         for k in 0..8 {
             s.reads[8 * i + k] = Slot { value: value(rng), position: rng.next() as u32 };
             s.stores[8 * i + k] = Slot { value: value(rng), position: rng.next() as u32 };
         }
-        let c = s.cells[i];
         for k in 0..usize::from(c.reads.len) {
             s.reads[8 * i + (usize::from(c.reads.first) + k) % 8].position = position(rng, n);
         }
         for k in 0..usize::from(c.stores.len) {
             s.stores[8 * i + (usize::from(c.stores.first) + k) % 8].position = position(rng, n);
-        }
-    }
-    // half of the states have no thread that bars a lock or an unlock
-    if rng.chance(50) {
-        for c in s.cells.iter_mut() {
-            c.pending = false;
-            c.fresh = false;
-            c.stores.len = 0;
         }
     }
     for i in 0..8 {
@@ -238,12 +243,41 @@ pub fn state_in_range(rng: &mut Rng) -> Kept {
     s
 }
 
+/// A part of 16 at N: its name, the answer, and what holds of the thread's variables, of each whether an assign is owed and how many stores
+/// are outstanding.
+type Unlock = (&'static str, u32, fn(&[(bool, u8)]) -> bool);
+const UNLOCKS: [Unlock; 4] = [
+    ("one store and its assign owed", 0, |cells| cells.contains(&(true, 1))),
+    ("two stores and an assign owed", 16, |cells| alone(cells, (true, 2))),
+    ("one store and no assign owed", 16, |cells| alone(cells, (false, 1))),
+    ("no more stores than assigns owed", 16, |cells| {
+        let stores: usize = cells.iter().map(|c| usize::from(c.1)).sum();
+        stores <= cells.iter().filter(|c| c.0).count()
+    }),
+];
+
+/// Whether some variable is so, and the others have no store or an early one alone.
+fn alone(cells: &[(bool, u8)], so: (bool, u8)) -> bool {
+    cells.contains(&so) && cells.iter().all(|&c| c == so || c.1 == 0 || c == (true, 1))
+}
+
+/// Counts the parts of 16 that an N with this answer meets.
+fn count_unlock(tally: &mut Tally, s: &State, t: usize, answer: u32) {
+    let cells: Vec<(bool, u8)> = s.cells[16 * t..][..s.counts.variables].iter().map(|c| (c.pending, c.stores.len)).collect();
+    for ((_, number, holds), times) in UNLOCKS.iter().zip(&mut tally.unlocks) {
+        *times += usize::from(*number == answer && holds(&cells));
+    }
+}
+
 /// One step against the model, the state after it included.
 fn against_model(tally: &mut Tally, before: &Kept, e: &Event) {
     let broken = model::broken(before, e);
     let number = broken.first().copied().unwrap_or(0);
     for later in [0].iter().chain(broken.iter().skip(1)) {
         *tally.answers.entry((e.letter, number, *later)).or_insert(0) += 1;
+    }
+    if e.letter == b'N' && matches!(number, 0 | 16) {
+        count_unlock(tally, before, e.thread, number);
     }
     let line = if number == 8 { 0 } else { before.events as usize + 3 };
     let reply = if number == 0 { (0, 0) } else { (number as usize, line) };
@@ -283,21 +317,25 @@ const IN_NO_PAPER: [(u8, u32, u32); 8] = [
     (b'P', 19, 23),
 ];
 
-/// Each refusal of each row, and each two that one event can break, occurred in the steps from states in range. Prints how often those
-/// with 15, 16 or 23 did.
+/// Each refusal of each row, each two that one event can break, and each part of 16 at N occurred in the steps from states in range.
+/// Prints how often those with 15, 16 or 23 did.
 pub fn every_answer(tally: &mut Tally) {
     let pairs = PAIRS.map(|(letter, number)| (letter, number, 0));
-    let mut shown = Vec::new();
+    let mut all = Vec::new();
     for (letter, number, later) in pairs.into_iter().chain(DOUBLES).chain(IN_NO_PAPER) {
         let times = tally.answers.get(&(letter, number, later)).copied().unwrap_or(0);
         let beside = if later == 0 { String::new() } else { format!(" beside {later}") };
-        let name = format!("{number}{beside} at {}", letter as char);
-        if [15, 16, 23].iter().any(|n| [number, later].contains(n)) {
-            shown.push(format!("{name}: {times}"));
-        }
-        let said = if times > 0 { Ok(()) } else { Err(format!("no step from a state in range has {name}")) };
-        tally.count((number as usize, 0), said);
+        let shown = [15, 16, 23].iter().any(|n| [number, later].contains(n));
+        all.push((number, format!("{number}{beside} at {}", letter as char), times, shown));
     }
+    for ((name, number, _), times) in UNLOCKS.iter().zip(tally.unlocks) {
+        all.push((*number, format!("{number} at N, {name}"), times, true));
+    }
+    for (number, name, times, _) in &all {
+        let said = if *times > 0 { Ok(()) } else { Err(format!("no step from a state in range has {name}")) };
+        tally.count((*number as usize, 0), said);
+    }
+    let shown: Vec<String> = all.into_iter().filter(|a| a.3).map(|(_, name, times, _)| format!("{name}: {times}")).collect();
     println!("    {}", shown.join("; "));
 }
 

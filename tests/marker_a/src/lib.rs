@@ -1,7 +1,7 @@
-//! A naive marker for the papers of document 01, with request (a) of document 02.
+//! A naive marker for the papers of document 01, with requests (a) and (d) of document 02.
 //!
 //! Every word of 01 is computed anew from the list of earlier events.
-//! The quoted sentences are 01's, and for 23 those of 02 (a).
+//! The quoted sentences are 01's, for 23 those of 02 (a), and for 16 at N also those of 02 (d).
 
 pub mod listing;
 pub mod order;

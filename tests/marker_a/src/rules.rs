@@ -113,6 +113,19 @@ pub fn owed(es: &[Event], t: u32, v: u32) -> bool {
     latest(es, &[P, B], t, v).is_some_and(|e| e.kind == P)
 }
 
+/// "a store whose assign is owed": the store at this place is a P, and it is the latest of P, B
+/// of its thread on its variable.
+pub fn assign_owed(es: &[Event], store: usize) -> bool {
+    let e = &es[store];
+    e.kind == P && places(es, &[P, B], e.thread, e.target).last() == Some(&store)
+}
+
+/// The places of the outstanding stores of T on V that count in 16 at N: all but "a store
+/// whose assign is owed".
+pub fn stores_counted_at_unlock(es: &[Event], t: u32, v: u32) -> Vec<usize> {
+    outstanding_stores(es, t, v).into_iter().filter(|&store| !assign_owed(es, store)).collect()
+}
+
 /// "*Usable*: since T's last K, on whichever lock (or the start), there is an A or B of V,
 /// or an L whose read came after that K."
 pub fn usable(es: &[Event], t: u32, v: u32) -> bool {
@@ -204,11 +217,11 @@ fn rule_15(es: &[Event], counts: Counts, e: &Event) -> bool {
 
 /// "16. Store not written: L with an outstanding store of T on V, or whose read came before
 /// a write of T on V; N while T has an outstanding store. The syllabus counts an early store
-/// here like the others."
+/// here like the others." "In 16 at N, a store whose assign is owed counts no longer."
 fn rule_16(es: &[Event], counts: Counts, e: &Event) -> bool {
     match e.kind {
         L => !outstanding_stores(es, e.thread, e.target).is_empty() || read_before_write(es, e.thread, e.target),
-        N => (0..counts.variables).any(|v| !outstanding_stores(es, e.thread, v).is_empty()),
+        N => (0..counts.variables).any(|v| !stores_counted_at_unlock(es, e.thread, v).is_empty()),
         _ => false,
     }
 }

@@ -83,13 +83,14 @@ struct Cell {
     owed: bool,
 }
 
-/// What is kept for a thread: how many of its cells bar a lock or an unlock, and the section it is in.
+/// What is kept for a thread: how many cells and stores bar its locks and unlocks, and the section it is in.
 #[derive(Clone, Copy, Default)]
 struct Thread {
     last_lock: u32,
     fresh: u32,
     owed: u32,
-    outstanding_stores: u32,
+    /// the outstanding stores that bar an unlock: all but early ones whose assigns are owed
+    unwritten: u32,
     depth: u32,
     section: u32,
     unlocked: bool,
@@ -175,7 +176,7 @@ impl State {
                 12
             } else if thread.fresh > 0 {
                 15
-            } else if thread.outstanding_stores > 0 {
+            } else if thread.unwritten > 0 {
                 16
             } else {
                 0
@@ -279,26 +280,28 @@ impl State {
                     }
                     b'S' => {
                         thread.fresh -= 1;
-                        thread.outstanding_stores += 1;
+                        thread.unwritten += 1;
                         cell.fresh = false;
                         cell.stores.push(x, now);
                     }
                     b'R' => cell.reads.push(x, now),
                     b'W' => {
-                        thread.outstanding_stores -= 1;
+                        // nothing is stored while an assign is owed, so that the last store left is the early one
+                        let early = cell.owed && cell.stores.len == 1;
+                        thread.unwritten -= u32::from(!early);
                         cell.stores.pop();
                         cell.last_write = now;
                         self.main[p] = x;
                     }
                     b'P' => {
                         thread.owed += 1;
-                        thread.outstanding_stores += 1;
                         cell.owed = true;
                         cell.announced = x;
                         cell.stores.push(x, now);
                     }
                     b'B' => {
                         thread.owed -= 1;
+                        thread.unwritten += u32::from(cell.stores.len > 0);
                         thread.fresh -= u32::from(cell.fresh);
                         cell.owed = false;
                         cell.fresh = false;
@@ -387,14 +390,18 @@ impl State {
         match (e.letter, self.guards) {
             (b'U' | b'A' | b'B' | b'P', Some(guards)) => !self.holds(e.thread, guards[e.place]),
             (b'K', _) => self.threads[e.thread].unlocked,
-            (b'N', _) => self.threads[e.thread].owed > 0,
+            // the owed B must come under its guard, and 13 bars a K before it
+            (b'N', Some(guards)) => {
+                let owed = |v: usize| guards[v] == e.place && self.cells[e.thread][v].owed;
+                self.locks[e.place].depth == 1 && (0..self.counts.variables).any(owed)
+            }
             _ => false,
         }
     }
 
     pub fn busy(&self, t: usize) -> bool {
         let thread = &self.threads[t];
-        thread.depth > 0 || thread.owed > 0 || thread.fresh > 0 || thread.outstanding_stores > 0
+        thread.depth > 0 || thread.owed > 0 || thread.fresh > 0 || thread.unwritten > 0
     }
 }
 

@@ -132,8 +132,19 @@ impl<'a> Machine<'a> {
     }
 
     /// Marks the events, with `ORDER` up to one that denies the order. It goes on where it ended before.
-    #[inline(never)]
     pub fn run<const ORDER: bool>(&mut self) -> End {
+        loop {
+            let end = self.run_lines::<ORDER>();
+            // SAFETY: 16 is said of an unlock alone, and its line is the next.
+            if !matches!(end, End::Refused(16)) || !unsafe { self.unlock_over_early::<ORDER>() } {
+                return end;
+            }
+        }
+    }
+
+    /// The same, up to an unlock of a thread with outstanding stores, which is refused with 16.
+    #[inline(never)]
+    fn run_lines<const ORDER: bool>(&mut self) -> End {
         loop {
             // SAFETY: enough bytes of the paper, or of the tail, are around the lines that start before `stop`.
             let end = unsafe { self.run_by_words::<ORDER>() };
@@ -185,8 +196,11 @@ impl<'a> Machine<'a> {
                     break End::Refused(unread(at, events));
                 }
                 next = at.add(6);
-                let end =
-                    if letter == b'K' { self.lock::<ORDER>(t, place, events) } else { self.unlock::<ORDER>(t, place, events) };
+                let end = if letter == b'K' {
+                    self.lock::<ORDER>(t, place, events)
+                } else {
+                    self.unlock::<ORDER, true>(t, place, events)
+                };
                 if !matches!(end, End::Done) {
                     break end;
                 }
@@ -273,8 +287,9 @@ impl<'a> Machine<'a> {
         End::Done
     }
 
+    /// With `STORES_BAR` every outstanding store bars it.
     #[inline(always)]
-    unsafe fn unlock<const ORDER: bool>(&mut self, t: usize, l: usize, events: usize) -> End {
+    unsafe fn unlock<const ORDER: bool, const STORES_BAR: bool>(&mut self, t: usize, l: usize, events: usize) -> End {
         let thread = self.threads.get_unchecked_mut(t);
         let depth = self.depths.get_unchecked_mut(l);
         if thread.held >> l & 1 == 0 {
@@ -283,7 +298,7 @@ impl<'a> Machine<'a> {
         if thread.sets & FRESH != 0 {
             return End::Refused(15);
         }
-        if thread.sets >= UNWRITTEN {
+        if STORES_BAR && thread.sets >= UNWRITTEN {
             return End::Refused(16);
         }
         *depth -= 1;
@@ -295,6 +310,27 @@ impl<'a> Machine<'a> {
             self.close_section(t, events + FIRST_LINE);
         }
         End::Done
+    }
+
+    /// The unlock in the next line, whose thread has outstanding stores: it is taken in if all are early ones whose assigns are owed, at most
+    /// one of a variable. Apart from the loop, which would be slower with a call that comes back to it.
+    #[cold]
+    #[inline(never)]
+    unsafe fn unlock_over_early<const ORDER: bool>(&mut self) -> bool {
+        let word = load(self.at);
+        let (t, l) = ((word >> 16 & 15) as usize, (word >> 32 & 15) as usize);
+        let sets = self.threads[t].sets;
+        let stores = |v: usize| (*self.room).cells[VARIABLES * (1 + t) + v].counts[STORES];
+        let early = (0..VARIABLES).filter(|&v| sets & OWED & BITS[v] != 0 && stores(v) > 0).count();
+        if sets / UNWRITTEN > early as u64 {
+            return false;
+        }
+        self.unlock::<ORDER, false>(t, l, self.events);
+        (*self.room).what[self.events] = u32::from(b'N') << 16 | (t << 8 | l) as u32;
+        (*self.room).values[self.events] = 0;
+        self.events += 1;
+        self.at = self.at.add(6);
+        true
     }
 
     /// Adds the section of a thread that ends at a line. At most seven others are open at a time, so that few entries move.

@@ -52,8 +52,8 @@ impl After {
         row.iter().copied().filter(|&number| rules::breaks(number, &self.earlier, self.counts, &e)).collect()
     }
 
-    pub fn variables(&self) -> usize {
-        self.counts.variables as usize
+    pub fn variables(&self) -> std::ops::Range<usize> {
+        0..self.counts.variables as usize
     }
 
     pub fn fresh(&self, t: usize, v: usize) -> bool {
@@ -62,6 +62,32 @@ impl After {
 
     pub fn owed(&self, t: usize, v: usize) -> bool {
         rules::owed(&self.earlier, t as u32, v as u32)
+    }
+
+    /// The letters of the outstanding stores, the oldest first.
+    pub fn unwritten(&self, t: usize, v: usize) -> Vec<u8> {
+        let places = rules::outstanding_stores(&self.earlier, t as u32, v as u32);
+        places.into_iter().map(|i| if self.earlier[i].kind == Kind::P { b'P' } else { b'S' }).collect()
+    }
+
+    /// Whether an early store whose assign is owed is outstanding, and no other store.
+    pub fn waits(&self, t: usize, v: usize) -> bool {
+        self.owed(t, v) && self.unwritten(t, v) == [b'P']
+    }
+
+    /// Whether a store was written.
+    pub fn written(&self, t: usize, v: usize) -> bool {
+        self.earlier.iter().any(|e| (e.kind, e.thread, e.target) == (Kind::W, t as u32, v as u32))
+    }
+
+    /// Whether this holds of an event's thread and each variable.
+    pub fn each(&self, e: &Event, holds: impl Fn(usize, usize) -> bool) -> bool {
+        self.variables().all(|v| holds(e.thread, v))
+    }
+
+    /// Whether this holds of an event's thread and some variable.
+    pub fn some(&self, e: &Event, holds: impl Fn(usize, usize) -> bool) -> bool {
+        self.variables().any(|v| holds(e.thread, v))
     }
 
     // of the thread and the variable of an event
@@ -81,7 +107,7 @@ impl After {
 
     /// How many stores are outstanding.
     pub fn stores(&self, e: &Event) -> usize {
-        rules::outstanding_stores(&self.earlier, e.thread as u32, e.place as u32).len()
+        self.unwritten(e.thread, e.place).len()
     }
 
     /// The place of the oldest outstanding read.

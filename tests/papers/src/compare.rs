@@ -4,6 +4,7 @@ use crate::by_a::{self, After};
 use crate::generate::{self, candidates, Aim, Rng, CASES, DOUBLES, PAIRS};
 use crate::shrink::shrink;
 use crate::{expected, Counts, Event};
+use marker_a::Kind;
 use marker_b::State;
 use std::collections::BTreeMap;
 use std::panic::{catch_unwind, AssertUnwindSafe};
@@ -30,11 +31,15 @@ pub struct Comparison {
     pub failed: usize,
     /// how often each kind of answer occurred
     pub answers: BTreeMap<String, usize>,
+    /// how many papers have an order and an unlock over which an early store waits
+    pub waiting: usize,
 }
 
 const PRINTED_FAILURES: usize = 20;
 /// No paper has these answers: 23 refuses an earlier event of it.
 const IN_NO_PAPER: [&str; 2] = ["refused 15 L", "refused 16 L"];
+/// For so many random papers there must be at least one with an order and an unlock over which an early store waits.
+const WAITING_IN: usize = 200;
 const FEW: Counts = Counts { threads: 2, variables: 1, locks: 1 };
 
 /// The kind of a paper's listing: the refusal, with the letter where it is one of a row, or what became of the order.
@@ -58,6 +63,30 @@ fn kind(paper: &[u8], listing: &str) -> String {
     }
 }
 
+/// Whether a paper that has an order has an unlock over which an early store waits: it is neither assigned nor written, and the lock is not
+/// its variable's guard.
+fn waits(paper: &[u8]) -> bool {
+    let parts = marker_a::paper::find(paper).expect("an accepted paper");
+    let guards = parts.guards.expect("guards");
+    // of a thread and variable: how many stores are outstanding, and whether an assign is owed
+    let mut cells: BTreeMap<(u32, u32), (usize, bool)> = BTreeMap::new();
+    parts.body.split(|&b| b == 10).filter_map(marker_a::paper::event).any(|e| {
+        if e.kind == Kind::N {
+            let mut waiting = cells.iter().filter(|(&(t, _), &(stores, owed))| t == e.thread && stores > 0 && owed);
+            return waiting.any(|(&(_, v), _)| guards[v as usize] != e.target);
+        }
+        let (stores, owed) = cells.entry((e.thread, e.target)).or_default();
+        match e.kind {
+            Kind::S => *stores += 1,
+            Kind::P => (*stores, *owed) = (*stores + 1, true),
+            Kind::W => *stores -= 1,
+            Kind::B => *owed = false,
+            _ => {}
+        }
+        false
+    })
+}
+
 /// Bytes as text, a line to a line; a long one is cut.
 fn shown(paper: &[u8]) -> String {
     let mut text = paper.escape_ascii().to_string().replace("\\n", "\n");
@@ -70,7 +99,7 @@ fn shown(paper: &[u8]) -> String {
 
 impl Comparison {
     pub fn with(check: Check) -> Comparison {
-        Comparison { check, passed: 0, failed: 0, answers: BTreeMap::new() }
+        Comparison { check, passed: 0, failed: 0, answers: BTreeMap::new(), waiting: 0 }
     }
 
     fn checked(&self, paper: &[u8], with_a: bool) -> Result<String, String> {
@@ -94,6 +123,7 @@ impl Comparison {
         let failure = match self.checked(paper, with_a) {
             Ok(listing) => {
                 let kind = kind(paper, &listing);
+                self.waiting += usize::from(kind.starts_with("ordered") && waits(paper));
                 let failure = IN_NO_PAPER.contains(&&kind[..]).then(|| format!("FAILED {name}: {kind}\n{}", shown(paper)));
                 *self.answers.entry(kind).or_insert(0) += 1;
                 failure
@@ -233,6 +263,9 @@ pub fn run(check: Check, size: Size) -> (usize, usize) {
     part("random papers", &|c| c.seeds("seed", generate::random_paper, seed, random, random));
     part("damaged papers", &|c| c.seeds("damaged seed", generate::damaged_paper, seed, damaged, damaged));
     part("large papers", &|c| c.seeds("large seed", generate::large_paper, seed, large, large_by_a));
+    let (found, wanted) = (comparison.waiting, random as usize / WAITING_IN);
+    println!("ordered, and an early store waits over an unlock: {found}");
+    comparison.count((found < wanted).then(|| format!("FAILED: these are fewer than {wanted}")));
     let _ = std::panic::take_hook();
     (comparison.passed, comparison.failed)
 }

@@ -1,4 +1,4 @@
-//! Papers with the listing that documents 01 and 02 (a) give, or that follows from their words, worked out by hand.
+//! Papers with the listing that documents 01 and 02 (a) and (d) give, or that follows from their words, worked out by hand.
 
 use crate::generate::close;
 
@@ -32,7 +32,7 @@ const ONE_TWO_THREE: &str = "K 0 0, A 0 1 2, S 0 1 2, W 0 1 2, N 0 0, K 1 0, A 1
 S 1 1 100, W 1 1 100, N 1 0, A 1 0 1, S 1 0 1, W 1 0 1, R 0 0 1, L 0 0 1, U 0 0 1, U 0 1 2, L 0 1 3, U 0 1 3";
 const ONE_TWO_THREE_LISTING: &str = "accepted 23, main 0 1, main 1 100, copy 0 0 1, copy 0 1 3, copy 1 0 1, copy 1 1 100";
 
-/// "Short traces", with 23 by 02 (a): events and listing. Two threads, variables and locks, no guards.
+/// "Short traces", with what 02 (a) and (d) change: events and listing. Two threads, variables and locks, no guards.
 const SHORT: &[(&str, &str)] = &[
     ("", "accepted 0, main 0 0, main 1 0"),
     ("U 0 0 0", "refused 3 17"),
@@ -46,7 +46,7 @@ const SHORT: &[(&str, &str)] = &[
     ("P 0 0 5, W 0 0 5, B 0 0 5", "accepted 3, main 0 5, main 1 0, copy 0 0 5"),
     ("P 0 0 5, K 0 0", "refused 4 13"),
     ("K 0 0, K 0 0, N 0 0, K 1 0", "refused 6 11"),
-    ("K 0 0, P 0 0 5, N 0 0", "refused 5 16"),
+    ("K 0 0, P 0 0 5, N 0 0", "accepted 3, main 0 0, main 1 0"),
 ];
 
 /// Further traces on the words and the rows: name, events, listing. Two threads, variables and locks, no guards.
@@ -194,6 +194,110 @@ const TRACES: &[(&str, &str, &str)] = &[
     ("fresh on another variable bars unlock", "K 0 0, A 0 1 5, N 0 0", "refused 5 15"),
     ("store of another variable bars unlock", "K 0 0, A 0 1 5, S 0 1 5, N 0 0", "refused 6 16"),
     ("fresh before store not written", "K 0 0, A 0 0 1, S 0 0 1, A 0 0 2, N 0 0", "refused 7 15"),
+    // N while an early store waits for its assign and its write
+    (
+        "unlock over an early store, then W and B",
+        "K 0 0, P 0 0 5, N 0 0, W 0 0 5, B 0 0 5",
+        "accepted 5, main 0 5, main 1 0, copy 0 0 5",
+    ),
+    (
+        "unlock over an early store, then B and W",
+        "K 0 0, P 0 0 5, N 0 0, B 0 0 5, W 0 0 5",
+        "accepted 5, main 0 5, main 1 0, copy 0 0 5",
+    ),
+    ("unlock over an early store, then B of another value", "K 0 0, P 0 0 5, N 0 0, B 0 0 6", "refused 6 18"),
+    ("unlock over an early store, then a lock", "K 0 0, P 0 0 5, N 0 0, K 0 0", "refused 6 13"),
+    ("unlock over an early store, then a read", "K 0 0, P 0 0 5, N 0 0, R 0 0 0", "refused 6 23"),
+    (
+        "unlock over an early store, then a read after its write",
+        "K 0 0, P 0 0 5, N 0 0, W 0 0 5, R 0 0 5, B 0 0 5, L 0 0 5",
+        "accepted 7, main 0 5, main 1 0, copy 0 0 5",
+    ),
+    (
+        "unlock over an early store, a section of another thread before W",
+        "K 0 0, P 0 0 5, N 0 0, K 1 0, R 1 0 0, L 1 0 0, U 1 0 0, N 1 0, W 0 0 5, B 0 0 5",
+        "accepted 10, main 0 5, main 1 0, copy 0 0 5, copy 1 0 0",
+    ),
+    (
+        "unlock of another lock over an early store",
+        "K 0 0, K 0 1, P 0 0 5, N 0 1, W 0 0 5, N 0 0, B 0 0 5",
+        "accepted 7, main 0 5, main 1 0, copy 0 0 5",
+    ),
+    ("two unlocks of one lock over an early store", "K 0 0, K 0 0, P 0 0 5, N 0 0, N 0 0", "accepted 5, main 0 0, main 1 0"),
+    ("unlock over early stores of two variables", "K 0 0, P 0 0 5, P 0 1 6, N 0 0", "accepted 4, main 0 0, main 1 0"),
+    ("unlock of a lock not held, with an early store", "P 0 0 5, N 0 0", "refused 4 12"),
+    ("unlock after W of an early store", "K 0 0, P 0 0 5, W 0 0 5, N 0 0", "accepted 4, main 0 5, main 1 0"),
+    // N after the B: the early store counts
+    ("unlock after B", "K 0 0, P 0 0 5, B 0 0 5, N 0 0", "refused 6 16"),
+    ("unlock after B and W", "K 0 0, P 0 0 5, B 0 0 5, W 0 0 5, N 0 0", "accepted 5, main 0 5, main 1 0, copy 0 0 5"),
+    ("unlock after W and B", "K 0 0, P 0 0 5, W 0 0 5, B 0 0 5, N 0 0", "accepted 5, main 0 5, main 1 0, copy 0 0 5"),
+    ("unlock before B and one after it", "K 0 0, K 0 0, P 0 0 5, N 0 0, B 0 0 5, N 0 0", "refused 8 16"),
+    (
+        "unlock before B and one after W",
+        "K 0 0, K 0 0, P 0 0 5, N 0 0, B 0 0 5, W 0 0 5, N 0 0",
+        "accepted 7, main 0 5, main 1 0, copy 0 0 5",
+    ),
+    ("unlock before B, a lock and an unlock after it", "K 0 0, P 0 0 5, N 0 0, B 0 0 5, K 0 0, N 0 0", "refused 8 16"),
+    (
+        "unlock before B, a lock and an unlock after W",
+        "K 0 0, P 0 0 5, N 0 0, B 0 0 5, W 0 0 5, K 0 0, N 0 0",
+        "accepted 7, main 0 5, main 1 0",
+    ),
+    ("unlock after B of one of two variables", "K 0 0, P 0 0 5, P 0 1 6, B 0 1 6, N 0 0", "refused 7 16"),
+    (
+        "unlock after B and W of one of two variables",
+        "K 0 0, P 0 0 5, P 0 1 6, B 0 1 6, W 0 1 6, N 0 0",
+        "accepted 6, main 0 0, main 1 6, copy 0 1 6",
+    ),
+    ("unlock with an assign between P and B", "K 0 0, P 0 0 5, A 0 0 1, B 0 0 5, N 0 0", "refused 7 16"),
+    (
+        "unlock with an assign between P and B, after W",
+        "K 0 0, P 0 0 5, A 0 0 1, B 0 0 5, W 0 0 5, N 0 0",
+        "accepted 6, main 0 5, main 1 0, copy 0 0 5",
+    ),
+    // N while an assign is owed: other stores count, and fresh assigns
+    ("unlock with a store before P", "K 0 0, A 0 0 1, S 0 0 1, P 0 0 5, N 0 0", "refused 7 16"),
+    (
+        "unlock with a store before P, written before P",
+        "K 0 0, A 0 0 1, S 0 0 1, W 0 0 1, P 0 0 5, N 0 0",
+        "accepted 6, main 0 1, main 1 0, copy 0 0 1",
+    ),
+    (
+        "unlock with a store before P, written after P",
+        "K 0 0, A 0 0 1, S 0 0 1, P 0 0 5, W 0 0 1, N 0 0",
+        "accepted 6, main 0 1, main 1 0, copy 0 0 1",
+    ),
+    (
+        "unlock with two stores before P, one written",
+        "K 0 0, A 0 0 1, S 0 0 1, A 0 0 2, S 0 0 2, P 0 0 5, W 0 0 1, N 0 0",
+        "refused 10 16",
+    ),
+    ("unlock with P and B before P", "K 0 0, P 0 0 5, B 0 0 5, P 0 0 6, N 0 0", "refused 7 16"),
+    (
+        "unlock with P and B before P, the first written",
+        "K 0 0, P 0 0 5, B 0 0 5, P 0 0 6, W 0 0 5, N 0 0",
+        "accepted 6, main 0 5, main 1 0, copy 0 0 5",
+    ),
+    ("unlock with P on one variable and a store of another", "K 0 0, P 0 0 5, A 0 1 6, S 0 1 6, N 0 0", "refused 7 16"),
+    (
+        "unlock with P on one variable and a written store of another",
+        "K 0 0, P 0 0 5, A 0 1 6, S 0 1 6, W 0 1 6, N 0 0",
+        "accepted 6, main 0 0, main 1 6, copy 0 1 6",
+    ),
+    (
+        "unlock with a written P on one variable and a store of another",
+        "K 0 0, P 0 0 5, W 0 0 5, A 0 1 6, S 0 1 6, N 0 0",
+        "refused 8 16",
+    ),
+    ("unlock with a store, owed by another thread", "K 0 0, P 1 0 6, A 0 0 5, S 0 0 5, N 0 0", "refused 7 16"),
+    (
+        "unlock with stores of another thread",
+        "K 0 0, P 1 0 5, B 1 0 5, A 1 1 6, S 1 1 6, N 0 0",
+        "accepted 6, main 0 0, main 1 0, copy 1 0 5, copy 1 1 6",
+    ),
+    ("unlock with a fresh assign after P", "K 0 0, P 0 0 5, A 0 0 1, N 0 0", "refused 6 15"),
+    ("unlock with a fresh assign before P", "K 0 0, A 0 0 1, P 0 0 5, N 0 0", "refused 6 15"),
+    ("unlock with P on one variable and a fresh assign of another", "K 0 0, P 0 0 5, A 0 1 6, N 0 0", "refused 6 15"),
     ("lock of another before owed", "K 0 0, P 1 0 5, K 1 0", "refused 5 11"),
     ("lock, unlock, lock by another", "K 0 0, N 0 0, K 1 0, N 1 0", "accepted 4, main 0 0, main 1 0"),
     ("owed on any variable bars a lock", "P 0 1 5, K 0 0", "refused 4 13"),
@@ -393,6 +497,107 @@ const ORDERS: &[(&str, &str, &str, &str, &str)] = &[
     ),
     ("loads and stores want no guard", "H 1 1 1", "G 0", "R 0 0 0, L 0 0 0", "accepted 2, main 0 0, copy 0 0 0"),
     ("early store without the guard", "H 1 1 1", "G 0", "P 0 0 5, W 0 0 5", "accepted 2, main 0 5, unordered 5 22"),
+    (
+        "early store over an unlock of another lock",
+        "H 1 1 2",
+        "G 0",
+        "K 0 0, K 0 1, P 0 0 5, N 0 1, W 0 0 5, B 0 0 5, N 0 0",
+        "accepted 7, main 0 5, copy 0 0 5, section 0 3 9",
+    ),
+    (
+        "early store over an unlock, B before W",
+        "H 1 1 2",
+        "G 0",
+        "K 0 0, K 0 1, P 0 0 5, N 0 1, B 0 0 5, W 0 0 5, N 0 0",
+        "accepted 7, main 0 5, copy 0 0 5, section 0 3 9",
+    ),
+    ("early store over an unlock, B and no W", "H 1 1 2", "G 0", "K 0 0, K 0 1, P 0 0 5, N 0 1, B 0 0 5, N 0 0", "refused 8 16"),
+    (
+        "early store over two unlocks",
+        "H 1 2 3",
+        "G 0 2",
+        "K 0 0, K 0 1, K 0 2, P 0 0 5, N 0 2, N 0 1, W 0 0 5, B 0 0 5, N 0 0",
+        "accepted 9, main 0 5, main 1 0, copy 0 0 5, section 0 3 11",
+    ),
+    (
+        "early store over an unlock of its guard taken twice",
+        "H 1 1 1",
+        "G 0",
+        "K 0 0, K 0 0, P 0 0 5, N 0 0, W 0 0 5, B 0 0 5, N 0 0",
+        "accepted 7, main 0 5, copy 0 0 5, section 0 3 9",
+    ),
+    (
+        "early store over an unlock, uses before and after B",
+        "H 1 1 2",
+        "G 0",
+        "K 0 0, K 0 1, R 0 0 0, L 0 0 0, P 0 0 5, N 0 1, U 0 0 0, B 0 0 5, U 0 0 5, W 0 0 5, N 0 0",
+        "accepted 11, main 0 5, copy 0 0 5, section 0 3 13",
+    ),
+    (
+        "early store over an unlock, an assign before B",
+        "H 1 1 2",
+        "G 0",
+        "K 0 0, K 0 1, P 0 0 5, N 0 1, A 0 0 1, U 0 0 1, B 0 0 5, W 0 0 5, N 0 0",
+        "accepted 9, main 0 5, copy 0 0 5, section 0 3 11",
+    ),
+    (
+        "early store over an unlock, a section under that lock before W",
+        "H 2 2 2",
+        "G 0 1",
+        "K 0 0, K 0 1, A 0 1 3, S 0 1 3, W 0 1 3, P 0 0 5, N 0 1, K 1 1, R 1 1 3, \
+         L 1 1 3, U 1 1 3, A 1 1 4, S 1 1 4, W 1 1 4, N 1 1, W 0 0 5, B 0 0 5, N 0 0",
+        "accepted 18, main 0 5, main 1 4, copy 0 0 5, copy 0 1 3, copy 1 1 4, section 0 3 20, section 1 10 17",
+    ),
+    (
+        "early store over an unlock, read by another thread before W",
+        "H 2 1 2",
+        "G 0",
+        "K 0 0, K 0 1, P 0 0 5, N 0 1, K 1 1, R 1 0 0, L 1 0 0, N 1 1, W 0 0 5, B 0 0 5, N 0 0",
+        "accepted 11, main 0 5, copy 0 0 5, copy 1 0 0, section 0 3 13, section 1 7 10",
+    ),
+    (
+        "early store over an unlock, used by another thread after it",
+        "H 2 1 2",
+        "G 0",
+        "K 0 0, K 0 1, P 0 0 5, N 0 1, K 1 1, W 0 0 5, B 0 0 5, N 0 0, K 1 0, R 1 0 5, L 1 0 5, U 1 0 5, N 1 1, N 1 0",
+        "accepted 14, main 0 5, copy 0 0 5, copy 1 0 5, section 0 3 10, section 1 7 16",
+    ),
+    (
+        "early store over an unlock, a lock after B",
+        "H 1 1 2",
+        "G 0",
+        "K 0 0, K 0 1, P 0 0 5, N 0 1, W 0 0 5, B 0 0 5, K 0 1, N 0 1, N 0 0",
+        "accepted 9, main 0 5, unordered 9 21",
+    ),
+    (
+        "early store over an unlock of its guard",
+        "H 1 1 2",
+        "G 0",
+        "K 0 0, K 0 1, P 0 0 5, N 0 0, W 0 0 5, B 0 0 5, N 0 1",
+        "accepted 7, main 0 5, copy 0 0 5, unordered 8 20",
+    ),
+    (
+        "early store over the last unlock",
+        "H 1 1 1",
+        "G 0",
+        "K 0 0, P 0 0 5, N 0 0, W 0 0 5, B 0 0 5",
+        "accepted 5, main 0 5, copy 0 0 5, unordered 7 20",
+    ),
+    (
+        "early store written before the last unlock, B after it",
+        "H 1 1 1",
+        "G 0",
+        "K 0 0, P 0 0 5, W 0 0 5, N 0 0, B 0 0 5",
+        "accepted 5, main 0 5, copy 0 0 5, unordered 7 20",
+    ),
+    ("early store over the last unlock, no B", "H 1 1 1", "G 0", "K 0 0, P 0 0 5, N 0 0", "accepted 3, main 0 0, unordered 6 22"),
+    (
+        "early store over the last unlock, W and no B",
+        "H 1 1 1",
+        "G 0",
+        "K 0 0, P 0 0 5, N 0 0, W 0 0 5",
+        "accepted 4, main 0 5, unordered 7 22",
+    ),
     ("a dead read, and no guard", "H 1 1 1", "G 0", "R 0 0 0, A 0 0 5", "refused 4 23"),
     (
         "lock after an unlock",
@@ -494,11 +699,22 @@ pub fn papers() -> Vec<Expected> {
     add("eight early stores".into(), two(early(8)), "accepted 16, main 0 0, main 1 0, copy 0 0 5");
     add("nine early stores".into(), two(early(8) + ", P 0 0 5"), "refused 19 19");
     add("early stores and stores in one queue".into(), two(early(4) + ", " + &stores(4) + ", P 0 0 5"), "refused 19 19");
+    let eight = |written: usize| "K 0 0, ".to_string() + &stores(7) + ", P 0 0 5" + &", W 0 0 5".repeat(written) + ", N 0 0";
+    add(
+        "unlock over the last of eight stores, an early one".into(),
+        two(eight(7)),
+        "accepted 24, main 0 5, main 1 0, copy 0 0 5",
+    );
+    add("unlock over the last two of eight stores".into(), two(eight(6)), "refused 25 16");
     add("owed before eight outstanding".into(), two(early(7) + ", P 0 0 5, P 0 0 5"), "refused 18 13");
     // the greatest counts
     let memory = (0..16).map(|v| format!("main {v} 0")).collect::<Vec<String>>().join(", ");
     let greatest = |guards: String| text("H 8 16 8", &guards, "");
     add("greatest counts".into(), greatest("G -".into()), &format!("accepted 0, {memory}"));
+    let early: String = (0..16).map(|v| format!(", P 7 {v} 5")).collect();
+    let waiting = |then: &str| text("H 8 16 8", "G -", &format!("K 7 7{early}{then}, N 7 7"));
+    add("unlock over sixteen early stores".into(), waiting(""), &format!("accepted 18, {memory}"));
+    add("unlock over fifteen of sixteen early stores".into(), waiting(", B 7 15 5"), "refused 21 16");
     add("sixteen guards".into(), greatest(format!("G{}", " 7".repeat(16))), &format!("accepted 0, {memory}"));
     add("seventeen guards".into(), greatest(format!("G{}", " 7".repeat(17))), "refused 2 6");
     // 2,000 events and more

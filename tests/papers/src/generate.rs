@@ -118,11 +118,26 @@ pub const DOUBLES: [(u8, u32, u32); 25] = [
 pub type Case = (u8, u32, fn(&After, &Event) -> bool);
 
 /// Parts of a rule. T is the event's thread and V its variable.
-pub const CASES: [Case; 10] = [
-    // N: where T has a fresh assign it owes one too, and the early store is written
+pub const CASES: [Case; 17] = [
+    // N: where T has a fresh assign it owes one too, and the early store is written; or waits for its write
     (b'N', 15, |after, e| {
-        let owed_too = |v| !after.fresh(e.thread, v) || after.owed(e.thread, v);
-        after.broken(e) == [15] && (0..after.variables()).all(owed_too)
+        let written = |t, v| after.owed(t, v) && after.unwritten(t, v).is_empty();
+        after.broken(e) == [15] && after.each(e, |t, v| !after.fresh(t, v) || written(t, v))
+    }),
+    (b'N', 15, |after, e| after.broken(e) == [15] && after.each(e, |t, v| !after.fresh(t, v) || after.waits(t, v))),
+    // N while an early store waits for its assign and its write; and an older store of its variable is written
+    (b'N', 0, |after, e| after.some(e, |t, v| after.waits(t, v))),
+    (b'N', 0, |after, e| after.some(e, |t, v| after.waits(t, v) && after.written(t, v))),
+    // N: an older store than such an early one; early stores whose assigns are made; another variable's store beside such an early one; no
+    // more stores outstanding than assigns owed
+    (b'N', 16, |after, e| after.each(e, |t, v| after.owed(t, v) || after.unwritten(t, v).is_empty())),
+    (b'N', 16, |after, e| after.each(e, |t, v| !after.owed(t, v) && !after.unwritten(t, v).contains(&b'S'))),
+    (b'N', 16, |after, e| {
+        after.some(e, |t, v| after.waits(t, v)) && after.each(e, |t, v| !after.owed(t, v) || after.waits(t, v))
+    }),
+    (b'N', 16, |after, e| {
+        let stores: usize = after.variables().map(|v| after.unwritten(e.thread, v).len()).sum();
+        stores <= after.variables().filter(|&v| after.owed(e.thread, v)).count()
     }),
     // R: an outstanding store alone; with an assign owed; a fresh assign alone; both
     (b'R', 23, |after, e| after.stores(e) > 0 && !after.is_fresh(e) && !after.is_owed(e)),
@@ -305,7 +320,7 @@ struct Style {
 
 fn style(rng: &mut Rng) -> Style {
     // an outstanding read bars an assign, so that loads weigh more than reads where assigns are wanted
-    let weights = match rng.below(8) {
+    let weights = match rng.below(10) {
         // U A L S R W K N P B
         0 | 1 => [7, 6, 12, 6, 2, 6, 2, 2, 3, 5],
         // early stores, with reads, assigns and uses between P and B
@@ -316,8 +331,10 @@ fn style(rng: &mut Rng) -> Style {
         4 => [3, 5, 4, 4, 10, 6, 4, 4, 3, 3],
         // locks, nested and repeated
         5 => [4, 4, 8, 4, 2, 6, 8, 6, 2, 3],
+        // early stores that wait, over unlocks too
+        6 | 7 => [2, 2, 6, 3, 1, 1, 12, 6, 12, 1],
         // loads
-        6 => [8, 3, 10, 4, 4, 6, 2, 3, 1, 3],
+        8 => [8, 3, 10, 4, 4, 6, 2, 3, 1, 3],
         _ => std::array::from_fn(|_| rng.pick(&[1, 2, 4, 8])),
     };
     let mut values = vec![0];

@@ -1,7 +1,7 @@
 -- What a turn answers: the first broken check of the letter's row, and the parts as the event leaves them. A letter that is none of a
 -- turn's breaks nothing there and leaves everything.
 use Prim.Native.Nat.{ℕ}
-use mathlib.Core.Bool.{not, cond, _&&_}
+use mathlib.Core.Bool.{Bool, cond, _&&_}
 use mathlib.Core.List.{List, [], _∷_}
 use lib.Dec.{eqb, ltb}
 use lib.IntN.{ℤ}
@@ -111,10 +111,14 @@ turnOf a n w t k x p =
       locked = lock .locked;
     }
 
--- of the first n variables of thread t: whether one has a pending prescient store, a fresh assign, an outstanding store
+-- a store that N counts is outstanding: with an assign owed the latest is left aside
+abbrev pub awaitsWrite : Cell → Bool
+awaitsWrite c = ltb (cond (c .pending) 1 0) (c .stores .len)
+
+-- of the first n variables of thread t: whether one has a pending prescient store, a fresh assign, an outstanding store that N counts
 unfoldable pub someOf : State → ℕ → ℕ → OnSome
 someOf s t n = record {
   pending = some n (λ v. cellAt s t v .pending);
   fresh = some n (λ v. cellAt s t v .fresh);
-  stored = some n (λ v. not (eqb (cellAt s t v .stores .len) 0));
+  stored = some n (λ v. awaitsWrite (cellAt s t v));
 }

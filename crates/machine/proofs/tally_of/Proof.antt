@@ -1,20 +1,21 @@
 -- `machine::tally_of` meets its contract: after v turns the numbers are those of the first v variables. Assumes nothing.
 use Prim.Native.Nat.{_≤_, _-_}
 use native.Mathlib.Omega.{arith}
-use mathlib.Core.Path.{_≡_, ap}
+use mathlib.Core.Path.{_≡_, ap, _∙_}
 use borrow.Author.Needs.{needs}
 use Rattle.state.specs.declared.Cell.{Cell}
 use lib.ListN.{getD}
 use Rattle.state.specs.State.{blank, cellAt}
 use Rattle.state.proofs.LeafLaws.{cell-read}
-use Rattle.machine.specs.Computed.Tallies.{number, sent}
+use Rattle.judging.specs.Computed.Turns.{awaitsWrite}
+use Rattle.machine.specs.Computed.Tallies.{number}
 use Rattle.machine.proofs.Tallies.{small-sum, number-none, number-more, tally-is}
 use Rattle.machine.proofs.tally_of.Statement.{statement}
 use Rattle.machine.proofs.tally_of.Tie as tie
 
 abbrev Inv-loop : tie.InvT-loop
 Inv-loop t s h pending₀ fresh₀ stored₀ v₀ pending fresh stored v =
-    (v ≤ h .variables) × (pending ≡ number v (λ w. cellAt s t w .pending)) × (fresh ≡ number v (λ w. cellAt s t w .fresh)) × (stored ≡ number v (λ w. sent (cellAt s t w)))
+    (v ≤ h .variables) × (pending ≡ number v (λ w. cellAt s t w .pending)) × (fresh ≡ number v (λ w. cellAt s t w .fresh)) × (stored ≡ number v (λ w. awaitsWrite (cellAt s t w)))
 
 abbrev μ-loop : tie.MeasureT-loop
 μ-loop t s h pending₀ fresh₀ stored₀ v₀ pending fresh stored v = h .variables - v
@@ -30,6 +31,9 @@ mul-c c = omega arith
 
 element-copy-out-c : tie.Need-element-copy-out-c Inv-loop μ-loop
 element-copy-out-c c = omega arith
+
+awaits-write-requires : tie.Need-awaits-write-requires Inv-loop μ-loop
+awaits-write-requires c κs = search needs
 
 one-requires : tie.Need-one-requires Inv-loop μ-loop
 one-requires c κs = search needs
@@ -58,11 +62,11 @@ one-requires-3 c κs = search needs
 
 add-stored : tie.Need-add-stored Inv-loop μ-loop
 add-stored c =
-    let l = c .before .before .before .before .before .before .before .before .before .loop in
-    let s = c .before .before .before .before .before .before .before .before .before .before .before .args .t1 in
-    let t = c .before .before .before .before .before .before .before .before .before .before .before .args .t in
-    let p = c .before .before .before .before .before .before .before .before .before .before .before .pre in
-    omega (arith, small-sum (l .v) (λ w. sent (cellAt s t w)) (sent (getD (s .cells) (c .before .before .before .before .before .before .cell-place .result) blank)) (c .one3 .ensures) (l .inv .3))
+    let l = c .before .before .before .before .before .before .before .before .loop in
+    let s = c .before .before .before .before .before .before .before .before .before .before .args .t1 in
+    let t = c .before .before .before .before .before .before .before .before .before .before .args .t in
+    let p = c .before .before .before .before .before .before .before .before .before .before .pre in
+    omega (arith, small-sum (l .v) (λ w. awaitsWrite (cellAt s t w)) (c .before .before .before .awaits-write .result) (c .one3 .ensures) (l .inv .3))
 
 add-v : tie.Need-add-v Inv-loop μ-loop
 add-v c = omega arith
@@ -72,15 +76,15 @@ loop-less c = omega arith
 
 loop-again : tie.Need-loop-again Inv-loop μ-loop
 loop-again c =
-    let l = c .before .before .before .before .before .before .before .before .before .loop in
-    let s = c .before .before .before .before .before .before .before .before .before .before .before .args .t1 in
-    let t = c .before .before .before .before .before .before .before .before .before .before .before .args .t in
-    let p = c .before .before .before .before .before .before .before .before .before .before .before .pre in
-    let same = cell-read s t (l .v) (p .0) (omega arith) (c .before .before .before .before .before .before .cell-place .ensures .0) in (
+    let l = c .before .before .before .before .before .before .before .before .loop in
+    let s = c .before .before .before .before .before .before .before .before .before .before .args .t1 in
+    let t = c .before .before .before .before .before .before .before .before .before .before .args .t in
+    let p = c .before .before .before .before .before .before .before .before .before .before .pre in
+    let same = cell-read s t (l .v) (p .0) (omega arith) (c .before .before .before .before .before .cell-place .ensures .0) in (
       omega arith,
-      number-more (l .v) (λ w. cellAt s t w .pending) (c .before .before .before .one .ensures) (ap (λ (x : Cell). x .pending) same) (l .inv .1),
-      number-more (l .v) (λ w. cellAt s t w .fresh) (c .before .before .one2 .ensures) (ap (λ (x : Cell). x .fresh) same) (l .inv .2),
-      number-more (l .v) (λ w. sent (cellAt s t w)) (c .one3 .ensures) (ap (λ (x : Cell). sent x) same) (l .inv .3),
+      number-more (l .v) (λ w. cellAt s t w .pending) (c .before .before .one .ensures) (ap (λ (x : Cell). x .pending) same) (l .inv .1),
+      number-more (l .v) (λ w. cellAt s t w .fresh) (c .before .one2 .ensures) (ap (λ (x : Cell). x .fresh) same) (l .inv .2),
+      number-more (l .v) (λ w. awaitsWrite (cellAt s t w)) (c .one3 .ensures) (c .before .before .before .awaits-write .ensures ∙ ap (λ (x : Cell). awaitsWrite x) same) (l .inv .3),
     )
 
 returns : tie.Need-returns Inv-loop μ-loop
@@ -98,6 +102,7 @@ tally-of-spec =
     cell-place-requires
     mul-c
     element-copy-out-c
+    awaits-write-requires
     one-requires
     add-pending
     one-requires-2

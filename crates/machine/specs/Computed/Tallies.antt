@@ -1,11 +1,12 @@
 -- How many of a thread's declared variables have what K and N ask for. The loop keeps these numbers beside the state.
 use Prim.Native.Nat.{ℕ, zero, suc, _+_, _-_, _≤_}
-use mathlib.Core.Bool.{Bool, true, not, cond}
+use mathlib.Core.Bool.{Bool, true, cond}
 use mathlib.Core.Path.{_≡_}
 use mathlib.Core.List.{List}
-use lib.Dec.{eqb, ltb}
+use lib.Dec.{ltb}
 use Rattle.state.specs.declared.Cell.{Cell}
 use Rattle.judging.specs.declared.OnSome.{OnSome}
+use Rattle.judging.specs.Computed.Turns.{awaitsWrite}
 use Rattle.state.specs.declared.State.{State}
 use Rattle.state.specs.State.{cellAt}
 use Rattle.state.specs.Range.{inRange}
@@ -22,15 +23,11 @@ number (suc n) f = cond (f n) 1 0 + number n f
 abbrev pub noTally : Tally
 noTally = record { pending = 0; fresh = 0; stored = 0 }
 
--- a cell has an outstanding store
-abbrev pub sent : Cell → Bool
-sent c = not (eqb (c .stores .len) 0)
-
 unfoldable pub tallyOf : State → ℕ → Tally
 tallyOf s t = record {
   pending = number (s .counts .variables) (λ v. cellAt s t v .pending);
   fresh = number (s .counts .variables) (λ v. cellAt s t v .fresh);
-  stored = number (s .counts .variables) (λ v. sent (cellAt s t v));
+  stored = number (s .counts .variables) (λ v. awaitsWrite (cellAt s t v));
 }
 
 -- n things have it, of which one had it or not and has it or not now
@@ -39,7 +36,7 @@ moved n was is = (n + cond is 1 0) - cond was 1 0
 
 -- a tally after a cell of its thread, c, became d
 unfoldable pub tallyAfter : Tally → Cell → Cell → Tally
-tallyAfter a c d = record { pending = moved (a .pending) (c .pending) (d .pending); fresh = moved (a .fresh) (c .fresh) (d .fresh); stored = moved (a .stored) (sent c) (sent d) }
+tallyAfter a c d = record { pending = moved (a .pending) (c .pending) (d .pending); fresh = moved (a .fresh) (c .fresh) (d .fresh); stored = moved (a .stored) (awaitsWrite c) (awaitsWrite d) }
 
 pub record Small (a : Tally) : Type 0 where
   pub pending : a .pending ≤ 16

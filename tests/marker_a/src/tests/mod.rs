@@ -1,6 +1,8 @@
 //! Tests, and the helpers that build papers.
 
 mod dead_reads;
+mod early_lists;
+mod early_stores;
 mod format;
 mod marking;
 mod ordering;
@@ -8,7 +10,9 @@ mod short_lists;
 mod traces;
 mod walks;
 
-use crate::{judge, line_of, mark, paper, Counts, Event};
+use crate::rules::{copy, main_memory, outstanding_reads, outstanding_stores};
+use crate::Kind::{self, A, B, K, L, N, P, R, S, U, W};
+use crate::{demand3, judge, line_of, mark, outcome, paper, Counts, Event, Order};
 
 /// The head and `G` line of the short traces: "Two threads, variables and locks."
 const TRACE_HEAD: &str = "H 2 2 2\nG -\n";
@@ -80,6 +84,30 @@ fn expect_unordered(head: &str, events: &str, line: usize, number: u32) {
     assert!(text.starts_with("accepted"), "{events}: {text}");
     assert!(text.ends_with(&format!("\nunordered {line} {number}\n")), "{events}: {text}");
     assert!(!text.contains("section"), "{events}: {text}");
+}
+
+/// The printed sections of a paper with an order, after demand 3 has been checked.
+fn printed_sections(head: &str, events: &str) -> Vec<String> {
+    let paper = paper_of(head, events);
+    let o = outcome(&paper);
+    assert!(matches!(o.order, Order::Sections(_)), "{events}: {o:?}");
+    assert_eq!(demand3(&o), Ok(()), "{events}");
+    print(&paper).lines().filter(|l| l.starts_with("section")).map(String::from).collect()
+}
+
+/// The event with the value that 18 asks for; an A or P has the value `free`.
+fn fitting(es: &[Event], kind: Kind, thread: u32, target: u32, free: i32) -> Event {
+    let first = |places: Vec<usize>| places.first().map_or(0, |&i| es[i].value);
+    let value = match kind {
+        U | S => copy(es, thread, target).unwrap_or(0),
+        L => first(outstanding_reads(es, thread, target)),
+        W => first(outstanding_stores(es, thread, target)),
+        R => main_memory(es, target),
+        A | P => free,
+        B => es.iter().rev().find(|e| e.kind == P && e.thread == thread && e.target == target).map_or(0, |e| e.value),
+        K | N => 0,
+    };
+    Event { kind, thread, target, value }
 }
 
 /// `times` copies of the events.

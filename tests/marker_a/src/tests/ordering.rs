@@ -6,15 +6,6 @@ use crate::{demand3, denial, outcome, plain_run, sections, Given, Order, Section
 /// Two threads, two variables, two locks; lock 0 guards variable 0, lock 1 variable 1.
 const GUARDED: &str = "H 2 2 2\nG 0 1\n";
 
-/// The printed sections of a paper with an order, after demand 3 has been checked.
-fn printed_sections(head: &str, events: &str) -> Vec<String> {
-    let paper = paper_of(head, events);
-    let o = outcome(&paper);
-    assert!(matches!(o.order, Order::Sections(_)), "{events}: {o:?}");
-    assert_eq!(demand3(&o), Ok(()), "{events}");
-    print(&paper).lines().filter(|l| l.starts_with("section")).map(String::from).collect()
-}
-
 #[test]
 fn ordering_by_first_lock_is_a_slip() {
     let events = "K 0 0; K 1 1; A 1 0 5; S 1 0 5; W 1 0 5; N 1 1; \

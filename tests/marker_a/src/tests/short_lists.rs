@@ -2,8 +2,7 @@
 //! read that cannot be loaded, and nothing else.
 
 use super::*;
-use crate::rules::{outstanding_reads, owed};
-use crate::Kind::{self, A, B, K, L, N, P, R, S, U, W};
+use crate::rules::owed;
 
 const ONE: Counts = Counts { threads: 1, variables: 1, locks: 1 };
 

@@ -1,9 +1,8 @@
 //! Papers made step by step from accepted events; demand 3 is checked on those with an order.
 
 use super::*;
-use crate::rules::{copy, fresh, held, main_memory, outstanding_reads, outstanding_stores, owed};
-use crate::Kind::{self, A, B, K, L, N, P, R, S, U, W};
-use crate::{demand3, judge, outcome, Counts, Order, Outcome, Verdict};
+use crate::rules::{assign_owed, fresh, held, owed};
+use crate::{Outcome, Verdict};
 
 /// A linear congruential generator.
 struct Dice(u64);
@@ -17,24 +16,25 @@ impl Dice {
 
 /// Kinds that finish something are drawn more often, so that sections are short.
 const KINDS: [Kind; 16] = [U, U, A, L, S, S, R, W, W, K, N, N, N, P, B, B];
+/// More K and P, so that early stores wait over an N.
+const WAITING: [Kind; 16] = [U, U, A, L, S, R, W, K, K, K, N, N, N, P, P, B];
+
+/// What a walk draws its events from.
+struct Scope<'a> {
+    counts: Counts,
+    guards: &'a [u32],
+    kinds: [Kind; 16],
+}
 
 /// A random event whose value is the one that 18 asks for.
-fn candidate(dice: &mut Dice, counts: Counts, es: &[Event]) -> Event {
-    let kind = KINDS[dice.roll(16) as usize];
+fn candidate(dice: &mut Dice, scope: &Scope, es: &[Event]) -> Event {
+    let counts = scope.counts;
+    let kind = scope.kinds[dice.roll(16) as usize];
     let thread = dice.roll(counts.threads);
     let lock_event = matches!(kind, K | N);
     let target = dice.roll(if lock_event { counts.locks } else { counts.variables });
-    let first = |places: Vec<usize>| places.first().map_or(0, |&i| es[i].value);
-    let value = match kind {
-        U | S => copy(es, thread, target).unwrap_or(0),
-        L => first(outstanding_reads(es, thread, target)),
-        W => first(outstanding_stores(es, thread, target)),
-        R => main_memory(es, target),
-        A | P => dice.roll(100) as i32,
-        B => es.iter().rev().find(|e| e.kind == P && e.thread == thread && e.target == target).map_or(0, |e| e.value),
-        K | N => 0,
-    };
-    Event { kind, thread, target, value }
+    let free = if matches!(kind, A | P) { dice.roll(100) as i32 } else { 0 };
+    fitting(es, kind, thread, target, free)
 }
 
 /// Whether 20 or 21 would deny the order at `e`.
@@ -50,12 +50,13 @@ fn denied(guards: &[u32], es: &[Event], e: &Event) -> bool {
 
 /// A walk of accepted events that 20 and 21 do not deny, and how often 23 refused one.
 /// "In a paper L can then no longer meet 15 or 16".
-fn walk(seed: u64, counts: Counts, guards: &[u32], steps: usize) -> (Vec<Event>, usize) {
+fn walk(seed: u64, scope: &Scope, steps: usize) -> (Vec<Event>, usize) {
+    let Scope { counts, guards, .. } = *scope;
     let mut dice = Dice(seed);
     let mut dead = 0;
     let mut es: Vec<Event> = Vec::new();
     for step in 0..steps {
-        let e = candidate(&mut dice, counts, &es);
+        let e = candidate(&mut dice, scope, &es);
         // In the last third nothing new begins, so that the locks are given back.
         // A fresh assign that a K has made unusable can be stored only after another assign.
         let again = e.kind == A && fresh(&es, e.thread, e.target);
@@ -83,15 +84,36 @@ fn text_of(es: &[Event]) -> String {
     es.iter().map(line).collect::<Vec<_>>().join(";")
 }
 
-#[test]
-fn demand_3_on_walks() {
-    let counts = Counts { threads: 3, variables: 2, locks: 2 };
-    let guards = [0, 1];
-    let (mut orders, mut uses, mut early, mut slips, mut refused) = (0, 0, 0, 0, 0);
-    for seed in 0..60 {
-        let (es, dead) = walk(seed, counts, &guards, 3_000);
-        refused += dead;
-        let paper = paper_of("H 3 2 2\nG 0 1\n", &text_of(&es));
+/// How many N have an early store that waits over them: outstanding, and its assign owed.
+fn waits(counts: Counts, es: &[Event]) -> usize {
+    let waiting = |before: &[Event], t| {
+        let stores = (0..counts.variables).flat_map(|v| outstanding_stores(before, t, v));
+        stores.into_iter().any(|store| assign_owed(before, store))
+    };
+    (0..es.len()).filter(|&i| es[i].kind == N && waiting(&es[..i], es[i].thread)).count()
+}
+
+/// What was met on the way, in the papers with an order; `dead` counts 23 in all of them.
+#[derive(Debug, Default)]
+struct Seen {
+    orders: usize,
+    uses: usize,
+    early: usize,
+    waited: usize,
+    slips: usize,
+    dead: usize,
+}
+
+/// Checks demand 3 on the walks of these seeds.
+fn demand_3_on(seeds: u64, scope: &Scope, steps: usize) -> Seen {
+    let Scope { counts, guards, .. } = *scope;
+    let locks: Vec<String> = guards.iter().map(u32::to_string).collect();
+    let head = format!("H {} {} {}\nG {}\n", counts.threads, counts.variables, counts.locks, locks.join(" "));
+    let mut seen = Seen::default();
+    for seed in 0..seeds {
+        let (es, dead) = walk(seed, scope, steps);
+        seen.dead += dead;
+        let paper = paper_of(&head, &text_of(&es));
         let o = outcome(&paper);
         assert_eq!(o.verdict, Verdict::Accepted(es.len()), "seed {seed}");
         assert_eq!(o.events, es, "seed {seed}");
@@ -99,14 +121,30 @@ fn demand_3_on_walks() {
         let Order::Sections(mut list) = o.order.clone() else {
             continue;
         };
-        orders += 1;
-        uses += es.iter().filter(|e| e.kind == U).count();
-        early += es.iter().filter(|e| e.kind == B).count();
+        seen.orders += 1;
+        seen.uses += es.iter().filter(|e| e.kind == U).count();
+        seen.early += es.iter().filter(|e| e.kind == B).count();
+        seen.waited += waits(counts, &es);
         list.sort_by_key(|s| s.first);
-        slips += usize::from(demand3(&Outcome { order: Order::Sections(list), ..o }).is_err());
+        seen.slips += usize::from(demand3(&Outcome { order: Order::Sections(list), ..o }).is_err());
     }
-    // Enough papers have an order, ordering by first lock fails on some of them, and 23 is met.
-    let seen = format!("orders {orders}, uses {uses}, early {early}, slips {slips}, 23 {refused}");
-    assert!(orders >= 30 && uses >= 100 && early >= 30 && slips >= 1 && refused >= 100, "{seen}");
-    println!("{seen}");
+    println!("{seen:?}");
+    seen
+}
+
+/// Enough papers have an order, ordering by first lock fails on some of them, and 23 is met.
+#[test]
+fn demand_3_on_walks() {
+    let counts = Counts { threads: 3, variables: 2, locks: 2 };
+    let seen = demand_3_on(60, &Scope { counts, guards: &[0, 1], kinds: KINDS }, 3_000);
+    assert!(seen.orders >= 30 && seen.uses >= 100 && seen.early >= 30, "{seen:?}");
+    assert!(seen.slips >= 1 && seen.dead >= 100, "{seen:?}");
+}
+
+/// "serial orders are promised for such papers too". Lock 2 guards nothing.
+#[test]
+fn demand_3_with_waiting_stores() {
+    let counts = Counts { threads: 2, variables: 2, locks: 3 };
+    let seen = demand_3_on(150, &Scope { counts, guards: &[0, 1], kinds: WAITING }, 800);
+    assert!(seen.orders >= 50 && seen.uses >= 100 && seen.waited >= 50, "{seen:?}");
 }
