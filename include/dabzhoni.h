@@ -30,10 +30,10 @@ struct dabzhoni_ring {
 
 /* What is kept for one thread and variable. */
 struct dabzhoni_cell {
-  int32_t copy;
-  int32_t announced;
-  uint32_t source;
-  uint32_t written;
+  int64_t copy;
+  int64_t announced;
+  size_t source;
+  size_t written;
   struct dabzhoni_ring reads;
   struct dabzhoni_ring stores;
   bool fresh;
@@ -42,8 +42,8 @@ struct dabzhoni_cell {
 
 /* An outstanding read or store. */
 struct dabzhoni_slot {
-  int32_t value;
-  uint32_t position;
+  int64_t value;
+  size_t position;
 };
 
 /* Who holds a lock: the thread's number plus 1, or 0, and how many times. */
@@ -52,16 +52,18 @@ struct dabzhoni_hold {
   uint32_t depth;
 };
 
-/* The state. The cell of thread t and variable v is number 16 * t + v; its eight places begin at 8 times that number. */
+/* The state. The cell of thread t and variable v is number 16 * t + v; its eight places begin at 8 times that number. source, written,
+   position and locked are positions: an event's number among those so far, from 1, or 0. Padding is no part of the state: after
+   dabzhoni_initial and after an accepted event it may be anything. A refusal leaves it as it was in all tests; no contract speaks of it. */
 struct dabzhoni_state {
   struct dabzhoni_counts counts;
   uint32_t events;
   struct dabzhoni_cell cells[128];
   struct dabzhoni_slot reads[1024];
   struct dabzhoni_slot stores[1024];
-  uint32_t locked[8];
+  size_t locked[8];
   struct dabzhoni_hold holds[8];
-  int32_t memory[16];
+  int64_t memory[16];
 };
 
 /* The number of a refusal and its line; both are 0 where the event is accepted. */
@@ -72,11 +74,38 @@ struct dabzhoni_reply {
 
 DABZHONI_ASSERT(sizeof(size_t) == 8, "a size is of 64 bits");
 DABZHONI_ASSERT(sizeof(bool) == 1, "a bool is one byte");
-DABZHONI_ASSERT(sizeof(struct dabzhoni_cell) == 24, "layout of a cell");
+DABZHONI_ASSERT(offsetof(struct dabzhoni_counts, threads) == 0, "layout of the counts");
+DABZHONI_ASSERT(offsetof(struct dabzhoni_counts, variables) == 8, "layout of the counts");
+DABZHONI_ASSERT(offsetof(struct dabzhoni_counts, locks) == 16, "layout of the counts");
+DABZHONI_ASSERT(sizeof(struct dabzhoni_counts) == 24, "layout of the counts");
+DABZHONI_ASSERT(offsetof(struct dabzhoni_ring, first) == 0, "layout of a queue");
+DABZHONI_ASSERT(offsetof(struct dabzhoni_ring, len) == 1, "layout of a queue");
+DABZHONI_ASSERT(sizeof(struct dabzhoni_ring) == 2, "layout of a queue");
+DABZHONI_ASSERT(offsetof(struct dabzhoni_cell, copy) == 0, "layout of a cell");
+DABZHONI_ASSERT(offsetof(struct dabzhoni_cell, announced) == 8, "layout of a cell");
+DABZHONI_ASSERT(offsetof(struct dabzhoni_cell, source) == 16, "layout of a cell");
+DABZHONI_ASSERT(offsetof(struct dabzhoni_cell, written) == 24, "layout of a cell");
+DABZHONI_ASSERT(offsetof(struct dabzhoni_cell, reads) == 32, "layout of a cell");
+DABZHONI_ASSERT(offsetof(struct dabzhoni_cell, stores) == 34, "layout of a cell");
+DABZHONI_ASSERT(offsetof(struct dabzhoni_cell, fresh) == 36, "layout of a cell");
+DABZHONI_ASSERT(offsetof(struct dabzhoni_cell, pending) == 37, "layout of a cell");
+DABZHONI_ASSERT(sizeof(struct dabzhoni_cell) == 40, "layout of a cell");
+DABZHONI_ASSERT(offsetof(struct dabzhoni_slot, value) == 0, "layout of a slot");
+DABZHONI_ASSERT(offsetof(struct dabzhoni_slot, position) == 8, "layout of a slot");
+DABZHONI_ASSERT(sizeof(struct dabzhoni_slot) == 16, "layout of a slot");
+DABZHONI_ASSERT(offsetof(struct dabzhoni_hold, holder) == 0, "layout of a hold");
+DABZHONI_ASSERT(offsetof(struct dabzhoni_hold, depth) == 8, "layout of a hold");
 DABZHONI_ASSERT(sizeof(struct dabzhoni_hold) == 16, "layout of a hold");
-DABZHONI_ASSERT(offsetof(struct dabzhoni_state, cells) == 28, "layout of the state");
-DABZHONI_ASSERT(offsetof(struct dabzhoni_state, holds) == 19520, "layout of the state");
-DABZHONI_ASSERT(sizeof(struct dabzhoni_state) == 19712, "layout of the state");
+DABZHONI_ASSERT(offsetof(struct dabzhoni_state, counts) == 0, "layout of the state");
+DABZHONI_ASSERT(offsetof(struct dabzhoni_state, events) == 24, "layout of the state");
+DABZHONI_ASSERT(offsetof(struct dabzhoni_state, cells) == 32, "layout of the state");
+DABZHONI_ASSERT(offsetof(struct dabzhoni_state, reads) == 5152, "layout of the state");
+DABZHONI_ASSERT(offsetof(struct dabzhoni_state, stores) == 21536, "layout of the state");
+DABZHONI_ASSERT(offsetof(struct dabzhoni_state, locked) == 37920, "layout of the state");
+DABZHONI_ASSERT(offsetof(struct dabzhoni_state, holds) == 37984, "layout of the state");
+DABZHONI_ASSERT(offsetof(struct dabzhoni_state, memory) == 38112, "layout of the state");
+DABZHONI_ASSERT(sizeof(struct dabzhoni_state) == 38240, "layout of the state");
+DABZHONI_ASSERT(offsetof(struct dabzhoni_reply, line) == 8, "layout of a reply");
 DABZHONI_ASSERT(sizeof(struct dabzhoni_reply) == 16, "layout of a reply");
 
 /* What is said of a trace. number and line are those of its refusal, both 0 where it is accepted; events is the number of events of an
@@ -103,24 +132,25 @@ DABZHONI_ASSERT(sizeof(struct dabzhoni_marked) == 56, "layout of what is said of
    scratch: all zeros where there is an order.
    All other places of these five stay as they were. Refusal 7, before all: what or values under 2,000 places, out under 32,768 bytes,
    order under 1,000 places or scratch under 2,000; nothing is touched then. Lengths are numbers of places. No pointer is null, each is
-   aligned, and no two of these six overlap. */
-struct dabzhoni_marked dabzhoni_mark(const uint8_t *paper, size_t paper_len, uint32_t *what, size_t what_len, int32_t *values,
+   aligned to its type (values, order and scratch to 8 bytes), and no two of these six overlap. */
+struct dabzhoni_marked dabzhoni_mark(const uint8_t *paper, size_t paper_len, uint32_t *what, size_t what_len, int64_t *values,
                                      size_t values_len, uint8_t *out, size_t out_len, uint64_t *order, size_t order_len,
                                      uint64_t *scratch, size_t scratch_len);
 
 /* The same where no order is wanted: refusal 7 asks the records and the output alone, the listing ends with the copies, and sections,
    denial and denial_line are 0. */
 struct dabzhoni_marked dabzhoni_mark_unordered(const uint8_t *paper, size_t paper_len, uint32_t *what, size_t what_len,
-                                               int32_t *values, size_t values_len, uint8_t *out, size_t out_len);
+                                               int64_t *values, size_t values_len, uint8_t *out, size_t out_len);
 
 /* The state before the first event. The memory must be a state already, as zeros are: each bool in it is 0 or 1. Counts out of
-   range are kept, and each step is then refused by 8. */
+   range are kept, and each step is then refused by 8. The pointer is not null and is aligned to 8 bytes, and nothing else reads or
+   writes the state during the call. */
 void dabzhoni_initial(struct dabzhoni_state *state, size_t threads, size_t variables, size_t locks);
 
 /* One event: its letter, thread, variable or lock, and value (not looked at for K and N). 8, 9, 5, then the letter's row, each with
    the events so far plus 3 as its line, and 0 for 8. A letter that is none of the ten is 4, before all others. A refusal leaves the
-   state as it was. The pointer is not null, is aligned to 8, and nothing else reads or writes the state during the call. */
-struct dabzhoni_reply dabzhoni_step(struct dabzhoni_state *state, uint8_t letter, size_t thread, size_t place, int32_t value);
+   state as it was. The pointer is not null and is aligned to 8 bytes, and nothing else reads or writes the state during the call. */
+struct dabzhoni_reply dabzhoni_step(struct dabzhoni_state *state, uint8_t letter, size_t thread, size_t place, int64_t value);
 
 #ifdef __cplusplus
 }

@@ -51,17 +51,18 @@ printf '' | paper empty
 { printf 'H 1 1 1\nG -\n'; times $many '\n'; } | closed | paper empty-event-lines
 { times 65537 ' '; } | paper 65537-bytes
 { printf 'H 1 1 1\nG -\nA '; times 65512 9; printf ' 0 0\n'; } | closed | paper 65537-bytes-closed
-awk 'BEGIN { print "H 8 16 8\nG -"; for (i = 0; i < 2000; i++) print "A", i % 8, i % 16, "-21474" (80000 + i) }' | closed | paper 2000-events
+awk 'BEGIN { print "H 8 16 8\nG -"; for (i = 0; i < 2000; i++) print "A", i % 8, i % 16, "-92233720368547" (75808 - i) }' |
+    closed | paper 2000-events
 awk 'BEGIN { print "H 8 16 8\nG -"; for (i = 0; i < 2001; i++) print "K", 0, i % 8 }' | closed | paper 2001-events
 awk 'BEGIN { print "H 1 1 1\nG 0\nK 0 0\nR 0 0 0\nL 0 0 0"; for (i = 0; i < 1996; i++) print "U 0 0 0"; print "U 0 0 1" }' |
     closed | paper last-event-refused
-# 808 sections and 128 copies of long values
+# 808 sections and 128 copies of the longest values
 awk 'BEGIN {
     printf "H 8 16 8\nG"; for (v = 0; v < 16; v++) printf " 0"; print ""
     for (i = 0; i < 800; i++) print "K 0 0\nN 0 0"
     for (t = 0; t < 8; t++) {
         print "K", t, 0
-        for (v = 0; v < 16; v++) { x = "-21474" (80000 + 16 * t + v); print "A", t, v, x; print "S", t, v, x; print "W", t, v, x }
+        for (v = 0; v < 16; v++) { x = "-92233720368547" (75808 - 16 * t - v); print "A", t, v, x; print "S", t, v, x; print "W", t, v, x }
         print "N", t, 0
     }
 }' | closed | paper long-listing

@@ -68,6 +68,7 @@ fn by_mix() {
     row("A: assigns", &mixes::assigns());
     row("R, L: reads and loads", &mixes::loads());
     row("A, S, W: long values", &mixes::stores());
+    row("A, S, W: the longest values", &mixes::longest());
 }
 
 fn by_length() {

@@ -1,12 +1,13 @@
 //! The markers that are timed, each a whole job: read, mark, records, order, listing.
 
 use comparison::c_api;
+use papers::Value;
 use std::hint::black_box;
 
 /// Memory to mark papers into. It is not cleared between papers.
 pub struct Lent {
     what: Vec<u32>,
-    values: Vec<i32>,
+    values: Vec<Value>,
     out: Vec<u8>,
     order: Vec<u64>,
     scratch: Vec<u64>,

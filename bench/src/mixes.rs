@@ -1,10 +1,13 @@
 //! The papers. All are accepted.
 
 use papers::generate::{self, Rng};
-use papers::Counts;
+use papers::{Counts, Value};
 use std::iter::{once, repeat_n};
 
 pub type Paper = Vec<u8>;
+
+/// Values within 32 bits, to pick from.
+const OF_32_BITS: &[Value] = &[1, 2, 5, -1, -7, 100, 65_536, 123_456_789, i32::MAX as Value, i32::MIN as Value];
 
 const LARGEST: &str = "H 8 16 8";
 const ONE_LOCK: &str = "G 0 0 0 0 0 0 0 0 0 0 0 0 0 0 0 0";
@@ -15,10 +18,10 @@ fn paper(head: &str, guards: &str, lines: impl Iterator<Item = String>) -> Paper
     generate::close(format!("{head}\n{guards}\n{lines}").into_bytes())
 }
 
-/// A random paper of so many events: the front of a longer one.
+/// A random paper of so many events, with values of 32 bits: the front of a longer one.
 fn random(rng: &mut Rng, length: usize) -> Paper {
     loop {
-        let (counts, guards, events) = generate::long(rng, length, 0, false);
+        let (counts, guards, events) = generate::long_of(rng, OF_32_BITS, length, 0, false);
         if let Some(front) = events.get(..length) {
             return generate::paper(counts, guards.as_deref(), front);
         }
@@ -31,11 +34,12 @@ pub fn randoms(seed: u64, length: usize, number: usize) -> Vec<Paper> {
     (0..number).map(|_| random(&mut rng, length)).collect()
 }
 
-/// Papers that have an order, of up to so many events and not much fewer, whose counts are fit.
+/// Papers that have an order, with values of 32 bits, of up to so many events and not much fewer, whose counts are fit.
 pub fn ordered(length: usize, number: usize, fit: impl Fn(Counts) -> bool) -> Vec<Paper> {
-    let fits = |seed: &u64| fit(generate::long(&mut Rng::new(*seed), 0, 0, true).0);
+    let long = |seed, length| generate::long_of(&mut Rng::new(seed), OF_32_BITS, length, 0, true);
+    let fits = |seed: &u64| fit(long(*seed, 0).0);
     let made = |seed| {
-        let (counts, guards, events) = generate::long(&mut Rng::new(seed), length - length / 10, 0, true);
+        let (counts, guards, events) = long(seed, length - length / 10);
         generate::paper(counts, guards.as_deref(), &events)
     };
     let enough = |p: &Paper| (length - length / 10..=length).contains(&events(p)) && marker_b::mark(p).contains("\nsection ");
@@ -85,10 +89,20 @@ pub fn loads() -> Vec<Paper> {
     vec![paper(LARGEST, "G -", (0..2000).map(|i| format!("{} {} {} 0", ['R', 'L'][i % 2], i / 2 % 8, i / 16 % 16)))]
 }
 
-/// Assigns, stores and writes of long values, on all variables.
-pub fn stores() -> Vec<Paper> {
-    let line = |i: usize| format!("{} 7 {} {}", ['A', 'S', 'W'][i % 3], i / 3 % 16, i32::MIN + (i / 3) as i32);
+/// Assigns, stores and writes of values from this one on, on all variables.
+fn stores_from(first: Value) -> Vec<Paper> {
+    let line = |i: usize| format!("{} 7 {} {}", ['A', 'S', 'W'][i % 3], i / 3 % 16, first + (i / 3) as Value);
     vec![paper(LARGEST, "G -", (0..1998).map(line))]
+}
+
+/// The same with long values of 32 bits, 11 bytes each.
+pub fn stores() -> Vec<Paper> {
+    stores_from(i32::MIN.into())
+}
+
+/// The same with the longest values, 20 bytes each.
+pub fn longest() -> Vec<Paper> {
+    stores_from(Value::MIN)
 }
 
 /// Sections of twenty events with all ten letters, by all threads on all variables. The paper has an order.
@@ -96,7 +110,7 @@ pub fn regular(length: usize) -> Paper {
     let mut main = [0; 16];
     let mut lines = Vec::new();
     for i in 0..length / 20 {
-        let (t, v, l, x) = (i % 8, i % 16, i % 8, 37 * i as i32);
+        let (t, v, l, x) = (i % 8, i % 16, i % 8, 37 * i as Value);
         lines.push(format!("K {t} {l}"));
         for letter in "RLU".chars() {
             lines.push(format!("{letter} {t} {v} {}", main[v]));

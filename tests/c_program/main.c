@@ -1,6 +1,7 @@
 /* A caller of the C interface: steps over a state that it keeps, and whole papers into memory that it lends. */
 #include "dabzhoni.h"
 
+#include <inttypes.h>
 #include <stdio.h>
 #include <string.h>
 
@@ -11,7 +12,7 @@ static void expect(const char *what, bool ok) {
   if (!ok) printf("%s: FAILED\n", what);
 }
 
-/* ---- steps: the short traces of document 01, traces of 02 (a) and (d), refusals 4, 5, 8 and 9, states that no events reach */
+/* ---- steps: the short traces of document 01, traces of 02 (a), (d) and (g), refusals 4, 5, 8 and 9, states that no events reach */
 
 static struct dabzhoni_state state;
 
@@ -20,8 +21,8 @@ static struct dabzhoni_reply event(const char *text) {
   static struct dabzhoni_state before;
   char letter;
   size_t thread, place;
-  int value = 0;
-  sscanf(text, "%c %zu %zu %d", &letter, &thread, &place, &value);
+  int64_t value = 0;
+  sscanf(text, "%c %zu %zu %" SCNd64, &letter, &thread, &place, &value);
   memcpy(&before, &state, sizeof state);
   struct dabzhoni_reply r = dabzhoni_step(&state, (uint8_t)letter, thread, place, value);
   bool same = memcmp(&before, &state, sizeof state) == 0;
@@ -50,6 +51,60 @@ static void reply(const char *what, const char *text, size_t number, size_t line
   expect(what, r.number == number && r.line == line);
 }
 
+/* A value in an event of each kind that has one, each accepted; copies, the announced value and main memory have it after them. */
+static void at_each_kind(int64_t x) {
+  static const char *const FORMS[] = {"A 0 0", "U 0 0", "S 0 0", "W 0 0", "R 1 0", "L 1 0", "U 1 0", "P 0 0", "W 0 0", "B 0 0"};
+  char text[64];
+  dabzhoni_initial(&state, 2, 2, 2);
+  for (size_t i = 0; i < sizeof FORMS / sizeof *FORMS; i++) {
+    snprintf(text, sizeof text, "%s %" PRId64, FORMS[i], x);
+    reply(text, text, 0, 0);
+  }
+  expect(text, state.cells[0].copy == x && state.cells[16].copy == x && state.cells[0].announced == x && state.memory[0] == x);
+}
+
+/* Values past the ends of 32 bits and at those of 64, and two that have the same low 32 bits wherever values are compared. */
+static void wide_values(void) {
+  at_each_kind(2147483648);
+  at_each_kind(-2147483649);
+  at_each_kind(INT64_MIN);
+  at_each_kind(INT64_MAX);
+  trace("A 1 1 -2147483648;S 1 1 -2147483648;W 1 1 -2147483648;R 0 1 -2147483648;L 0 1 -2147483648;U 0 1 2147483647", 18);
+  trace("A 1 1 2147483648;S 1 1 2147483648;W 1 1 2147483648;R 0 1 2147483648;L 0 1 2147483648;U 0 1 -2147483648", 18);
+  trace("A 1 1 -9223372036854775808;S 1 1 -9223372036854775808", 0);
+  expect("least copy", state.cells[16 + 1].copy == INT64_MIN);
+  expect("least value of a store", state.stores[8 * (16 + 1)].value == INT64_MIN);
+  reply("write of the least value", "W 1 1 -9223372036854775808", 0, 0);
+  expect("least value in main memory", state.memory[1] == INT64_MIN);
+  trace("P 0 0 9223372036854775807;W 0 0 9223372036854775807;R 1 0 9223372036854775807", 0);
+  expect("greatest announced value", state.cells[0].announced == INT64_MAX);
+  expect("greatest value of a read", state.reads[8 * 16].value == INT64_MAX);
+  trace("A 0 0 5;U 0 0 4294967301", 18);
+  trace("A 0 0 -1;S 0 0 9223372036854775807", 18);
+  trace("A 0 0 4294967295;S 0 0 4294967295;W 0 0 -1", 18);
+  trace("P 0 0 1;W 0 0 -9223372036854775807", 18);
+  trace("R 0 0 -9223372036854775808", 18);
+  trace("R 0 0 0;L 0 0 4294967296", 18);
+  trace("P 0 0 2147483648;B 0 0 -2147483648", 18);
+}
+
+/* Positions with the low 32 bits of one in range: 8. */
+static void wide_positions(void) {
+  size_t *const positions[] = {&state.cells[0].source, &state.cells[0].written, &state.reads[8 * 16].position, &state.stores[8].position,
+                               &state.locked[1]};
+  trace("A 0 0 5;S 0 0 5;W 0 0 5;R 1 0 5;A 0 1 1;S 0 1 1;K 1 0", 0);
+  for (size_t i = 0; i < sizeof positions / sizeof *positions; i++) {
+    size_t position = *positions[i];
+    expect("position", position > 0 && position <= state.events);
+    *positions[i] = position + ((size_t)1 << 32);
+    reply("position above 32 bits", "A 0 0 5", 8, 0);
+    *positions[i] = (size_t)1 << 63;
+    reply("position of 2^63", "A 0 0 5", 8, 0);
+    *positions[i] = position;
+  }
+  reply("positions in range", "A 0 0 5", 0, 0);
+}
+
 static void steps(void) {
   trace("U 0 0 0", 17);
   trace("R 0 0 0;L 0 0 0;U 0 0 0", 0);
@@ -64,7 +119,6 @@ static void steps(void) {
   trace("K 0 0;K 0 0;N 0 0;K 1 0", 11);
   trace("K 0 0;P 0 0 5;N 0 0", 0);
   trace("R 0 0 0;R 0 0 0;R 0 0 0;R 0 0 0;R 0 0 0;R 0 0 0;R 0 0 0;R 0 0 0;R 0 0 0", 19);
-  trace("A 1 1 -2147483648;S 1 1 -2147483648;W 1 1 -2147483648;R 0 1 -2147483648;L 0 1 -2147483648;U 0 1 2147483647", 18);
   trace("A 0 0 5;R 0 0 0", 23);
   trace("A 0 0 5;S 0 0 5;R 0 0 0", 23);
   trace("P 0 0 5;R 0 0 0", 23);
@@ -130,7 +184,7 @@ static void steps(void) {
 enum { RECORDS = 2000, OUT = 32768, ORDER = 1000, SCRATCH = 2000, FILL = 0xa5 };
 
 static uint32_t what[RECORDS + 1];
-static int32_t values[RECORDS + 1];
+static int64_t values[RECORDS + 1];
 static uint8_t out[OUT + 1];
 static uint64_t order[ORDER + 1];
 static uint64_t scratch[SCRATCH + 1];
@@ -180,6 +234,19 @@ static const struct paper PAPERS[] = {
     {.name = "no guards",
      .text = "H 2 2 2\nG -\nA 1 1 -2147483648\nA 0 0 2147483647\nZ 47\n",
      .memories = "accepted 2\nmain 0 0\nmain 1 0\ncopy 0 0 2147483647\ncopy 1 1 -2147483648\n"},
+    {.name = "ends of 64 bits",
+     .text = "H 2 2 2\nG -\nA 1 1 -9223372036854775808\nA 0 0 9223372036854775807\nP 0 1 4294967296\nW 0 1 4294967296\nZ 99\n",
+     .memories = "accepted 4\nmain 0 0\nmain 1 4294967296\ncopy 0 0 9223372036854775807\ncopy 1 1 -9223372036854775808\n"},
+    {.name = "past 64 bits",
+     .text = "H 1 1 0\nG -\nA 0 0 9223372036854775808\nZ 38\n",
+     .memories = "refused 3 4\n",
+     .number = 4,
+     .line = 3},
+    {.name = "below 64 bits",
+     .text = "H 1 1 0\nG -\nA 0 0 5\nA 0 0 -9223372036854775809\nZ 47\n",
+     .memories = "refused 4 4\n",
+     .number = 4,
+     .line = 4},
     {.name = "20",
      .text = "H 1 1 1\nG 0\nR 0 0 0\nL 0 0 0\nU 0 0 0\nZ 36\n",
      .memories = "accepted 3\nmain 0 0\ncopy 0 0 0\n",
@@ -230,9 +297,9 @@ static bool recorded(const char *text, size_t n) {
   for (size_t i = 0; i < n; i++) {
     char letter;
     unsigned thread, place;
-    int value = 0;
+    int64_t value = 0;
     text = strchr(text + 1, 10);
-    sscanf(text + 1, "%c %u %u %d", &letter, &thread, &place, &value);
+    sscanf(text + 1, "%c %u %u %" SCNd64, &letter, &thread, &place, &value);
     ok = ok && what[i] == (uint32_t)letter * 65536 + thread * 256 + place && values[i] == (letter == 'K' || letter == 'N' ? 0 : value);
   }
   return ok && untouched(what + n, what + RECORDS + 1) && untouched(values + n, values + RECORDS + 1);
@@ -303,6 +370,8 @@ static void too_long(void) {
 
 int main(void) {
   steps();
+  wide_values();
+  wide_positions();
   for (size_t i = 0; i < sizeof PAPERS / sizeof *PAPERS; i++) {
     mark(&PAPERS[i]);
     lent_too_little(&PAPERS[i]);

@@ -8,6 +8,7 @@
 #define _GNU_SOURCE
 #include "dabzhoni.h"
 
+#include <inttypes.h>
 #include <pthread.h>
 #include <stdio.h>
 #include <stdlib.h>
@@ -19,7 +20,7 @@ enum { PAGE = 4096, PAINT = 0xa5, MOST = 65537 };
 static uint8_t paper[MOST + 1];
 static size_t length;
 static uint32_t what[2000];
-static int32_t values[2000];
+static int64_t values[2000];
 static uint8_t out[32768];
 static uint64_t order[1000], scratch[2000];
 static struct dabzhoni_marked marked;
@@ -30,7 +31,7 @@ static size_t events, taken;
 static struct event {
   char letter;
   size_t thread, place;
-  int value;
+  int64_t value;
 } list[2001];
 static struct dabzhoni_reply reply;
 
@@ -92,7 +93,7 @@ static void read_events(void) {
   at = strchr(at, 10) + 1;
   for (at = strchr(at, 10) + 1; *at != 'Z' && events < 2001; at = strchr(at, 10) + 1) {
     struct event *e = &list[events++];
-    if (sscanf(at, "%c %zu %zu %d", &e->letter, &e->thread, &e->place, &e->value) < 3) exit(2);
+    if (sscanf(at, "%c %zu %zu %" SCNd64, &e->letter, &e->thread, &e->place, &e->value) < 3) exit(2);
   }
 }
 

@@ -5,3 +5,4 @@ pub mod RowLaws
 pub mod ScanLaws
 pub mod NumberLaws
 pub mod PutLaws
+pub mod WidthLaws

@@ -99,7 +99,7 @@ digits-short (suc k) n = ⊎-elim
     (λ l. rw (digits-large k n l, length-append) (omega (arith, digits-short k (n / 10))))
     (lt-or-le n 10)
 
--- no text of a number has more than 20 digits, and none of a value more than a minus and 20 digits: of 64 bits as of 32
+-- no text of a number has more than the 20 digits at which `naturalText` ends, and none of a value more than a minus and these
 pub text-short : (n : ℕ) → length (naturalText n) ≤ 20
 unfolding naturalText
 text-short n = digits-short 20 n

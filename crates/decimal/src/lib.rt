@@ -7,6 +7,7 @@ ghost use Prim.Native.Nat.{_+_, _*_, _≤_, _<_, min};
 ghost use lib.Dec.{eqb, leb};
 ghost use lib.IntN.{natAbs};
 ghost use lib.ListN.{length, drop};
+ghost use Rattle.rules.specs.Limits.{valueWidth};
 ghost use Rattle.decimal.specs.Decimal.{cap, digitsFrom, naturalOf, positiveOf, negativeOf};
 ghost use Rattle.decimal.specs.Computed.Forward.{nowhere, scan, numberUntil};
 ghost use Rattle.decimal.specs.Text.{naturalText, integerText, isNegative, rowText, wordRow, wordValue, ended, over, room, Wrote};
@@ -30,13 +31,13 @@ pub struct Reached {
     pub next: usize,
 }
 
-const CAP: usize = 9223372036854775809;
+// A value is from -LIMIT to LIMIT - 1.
+const LIMIT: usize = 9223372036854775808;
+
+const CAP: usize = LIMIT + 1;
 
 // One digit more stays below the cap.
-const PLAIN: usize = 100000000000000000;
-
-// A value is from -LIMIT to LIMIT - 1.
-const LIMIT: usize = 2147483648;
+const PLAIN: usize = CAP / 10;
 
 // Where so many bytes remain, a byte and a number are written.
 const NUMBER_ROOM: usize = 32;
@@ -179,7 +180,7 @@ pub fn number_until(s: &[u8], at: usize, d: u8) -> Reached
 
 // The value of a number without a minus.
 pub fn positive(n: Natural) -> Integer
-    ensures { λ r. ⌜ r ≡ positiveOf n ⌝ }
+    ensures { λ r. ⌜ r ≡ positiveOf valueWidth n ⌝ }
 {
     match n {
         Natural::Bad => Integer::Bad,
@@ -195,7 +196,7 @@ pub fn positive(n: Natural) -> Integer
 
 // The value of a number after a minus, which is not 0: -m as -1 - (m - 1), which does not wrap at the least value.
 pub fn negative(n: Natural) -> Integer
-    ensures { λ r. ⌜ r ≡ negativeOf n ⌝ }
+    ensures { λ r. ⌜ r ≡ negativeOf valueWidth n ⌝ }
 {
     match n {
         Natural::Bad => Integer::Bad,

@@ -12,6 +12,7 @@ use Rattle.rules.specs.declared.Kind.{Kind}
 use Rattle.rules.specs.declared.Kind.the-variants.{Use, Assign, Load, Store, Read, Write, Lock, Unlock, PrescientStore, PrescientAssign}
 use Rattle.rules.specs.declared.Named.the-variants as named
 use Rattle.rules.specs.Events.{A, B, K, L, N, P, R, S, U, W, letter, place, value, isLetter, isLockLetter, kindOf, eventWith}
+use Rattle.rules.specs.Limits.{valueWidth}
 use Rattle.lines.specs.Lines.{splitOn}
 use Rattle.lines.specs.Lines as line
 use Rattle.decimal.specs.declared.Natural.{Natural}
@@ -47,24 +48,24 @@ good-last f (x ∷ []) g = g x
 good-last f (x ∷ y ∷ xs) g = tt
 
 module _ (k : ℕ) (l : isLetter k ≡ true) where
-  good-thread : (t : ℕ) (fs : List (List ℕ)) → Good (afterThread k t fs)
+  good-thread : (t : ℕ) (fs : List (List ℕ)) → Good (afterThread valueWidth k t fs)
   good-thread t fs = by (isLockLetter k) refl
     where
-      by : (b : Bool) → isLockLetter k ≡ b → Good (cond b (last (lockEnd k t) fs) (field (λ v. last (valueEnd k t v)) fs))
+      by : (b : Bool) → isLockLetter k ≡ b → Good (cond b (last (lockEnd k t) fs) (field (λ v. last (valueEnd valueWidth k t v)) fs))
       by true q = good-last (lockEnd k t) fs (λ x. good-number (naturalOf x) (λ n. right k t n (pos 0)) (λ n. (l, λ z. refl)))
       by false q =
-          good-field (λ v. last (valueEnd k t v)) fs
-          (λ v xs. good-last (valueEnd k t v) xs (λ x. good-integer (integerOf x) (λ z. right k t v z) (λ z. (l, λ e. absurd (false≢true (sym q ∙ e))))))
+          good-field (λ v. last (valueEnd valueWidth k t v)) fs
+          (λ v xs. good-last (valueEnd valueWidth k t v) xs (λ x. good-integer (integerOf valueWidth x) (λ z. right k t v z) (λ z. (l, λ e. absurd (false≢true (sym q ∙ e))))))
 
-good-letter : (k : ℕ) (b : Bool) → isLetter k ≡ b → (fs : List (List ℕ)) → Good (cond b (field (afterThread k) fs) wrong)
-good-letter k true q fs = good-field (afterThread k) fs (good-thread k q)
+good-letter : (k : ℕ) (b : Bool) → isLetter k ≡ b → (fs : List (List ℕ)) → Good (cond b (field (afterThread valueWidth k) fs) wrong)
+good-letter k true q fs = good-field (afterThread valueWidth k) fs (good-thread k q)
 good-letter k false q fs = tt
 
-good-fields : (fs : List (List ℕ)) → Good (fromFields fs)
+good-fields : (fs : List (List ℕ)) → Good (fromFields valueWidth fs)
 good-fields [] = tt
 good-fields (x ∷ xs) = good-letter (line.letter x) (isLetter (line.letter x)) refl xs
 
-pub good : (l : List ℕ) → Good (lineOf l)
+pub good : (l : List ℕ) → Good (lineOf valueWidth l)
 unfolding lineOf
 good l = good-fields (splitOn 32 l)
 

@@ -4,3 +4,4 @@ pub mod FormLaws
 pub mod WalkLaws
 pub mod ReadLaws
 pub mod LinedLaws
+pub mod WidthLaws

@@ -10,6 +10,7 @@ use lib.Dec.{eqb, ltb}
 use lib.IntN.{pos}
 use lib.ListN.{length, getD, take, drop, drop-of-length-le}
 use lib.Seq.{drop-cons}
+use Rattle.rules.specs.Limits.{valueWidth}
 use Rattle.rules.specs.Events.{isLetter, isLockLetter}
 use Rattle.decimal.specs.declared.Natural.{Natural}
 use Rattle.decimal.specs.declared.Natural.the-variants as natural
@@ -32,7 +33,7 @@ zero-none = refl
 space-bad : (i : ℕ) (x : List ℕ) → i < length x → getD x i 0 ≡ 32 → naturalOf x ≡ natural.Bad
 space-bad i x h e = natural-bad i x h (rw (e))
 
-integer-bad : (i : ℕ) (x : List ℕ) → i < length x → getD x i 0 ≡ 32 → integerOf x ≡ integer.Bad
+integer-bad : (i : ℕ) (x : List ℕ) → i < length x → getD x i 0 ≡ 32 → integerOf valueWidth x ≡ integer.Bad
 unfolding integerOf
 integer-bad i [] h e = absurd (omega arith)
 integer-bad zero (y ∷ ys) h e = rw (ne-eqb y 45 (λ q. omega (arith, e, q)), space-bad 0 (y ∷ ys) h e)
@@ -67,35 +68,35 @@ first-not s at z h = rw (drop-cons s at 0 h) (by (eqb (getD s at 0) 10))
     by false e = z e
 
 pub plain-line : (k t v at : ℕ) (s : List ℕ) → at < length s → (getD s at 0 ≡ 45 → ⊥)
-    → stage (last (valueEnd k t v)) at (drop at s)
-    ≡ placed (numberUntil 10 at (drop at s) .next) (onInteger (positiveOf (numberUntil 10 at (drop at s) .number)) (λ z. right k t v z))
+    → stage (last (valueEnd valueWidth k t v)) at (drop at s)
+    ≡ placed (numberUntil 10 at (drop at s) .next) (onInteger (positiveOf valueWidth (numberUntil 10 at (drop at s) .number)) (λ z. right k t v z))
 unfolding numberUntil front integerOf
 plain-line k t v at s h z =
     let u = drop at s in
-    stage-last (valueEnd k t v) (λ x i h b. rw (integer-bad i x h b)) at u
+    stage-last (valueEnd valueWidth k t v) (λ x i h b. rw (integer-bad i x h b)) at u
     ∙ rw (ne-eqb _ _ (first-not s at z h)) (by (ltb (before 10 u) (length u)) (naturalOf (take (before 10 u) u)) (at + before 10 u + 1))
   where
     by : (q : Bool) (m : Natural) (e : ℕ)
-        → cond q (placed e (onInteger (positiveOf m) (λ z. right k t v z))) noLine
-        ≡ placed (cond q (reached e m) nowhere .next) (onInteger (positiveOf (cond q (reached e m) nowhere .number)) (λ z. right k t v z))
+        → cond q (placed e (onInteger (positiveOf valueWidth m) (λ z. right k t v z))) noLine
+        ≡ placed (cond q (reached e m) nowhere .next) (onInteger (positiveOf valueWidth (cond q (reached e m) nowhere .number)) (λ z. right k t v z))
     by false m e = refl
     by true natural.Bad e = refl
     by true (natural.Of n) e = refl
 
 pub minus-line : (k t v at : ℕ) (s : List ℕ) → at < length s → getD s at 0 ≡ 45
-    → stage (last (valueEnd k t v)) at (drop at s)
-    ≡ placed (numberUntil 10 (at + 1) (drop (at + 1) s) .next) (onInteger (negativeOf (numberUntil 10 (at + 1) (drop (at + 1) s) .number)) (λ z. right k t v z))
+    → stage (last (valueEnd valueWidth k t v)) at (drop at s)
+    ≡ placed (numberUntil 10 (at + 1) (drop (at + 1) s) .next) (onInteger (negativeOf valueWidth (numberUntil 10 (at + 1) (drop (at + 1) s) .number)) (λ z. right k t v z))
 unfolding numberUntil front integerOf before
 minus-line k t v at s h z =
     let u = drop (suc at) s in
     let e : at + suc (before 10 u) + 1 ≡ suc at + before 10 u + 1 = omega arith in
     rw (drop-cons s at 0 h, z, add-one at)
-    (stage-last (valueEnd k t v) (λ x i h b. rw (integer-bad i x h b)) at (45 ∷ u)
+    (stage-last (valueEnd valueWidth k t v) (λ x i h b. rw (integer-bad i x h b)) at (45 ∷ u)
     ∙ rw (ltb-suc (before 10 u) (length u), e) (by (ltb (before 10 u) (length u)) (naturalOf (take (before 10 u) u)) (suc at + before 10 u + 1)))
   where
     by : (q : Bool) (m : Natural) (e : ℕ)
-        → cond q (placed e (onInteger (negativeOf m) (λ z. right k t v z))) noLine
-        ≡ placed (cond q (reached e m) nowhere .next) (onInteger (negativeOf (cond q (reached e m) nowhere .number)) (λ z. right k t v z))
+        → cond q (placed e (onInteger (negativeOf valueWidth m) (λ z. right k t v z))) noLine
+        ≡ placed (cond q (reached e m) nowhere .next) (onInteger (negativeOf valueWidth (cond q (reached e m) nowhere .number)) (λ z. right k t v z))
     by false m e = refl
     by true natural.Bad e = refl
     by true (natural.Of n) e = refl
@@ -114,11 +115,11 @@ no-letter x [] h = h
 no-letter x (c ∷ cs) h = zero-none
 
 -- a first byte that is no letter
-none-letter : (at x : ℕ) (xs : List ℕ) → isLetter x ≡ false → stage fromFields at (x ∷ xs) ≡ noLine
+none-letter : (at x : ℕ) (xs : List ℕ) → isLetter x ≡ false → stage (fromFields valueWidth) at (x ∷ xs) ≡ noLine
 unfolding stage front before splitOn letter
 none-letter at x xs h = none-either (ltb (before 10 (x ∷ xs)) (suc (length xs))) (at + before 10 (x ∷ xs) + 1) _ (by (eqb x 10) (eqb x 32) refl)
   where
-    by : (q p : Bool) → eqb x 32 ≡ p → fromFields (splitOn 32 (take (cond q 0 (suc (before 10 xs))) (x ∷ xs))) ≡ wrong
+    by : (q p : Bool) → eqb x 32 ≡ p → fromFields valueWidth (splitOn 32 (take (cond q 0 (suc (before 10 xs))) (x ∷ xs))) ≡ wrong
     by true p r = rw zero-none
     by false true r = rw (r, zero-none)
     by false false r =
@@ -136,18 +137,18 @@ pub not-space : (x : ℕ) → isLetter x ≡ true → x ≡ 32 → ⊥
 not-space x k = letter-not x 32 k (unfold isLetter in refl)
 
 -- a letter alone at the end
-none-end : (at x : ℕ) → isLetter x ≡ true → stage fromFields at (x ∷ []) ≡ noLine
+none-end : (at x : ℕ) → isLetter x ≡ true → stage (fromFields valueWidth) at (x ∷ []) ≡ noLine
 unfolding stage before
 none-end at x k = rw (ne-eqb x 10 (not-end x k))
 
 -- a letter and no space behind it
-none-space : (at x y : ℕ) (ys : List ℕ) → isLetter x ≡ true → (y ≡ 32 → ⊥) → stage fromFields at (x ∷ y ∷ ys) ≡ noLine
+none-space : (at x y : ℕ) (ys : List ℕ) → isLetter x ≡ true → (y ≡ 32 → ⊥) → stage (fromFields valueWidth) at (x ∷ y ∷ ys) ≡ noLine
 unfolding stage front before splitOn letter
 none-space at x y ys k n =
     rw (ne-eqb x 10 (not-end x k), ne-eqb x 32 (not-space x k))
     (none-either (ltb (suc (before 10 (y ∷ ys))) (suc (suc (length ys)))) (at + suc (before 10 (y ∷ ys)) + 1) _ (by (eqb y 10)))
   where
-    by : (q : Bool) → fromFields (onFirst x (splitOn 32 (take (cond q 0 (suc (before 10 ys))) (y ∷ ys)))) ≡ wrong
+    by : (q : Bool) → fromFields valueWidth (onFirst x (splitOn 32 (take (cond q 0 (suc (before 10 ys))) (y ∷ ys)))) ≡ wrong
     by true = either-none (isLetter x)
     by false =
         let w = split-some 32 (take (before 10 ys) ys) in
@@ -155,22 +156,22 @@ none-space at x y ys k n =
 
 -- a letter and a space
 with-space : (at x : ℕ) (ys : List ℕ) → isLetter x ≡ true
-    → stage fromFields at (x ∷ 32 ∷ ys) ≡ stage (field (afterThread x)) (at + 1 + 1) ys
+    → stage (fromFields valueWidth) at (x ∷ 32 ∷ ys) ≡ stage (field (afterThread valueWidth x)) (at + 1 + 1) ys
 unfolding stage front before splitOn letter
 with-space at x ys k =
     let e : at + suc (suc (before 10 ys)) + 1 ≡ at + 1 + 1 + before 10 ys + 1 = omega arith in
     rw (ne-eqb x 10 (not-end x k), ne-eqb x 32 (not-space x k), ltb-suc (suc (before 10 ys)) (suc (length ys)), ltb-suc (before 10 ys) (length ys), k, e)
 
-pub at-none : (s : List ℕ) (at : ℕ) → at < length s → isLetter (getD s at 0) ≡ false → stage fromFields at (drop at s) ≡ noLine
+pub at-none : (s : List ℕ) (at : ℕ) → at < length s → isLetter (getD s at 0) ≡ false → stage (fromFields valueWidth) at (drop at s) ≡ noLine
 at-none s at h k = rw (drop-cons s at 0 h) (none-letter at (getD s at 0) (drop (suc at) s) k)
 
-pub at-last : (s : List ℕ) (at : ℕ) → at < length s → length s ≤ at + 1 → isLetter (getD s at 0) ≡ true → stage fromFields at (drop at s) ≡ noLine
+pub at-last : (s : List ℕ) (at : ℕ) → at < length s → length s ≤ at + 1 → isLetter (getD s at 0) ≡ true → stage (fromFields valueWidth) at (drop at s) ≡ noLine
 at-last s at h l k =
     let m : length s ≤ suc at = omega arith in
     rw (drop-cons s at 0 h, drop-of-length-le s m) (none-end at (getD s at 0) k)
 
 pub at-other : (s : List ℕ) (at : ℕ) → at + 1 < length s → isLetter (getD s at 0) ≡ true → (getD s (at + 1) 0 ≡ 32 → ⊥)
-    → stage fromFields at (drop at s) ≡ noLine
+    → stage (fromFields valueWidth) at (drop at s) ≡ noLine
 at-other s at h k n =
     let m : suc at < length s = omega arith in
     let g : at + 1 ≡ suc at = omega arith in
@@ -178,27 +179,27 @@ at-other s at h k n =
     (none-space at (getD s at 0) (getD s (suc at) 0) (drop (suc (suc at)) s) k (λ e. n (ap (λ (i : ℕ). getD s i 0) g ∙ e)))
 
 pub at-space : (s : List ℕ) (at : ℕ) → at + 1 < length s → isLetter (getD s at 0) ≡ true → getD s (at + 1) 0 ≡ 32
-    → stage fromFields at (drop at s) ≡ stage (field (afterThread (getD s at 0))) (at + 1 + 1) (drop (at + 1 + 1) s)
+    → stage (fromFields valueWidth) at (drop at s) ≡ stage (field (afterThread valueWidth (getD s at 0))) (at + 1 + 1) (drop (at + 1 + 1) s)
 at-space s at h k n =
     let m : suc at < length s = omega arith in
     let g : at + 1 ≡ suc at = omega arith in
     let b : getD s (suc at) 0 ≡ 32 = ap (λ (i : ℕ). getD s i 0) (sym g) ∙ n in
     let g2 : suc (suc at) ≡ at + 1 + 1 = omega arith in
-    ap (λ (u : List ℕ). stage fromFields at u) (drop-cons s at 0 (omega arith) ∙ ap (λ (u : List ℕ). getD s at 0 ∷ u) (drop-cons s (suc at) 0 m ∙ ap (λ (z : ℕ). z ∷ drop (suc (suc at)) s) b))
+    ap (λ (u : List ℕ). stage (fromFields valueWidth) at u) (drop-cons s at 0 (omega arith) ∙ ap (λ (u : List ℕ). getD s at 0 ∷ u) (drop-cons s (suc at) 0 m ∙ ap (λ (z : ℕ). z ∷ drop (suc (suc at)) s) b))
     ∙ with-space at (getD s at 0) (drop (suc (suc at)) s) k
-    ∙ ap (λ (i : ℕ). stage (field (afterThread (getD s at 0))) (at + 1 + 1) (drop i s)) g2
+    ∙ ap (λ (i : ℕ). stage (field (afterThread valueWidth (getD s at 0))) (at + 1 + 1) (drop i s)) g2
 
 pub stage-out : (f : List (List ℕ) → Fields) (s : List ℕ) (at : ℕ) → length s ≤ at → noLine ≡ stage f at (drop at s)
 unfolding stage before
 stage-out f s at h = rw (drop-of-length-le s h)
 
-pub thread-none : (k t : ℕ) → afterThread k t [] ≡ wrong
+pub thread-none : (k t : ℕ) → afterThread valueWidth k t [] ≡ wrong
 thread-none k t = either-none (isLockLetter k)
 
-pub thread-lock : (k t at : ℕ) (u : List ℕ) → isLockLetter k ≡ true → stage (last (lockEnd k t)) at u ≡ stage (afterThread k t) at u
+pub thread-lock : (k t at : ℕ) (u : List ℕ) → isLockLetter k ≡ true → stage (last (lockEnd k t)) at u ≡ stage (afterThread valueWidth k t) at u
 unfolding stage
 thread-lock k t at u e = rw e
 
-pub thread-value : (k t at : ℕ) (u : List ℕ) → isLockLetter k ≡ false → stage (field (λ v. last (valueEnd k t v))) at u ≡ stage (afterThread k t) at u
+pub thread-value : (k t at : ℕ) (u : List ℕ) → isLockLetter k ≡ false → stage (field (λ v. last (valueEnd valueWidth k t v))) at u ≡ stage (afterThread valueWidth k t) at u
 unfolding stage
 thread-value k t at u e = rw e

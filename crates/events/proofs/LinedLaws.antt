@@ -6,6 +6,7 @@ use mathlib.Core.Path.{_≡_, refl, sym, ap, _∙_}
 use mathlib.Core.Bool.{Bool, true, false, cond}
 use mathlib.Core.List.{List, [], _∷_}
 use mathlib.Core.Option.{Option, none, some}
+use mir.Syntax.{Width}
 use lib.Dec.{leb}
 use lib.ListN.{length, getD}
 use Rattle.rules.specs.declared.Event.{Event}
@@ -16,9 +17,9 @@ use Rattle.rules.specs.Limits.{Limits}
 use Rattle.rules.specs.Reading.{readFrom}
 use Rattle.events.specs.Events.{Fields, wrong, right, lineOf, eventIn, eventOf, readings}
 
-pub event-line : (n : ℕ) (l : List ℕ) (e : Event) → eventOf n l ≡ some e → e .line ≡ n
+pub event-line : (w : Width) (n : ℕ) (l : List ℕ) (e : Event) → eventOf w n l ≡ some e → e .line ≡ n
 unfolding eventOf
-event-line n l e q = by (lineOf l) q
+event-line w n l e q = by (lineOf w l) q
   where
     with-kind : (t : ℕ) (k : Named) → eventWith n t k ≡ some e → e .line ≡ n
     with-kind t named.Nothing q = absurd (let z : _≡_ {A = ℕ} 0 1 = cc in omega arith)
@@ -33,18 +34,18 @@ abbrev pub Lined : ℕ → List Event → Type 0
 Lined n [] = Unit {0}
 Lined n (e ∷ es) = (e .line ≡ n) × Lined (suc n) es
 
-pub read-lined : (m : Limits) (k n : ℕ) (ls : List (List ℕ)) → Lined n (readFrom m k (readings n ls))
+pub read-lined : (m : Limits) (k n : ℕ) (ls : List (List ℕ)) → Lined n (readFrom m k (readings (m .width) n ls))
 unfolding readFrom readings
 read-lined m k n [] = tt
-read-lined m k n (l ∷ ls) = by (eventOf n l) refl (read-lined m (suc k) (suc n) ls)
+read-lined m k n (l ∷ ls) = by (eventOf (m .width) n l) refl (read-lined m (suc k) (suc n) ls)
   where
-    on : (e : Event) (b : Bool) → e .line ≡ n → Lined (suc n) (readFrom m (suc k) (readings (suc n) ls)) → Lined n (cond b [] (e ∷ readFrom m (suc k) (readings (suc n) ls)))
+    on : (e : Event) (b : Bool) → e .line ≡ n → Lined (suc n) (readFrom m (suc k) (readings (m .width) (suc n) ls)) → Lined n (cond b [] (e ∷ readFrom m (suc k) (readings (m .width) (suc n) ls)))
     on e true q r = tt
     on e false q r = (q, r)
 
-    by : (o : Option Event) → eventOf n l ≡ o → Lined (suc n) (readFrom m (suc k) (readings (suc n) ls)) → Lined n (readFrom m k (o ∷ readings (suc n) ls))
+    by : (o : Option Event) → eventOf (m .width) n l ≡ o → Lined (suc n) (readFrom m (suc k) (readings (m .width) (suc n) ls)) → Lined n (readFrom m k (o ∷ readings (m .width) (suc n) ls))
     by none q r = tt
-    by (some e) q r = on e (leb (m .events) k) (event-line n l e q) r
+    by (some e) q r = on e (leb (m .events) k) (event-line (m .width) n l e q) r
 
 lined-at : (n : ℕ) (es : List Event) (d : Event) → Lined n es → (i : ℕ) → i < length es → getD es i d .line ≡ i + n
 lined-at n [] d w i h = absurd (not-suc-le-zero h)

@@ -13,7 +13,7 @@ use Rattle.rules.specs.declared.Event.{Event}
 use Rattle.rules.specs.declared.Counts.{Counts}
 use Rattle.rules.specs.declared.Verdict.{Verdict}
 use Rattle.rules.specs.declared.Verdict.the-variants.{Accepted, Refused}
-use Rattle.rules.specs.Limits.{full, firstLine, lineAfter}
+use Rattle.rules.specs.Limits.{full, firstLine, lineAfter, valueWidth}
 use Rattle.rules.specs.Rules.{told}
 use Rattle.rules.specs.Reading.{readFrom, stopFrom}
 use Rattle.decimal.specs.Text.{over}
@@ -37,7 +37,7 @@ row-length f es row o q h = ap length q ∙ over-length (map f es) o (omega (ari
 
 -- the lines from the n-th on
 abbrev left : Counts → List ℕ → ℕ → ℕ → List (Option Event)
-left h s at n = readings (lineAfter h n) (partLines (drop at s))
+left h s at n = readings valueWidth (lineAfter h n) (partLines (drop at s))
 
 -- after n events, at the line that starts at `at`, with the rows as they were at the start, at `from`, and as they are now
 pub record Turn (h : Counts) (s : List ℕ) (from : ℕ) (what₀ : List ℕ) (value₀ : List ℤ) (what : List ℕ) (value : List ℤ) (at n : ℕ) : Type 0 where
@@ -56,8 +56,8 @@ turn-start h s from what value =
       past = [];
       count = refl;
       small = omega arith;
-      read = ap (λ (l : ℕ). readFrom full 0 (readings l (partLines (drop from s)))) e;
-      stop = ap (λ (l : ℕ). stopFrom full h 0 (readings l (partLines (drop from s)))) e;
+      read = ap (λ (l : ℕ). readFrom full 0 (readings valueWidth l (partLines (drop from s)))) e;
+      stop = ap (λ (l : ℕ). stopFrom full h 0 (readings valueWidth l (partLines (drop from s)))) e;
       what-is = refl;
       value-is = refl;
     }
@@ -96,7 +96,7 @@ module _ {h : Counts} {s what₀ what : List ℕ} {value₀ value : List ℤ} {f
           next : left h s at n ≡ some (v .event) ∷ rest
           next =
               let k : suc (lineAfter h n) ≡ lineAfter h (n + 1) = omega arith in
-              v .lines ∙ (λ j. some (v .event) ∷ readings (k j) (partLines (drop (sym e j .next) s)))
+              v .lines ∙ (λ j. some (v .event) ∷ readings valueWidth (k j) (partLines (drop (sym e j .next) s)))
 
           read-on : readFrom full n (some (v .event) ∷ rest) ≡ v .event ∷ readFrom full (n + 1) rest
           read-on = unfold readFrom in rw (lt-leb (full .events) n i, add-one n)
@@ -117,7 +117,7 @@ module _ {h : Counts} {s what₀ what : List ℕ} {value₀ value : List ℤ} {f
       }
 
   pub turn-end : length s ≤ at → Reads h (drop from s) (record { count = n; verdict = Accepted }) what₀ what value₀ value
-  turn-end i = finish [] Accepted (ap (readings (lineAfter h n)) (part-none s at i) ∙ (unfold readings in refl)) (unfold readFrom in refl) (unfold stopFrom in refl)
+  turn-end i = finish [] Accepted (ap (readings valueWidth (lineAfter h n)) (part-none s at i) ∙ (unfold readings in refl)) (unfold readFrom in refl) (unfold stopFrom in refl)
 
   -- a line that is no event
   pub turn-wrong : (l : Line) (line : ℕ) → l ≡ lineAt s at → at < length s → l .letter ≡ 0 → line ≡ lineAfter h n
@@ -131,5 +131,5 @@ module _ {h : Counts} {s what₀ what : List ℕ} {value₀ value : List ℤ} {f
       → Reads h (drop from s) (record { count = n; verdict = Refused 9 line }) what₀ what value₀ value
   turn-full l line e z i k =
       let v = here (lineAfter h n) s at (λ y. z (ap (λ (l : Line). l .letter) e ∙ y)) in
-      finish (some (v .event) ∷ readings (suc (lineAfter h n)) (partLines (drop (lineAt s at .next) s))) (Refused 9 line) (v .lines)
+      finish (some (v .event) ∷ readings valueWidth (suc (lineAfter h n)) (partLines (drop (lineAt s at .next) s))) (Refused 9 line) (v .lines)
       (unfold readFrom in rw (le-leb (full .events) n i)) (unfold stopFrom in rw (le-leb (full .events) n i) (ap (λ (j : ℕ). told (Refused 9 j)) k))

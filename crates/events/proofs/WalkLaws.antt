@@ -11,6 +11,7 @@ use borrow.Author.Tests.{lt-ltb, ltb-true}
 use lib.Dec.{ltb}
 use lib.ListN.{length, take, drop, length-drop, drop-of-length-le}
 use lib.Seq.{drop-drop}
+use Rattle.rules.specs.Limits.{valueWidth}
 use Rattle.rules.specs.declared.Event.{Event}
 use Rattle.rules.specs.Events.{isLetter}
 use Rattle.lines.specs.Lines.{before, upTo, splitOn, ended, letter, linesOf}
@@ -66,24 +67,24 @@ part-within (suc n) s l w =
 -- ---- the line at `at`, which is line n
 
 at-as : (s : List ℕ) (at : ℕ) → lineAt s at
-    ≡ cond (ltb (before 10 (drop at s)) (length (drop at s))) (placed (at + before 10 (drop at s) + 1) (lineOf (front (drop at s)))) noLine
+    ≡ cond (ltb (before 10 (drop at s)) (length (drop at s))) (placed (at + before 10 (drop at s) + 1) (lineOf valueWidth (front (drop at s)))) noLine
 unfolding lineAt stage lineOf
 at-as s at = refl
 
 at-ended : (s : List ℕ) (at : ℕ) → before 10 (drop at s) < length (drop at s)
-    → lineAt s at ≡ placed (at + before 10 (drop at s) + 1) (lineOf (front (drop at s)))
-at-ended s at h = at-as s at ∙ ap (λ (q : Bool). cond q (placed (at + before 10 (drop at s) + 1) (lineOf (front (drop at s)))) noLine) (lt-ltb _ _ h)
+    → lineAt s at ≡ placed (at + before 10 (drop at s) + 1) (lineOf valueWidth (front (drop at s)))
+at-ended s at h = at-as s at ∙ ap (λ (q : Bool). cond q (placed (at + before 10 (drop at s) + 1) (lineOf valueWidth (front (drop at s)))) noLine) (lt-ltb _ _ h)
 
 -- it is the event that its numbers say, and the next line starts where they say
 pub record Here (n : ℕ) (s : List ℕ) (at : ℕ) (l : Line) : Type 0 where
   pub event : Event
-  pub lines : readings n (partLines (drop at s)) ≡ some event ∷ readings (suc n) (partLines (drop (l .next) s))
+  pub lines : readings valueWidth n (partLines (drop at s)) ≡ some event ∷ readings valueWidth (suc n) (partLines (drop (l .next) s))
   pub what-is : packed event ≡ whatOf (l .letter) (l .thread) (l .place)
   pub value-is : valueIn event ≡ l .value
   pub more : at < l .next
 
 pub here : (n : ℕ) (s : List ℕ) (at : ℕ) → (lineAt s at .letter ≡ 0 → ⊥) → Here n s at (lineAt s at)
-here n s at z = rw (at-as s at) (by (ltb (before 10 t) (length t)) refl (lineOf (front t)) refl (good (front t)) (λ e. z (ap (λ (l : Line). l .letter) (at-as s at) ∙ e)))
+here n s at z = rw (at-as s at) (by (ltb (before 10 t) (length t)) refl (lineOf valueWidth (front t)) refl (good (front t)) (λ e. z (ap (λ (l : Line). l .letter) (at-as s at) ∙ e)))
   where
     t : List ℕ
     t = drop at s
@@ -91,13 +92,13 @@ here n s at z = rw (at-as s at) (by (ltb (before 10 t) (length t)) refl (lineOf 
     e : ℕ
     e = at + before 10 t + 1
 
-    behind : (x : Option Event) → eventOf n (front t) ≡ x → before 10 t < length t → readings n (partLines (drop at s)) ≡ x ∷ readings (suc n) (partLines (drop e s))
+    behind : (x : Option Event) → eventOf valueWidth n (front t) ≡ x → before 10 t < length t → readings valueWidth n (partLines (drop at s)) ≡ x ∷ readings valueWidth (suc n) (partLines (drop e s))
     behind x q h =
         let m : at + (before 10 t + 1) ≡ e = omega arith in
         let d : drop (before 10 t + 1) t ≡ drop e s = drop-drop (before 10 t + 1) at s ∙ ap (λ (i : ℕ). drop i s) m in
-        ap (readings n) (front-more t h ∙ ap (λ (u : List ℕ). front t ∷ partLines u) d) ∙ (unfold readings in ap (λ (y : Option Event). y ∷ readings (suc n) (partLines (drop e s))) q)
+        ap (readings valueWidth n) (front-more t h ∙ ap (λ (u : List ℕ). front t ∷ partLines u) d) ∙ (unfold readings in ap (λ (y : Option Event). y ∷ readings valueWidth (suc n) (partLines (drop e s))) q)
 
-    by : (q : Bool) → ltb (before 10 t) (length t) ≡ q → (f : Fields) → lineOf (front t) ≡ f → Good f → (cond q (placed e f) noLine .letter ≡ 0 → ⊥) → Here n s at (cond q (placed e f) noLine)
+    by : (q : Bool) → ltb (before 10 t) (length t) ≡ q → (f : Fields) → lineOf valueWidth (front t) ≡ f → Good f → (cond q (placed e f) noLine .letter ≡ 0 → ⊥) → Here n s at (cond q (placed e f) noLine)
     by false r f w g z = absurd (z refl)
     by true r wrong w g z = absurd (z refl)
     by true r (right k u p x) w g z =
@@ -113,25 +114,25 @@ here n s at z = rw (at-as s at) (by (ltb (before 10 t) (length t)) refl (lineOf 
 -- it is no event
 pub record Wrong (n : ℕ) (s : List ℕ) (at : ℕ) : Type 0 where
   pub rest : List (Option Event)
-  pub lines : readings n (partLines (drop at s)) ≡ none ∷ rest
+  pub lines : readings valueWidth n (partLines (drop at s)) ≡ none ∷ rest
 
-empty-none : (n : ℕ) → eventOf n [] ≡ none
+empty-none : (n : ℕ) → eventOf valueWidth n [] ≡ none
 unfolding eventOf lineOf splitOn letter
 empty-none n = rw zero-none
 
 pub wrong-here : (n : ℕ) (s : List ℕ) (at : ℕ) → at < length s → lineAt s at .letter ≡ 0 → Wrong n s at
 wrong-here n s at inside z = ⊎-elim
-    (λ h. record { rest = readings (suc n) (partLines (drop (before 10 t + 1) t)); lines = first (front t) (partLines (drop (before 10 t + 1) t)) (front-more t h) (by h (lineOf (front t)) refl (good (front t))) })
-    (λ h. record { rest = readings (suc n) []; lines = first [] [] (part-tail t (omega (arith, length-drop at s)) h) (empty-none n) })
+    (λ h. record { rest = readings valueWidth (suc n) (partLines (drop (before 10 t + 1) t)); lines = first (front t) (partLines (drop (before 10 t + 1) t)) (front-more t h) (by h (lineOf valueWidth (front t)) refl (good (front t))) })
+    (λ h. record { rest = readings valueWidth (suc n) []; lines = first [] [] (part-tail t (omega (arith, length-drop at s)) h) (empty-none n) })
     (lt-or-le (before 10 t) (length t))
   where
     t : List ℕ
     t = drop at s
 
-    first : (l : List ℕ) (ls : List (List ℕ)) → partLines t ≡ l ∷ ls → eventOf n l ≡ none → readings n (partLines t) ≡ none ∷ readings (suc n) ls
-    first l ls q e = ap (readings n) q ∙ (unfold readings in ap (λ (y : Option Event). y ∷ readings (suc n) ls) e)
+    first : (l : List ℕ) (ls : List (List ℕ)) → partLines t ≡ l ∷ ls → eventOf valueWidth n l ≡ none → readings valueWidth n (partLines t) ≡ none ∷ readings valueWidth (suc n) ls
+    first l ls q e = ap (readings valueWidth n) q ∙ (unfold readings in ap (λ (y : Option Event). y ∷ readings valueWidth (suc n) ls) e)
 
-    by : before 10 t < length t → (f : Fields) → lineOf (front t) ≡ f → Good f → eventOf n (front t) ≡ none
+    by : before 10 t < length t → (f : Fields) → lineOf valueWidth (front t) ≡ f → Good f → eventOf valueWidth n (front t) ≡ none
     by h wrong w g = unfold eventOf in ap (eventIn n) w
     by h (right k u p x) w g =
         let q : k ≡ 0 = sym (ap (λ (l : Line). l .letter) (at-ended s at h ∙ ap (placed (at + before 10 t + 1)) w)) ∙ z in

@@ -4,6 +4,7 @@ use mathlib.Core.List.{List, [], _∷_}
 use mathlib.Core.Option.{Option, none}
 use mathlib.Core.Bool.{cond}
 use lib.IntN.{ℤ, pos}
+use mir.Syntax.{Width}
 use Rattle.rules.specs.declared.Event.{Event}
 use Rattle.rules.specs.Events.{isLetter, isLockLetter, kindOf, eventWith}
 use Rattle.lines.specs.Lines.{splitOn, letter}
@@ -24,7 +25,7 @@ abbrev pub onNumber : Natural → (ℕ → Fields) → Fields
 onNumber natural.Bad f = wrong
 onNumber (natural.Of n) f = f n
 
--- A value outside 32 bits is 4.
+-- a value outside its width is 4
 abbrev pub onInteger : Integer → (ℤ → Fields) → Fields
 onInteger integer.Bad f = wrong
 onInteger integer.Outside f = wrong
@@ -45,24 +46,24 @@ last f (x ∷ y ∷ xs) = wrong
 abbrev pub lockEnd : ℕ → ℕ → List ℕ → Fields
 lockEnd k t x = onNumber (naturalOf x) (λ l. right k t l (pos 0))
 
-abbrev pub valueEnd : ℕ → ℕ → ℕ → List ℕ → Fields
-valueEnd k t v x = onInteger (integerOf x) (λ z. right k t v z)
+abbrev pub valueEnd : Width → ℕ → ℕ → ℕ → List ℕ → Fields
+valueEnd w k t v x = onInteger (integerOf w x) (λ z. right k t v z)
 
 -- `K t l` lock and `N t l` unlock. The others are letter, thread, variable, value.
-abbrev pub afterThread : ℕ → ℕ → List (List ℕ) → Fields
-afterThread k t fs = cond (isLockLetter k) (last (lockEnd k t) fs) (field (λ v. last (valueEnd k t v)) fs)
+abbrev pub afterThread : Width → ℕ → ℕ → List (List ℕ) → Fields
+afterThread w k t fs = cond (isLockLetter k) (last (lockEnd k t) fs) (field (λ v. last (valueEnd w k t v)) fs)
 
 -- every byte other than the ten letters is refused with 4
-abbrev pub afterLetter : ℕ → List (List ℕ) → Fields
-afterLetter k fs = cond (isLetter k) (field (afterThread k) fs) wrong
+abbrev pub afterLetter : Width → ℕ → List (List ℕ) → Fields
+afterLetter w k fs = cond (isLetter k) (field (afterThread w k) fs) wrong
 
-abbrev pub fromFields : List (List ℕ) → Fields
-fromFields [] = wrong
-fromFields (x ∷ xs) = afterLetter (letter x) xs
+abbrev pub fromFields : Width → List (List ℕ) → Fields
+fromFields w [] = wrong
+fromFields w (x ∷ xs) = afterLetter w (letter x) xs
 
--- a line without its end
-unfoldable pub lineOf : List ℕ → Fields
-lineOf l = fromFields (splitOn 32 l)
+-- a line without its end, its value of this width
+unfoldable pub lineOf : Width → List ℕ → Fields
+lineOf w l = fromFields w (splitOn 32 l)
 
 -- ---- the event of a line
 
@@ -71,13 +72,13 @@ eventIn n wrong = none
 eventIn n (right k t p x) = eventWith n t (kindOf k p x)
 
 -- line n, without its end, as an event; none where it is no event of this form
-unfoldable pub eventOf : ℕ → List ℕ → Option Event
-eventOf n l = eventIn n (lineOf l)
+unfoldable pub eventOf : Width → ℕ → List ℕ → Option Event
+eventOf w n l = eventIn n (lineOf w l)
 
 -- lines from the n-th on
-unfoldable pub readings : ℕ → List (List ℕ) → List (Option Event)
-readings n [] = []
-readings n (l ∷ ls) = eventOf n l ∷ readings (suc n) ls
+unfoldable pub readings : Width → ℕ → List (List ℕ) → List (Option Event)
+readings w n [] = []
+readings w n (l ∷ ls) = eventOf w n l ∷ readings w (suc n) ls
 
 -- ---- the lines of any bytes
 

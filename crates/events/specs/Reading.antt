@@ -7,7 +7,7 @@ use lib.IntN.{ℤ}
 use lib.ListN.{length}
 use Rattle.rules.specs.declared.Event.{Event}
 use Rattle.rules.specs.declared.Counts.{Counts}
-use Rattle.rules.specs.Limits.{full, firstLine}
+use Rattle.rules.specs.Limits.{full, firstLine, valueWidth}
 use Rattle.rules.specs.Rules.{told}
 use Rattle.rules.specs.Reading.{readFrom, stopFrom}
 use Rattle.decimal.specs.Text.{over}
@@ -17,7 +17,7 @@ use Rattle.events.specs.Events.{readings, partLines}
 
 -- the lines of any bytes, each an event or none
 abbrev pub linesRead : Counts → List ℕ → List (Option Event)
-linesRead h s = readings (firstLine h) (partLines s)
+linesRead h s = readings valueWidth (firstLine h) (partLines s)
 
 -- the events up to the first line that is none, at most 2,000
 abbrev pub eventsRead : Counts → List ℕ → List Event

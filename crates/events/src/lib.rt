@@ -7,7 +7,7 @@ use rules::Verdict;
 ghost use mathlib.Core.Path.{_≡_};
 ghost use Prim.Native.Nat.{_≤_};
 ghost use lib.ListN.{length, drop};
-ghost use Rattle.rules.specs.Limits.{full};
+ghost use Rattle.rules.specs.Limits.{full, valueWidth};
 ghost use Rattle.events.specs.Events.{onInteger, right, last, lockEnd, valueEnd, field, afterThread};
 ghost use Rattle.events.specs.Computed.Lines.{noLine, placed, stage, lineAt};
 ghost use Rattle.events.specs.Reading.{Reads};
@@ -75,7 +75,7 @@ fn made(k: u8, t: usize, v: usize, x: Integer, e: usize) -> Line
 
 // The last field of an event with a value.
 fn value_end(s: &[u8], at: usize, k: u8, t: usize, v: usize) -> Line
-    ensures { λ r. ⌜ r ≡ stage (last (valueEnd k t v)) at (drop at (now (s .entry))) ⌝ }
+    ensures { λ r. ⌜ r ≡ stage (last (valueEnd valueWidth k t v)) at (drop at (now (s .entry))) ⌝ }
 {
     if s.len() <= at {
         return no_line();
@@ -92,7 +92,7 @@ fn value_end(s: &[u8], at: usize, k: u8, t: usize, v: usize) -> Line
 
 // The fields behind the thread: a lock, or a variable and a value.
 fn after_thread(s: &[u8], at: usize, k: u8, t: usize) -> Line
-    ensures { λ r. ⌜ r ≡ stage (afterThread k t) at (drop at (now (s .entry))) ⌝ }
+    ensures { λ r. ⌜ r ≡ stage (afterThread valueWidth k t) at (drop at (now (s .entry))) ⌝ }
 {
     if rules::is_lock_letter(k) {
         return lock_end(s, at, k, t);
@@ -107,7 +107,7 @@ fn after_thread(s: &[u8], at: usize, k: u8, t: usize) -> Line
 
 // The fields behind the letter.
 fn after_letter(s: &[u8], at: usize, k: u8) -> Line
-    ensures { λ r. ⌜ r ≡ stage (field (afterThread k)) at (drop at (now (s .entry))) ⌝ }
+    ensures { λ r. ⌜ r ≡ stage (field (afterThread valueWidth k)) at (drop at (now (s .entry))) ⌝ }
 {
     let r = decimal::number_until(s, at, 32);
     let n = r.number;

@@ -170,8 +170,8 @@ fn canonical() {
 fn limits() {
     let locks: [usize; 1] = [0];
     guards(false, &locks);
-    event(7, Kind::Assign(15, -2147483648));
-    event(7, Kind::Load(15, 2147483647));
+    event(7, Kind::Assign(15, -9223372036854775808));
+    event(7, Kind::Load(15, 9223372036854775807));
     event(0, Kind::PrescientStore(15, -1));
     event(7, Kind::PrescientAssign(0, 100));
     event(18446744073709551615, Kind::Lock(18446744073709551615));
@@ -230,9 +230,9 @@ fn rows() {
         variables: 2,
         locks: 2,
     };
-    // A 0 0 5, S 0 0 5, W 0 0 5
+    // A 0 0, S 0 0, W 0 0, with the greatest value
     let stored: [u32; 3] = [4259840, 5439488, 5701632];
-    let five: [Value; 3] = [5, 5, 5];
+    let most: [Value; 3] = [9223372036854775807; 3];
     // X 0 0
     let letter: [u32; 1] = [5767168];
     let one: [Value; 1] = [0];
@@ -241,10 +241,10 @@ fn rows() {
     let differ: [Value; 3] = [0, 5, 0];
     let long = [4259840u32; 2001];
     let fives: [Value; 2001] = [5; 2001];
-    marked(h, &stored, &five);
+    marked(h, &stored, &most);
     marked(h, &letter, &one);
     marked(h, &stored, &one);
-    marked(none, &stored, &five);
+    marked(none, &stored, &most);
     marked(h, &loaded, &differ);
     marked(h, &long, &fives);
 }
@@ -312,12 +312,12 @@ fn kinds(h: Counts) {
     s = step(s, 0, Kind::Read(0, 0));
     s = step(s, 0, Kind::Load(0, 0));
     s = step(s, 0, Kind::Use(0, 0));
-    s = step(s, 0, Kind::Assign(0, 5));
-    s = step(s, 0, Kind::Store(0, 5));
-    s = step(s, 0, Kind::Write(0, 5));
-    s = step(s, 0, Kind::PrescientStore(0, 6));
-    s = step(s, 0, Kind::Write(0, 6));
-    s = step(s, 0, Kind::PrescientAssign(0, 6));
+    s = step(s, 0, Kind::Assign(0, 9223372036854775807));
+    s = step(s, 0, Kind::Store(0, 9223372036854775807));
+    s = step(s, 0, Kind::Write(0, 9223372036854775807));
+    s = step(s, 0, Kind::PrescientStore(0, -9223372036854775808));
+    s = step(s, 0, Kind::Write(0, -9223372036854775808));
+    s = step(s, 0, Kind::PrescientAssign(0, -9223372036854775808));
     s = step(s, 0, Kind::Unlock(0));
     held(s);
     s = step(s, 2, Kind::Lock(0));
@@ -394,9 +394,9 @@ fn fill(places: usize, what: &[u32], values: &[Value], n: usize)
 // As many events as are asked for, as there are records, as are lent, as there are values, as are lent again.
 fn fills() {
     io::write_all(STDOUT_FILENO, b"rows of events\n");
-    // K 0 0, A 0 1 -5, N 0 0
+    // K 0 0, A 0 1 and the least value, N 0 0
     let what: [u32; 3] = [4915200, 4259841, 5111808];
-    let values: [Value; 3] = [0, -5, 0];
+    let values: [Value; 3] = [0, -9223372036854775808, 0];
     let one: [Value; 1] = [0];
     let many = [4915200u32; 7];
     let zeros: [Value; 7] = [0; 7];
@@ -495,7 +495,13 @@ fn traces(paper: &[u8]) {
     eventful_in(paper, 2000, 32768, 999, 2000);
     eventful_in(paper, 2000, 32768, 1000, 1999);
     eventful_in(b"H 2 1 1\nG 0\nU 0 0 0\nZ 20\n", 2000, 32768, 1000, 2000);
-    eventful_in(b"H 1 1 1\nG 0\nA 0 0 5\nZ 20\n", 2000, 32768, 1000, 2000);
+    eventful_in(
+        b"H 1 1 1\nG 0\nA 0 0 -9223372036854775808\nZ 39\n",
+        2000,
+        32768,
+        1000,
+        2000,
+    );
     eventful_in(paper, 2000, 32768, 1000, 2000);
 }
 

@@ -60,7 +60,7 @@ pub struct StoresTurn {
 pub struct LockTurn {
     pub rule: u8,
     pub hold: Hold,
-    pub locked: u32,
+    pub locked: usize,
 }
 
 // ---- Queues.
@@ -115,7 +115,7 @@ struct Checks {
     pub fifth: bool,
 }
 
-fn use_checks(c: Cell, locked: u32, x: Value) -> Checks
+fn use_checks(c: Cell, locked: usize, x: Value) -> Checks
     ensures { λ r. ⌜ r ≡ useChecks c locked x ⌝ }
 {
     Checks {
@@ -154,7 +154,7 @@ fn load_checks(c: Cell, s: Slot, x: Value) -> Checks
     }
 }
 
-fn store_checks(c: Cell, locked: u32, x: Value) -> Checks
+fn store_checks(c: Cell, locked: usize, x: Value) -> Checks
     ensures { λ r. ⌜ r ≡ storeChecks c locked x ⌝ }
 {
     let o = c.stores;
@@ -316,13 +316,13 @@ fn first_of(b: Checks, row: [u8; 5]) -> u8
 
 // ---- What an event leaves. `p` is its position.
 
-fn later(a: u32, b: u32) -> u32
+fn later(a: usize, b: usize) -> usize
     ensures { λ r. ⌜ r ≡ max a b ⌝ }
 {
     if a < b { b } else { a }
 }
 
-fn assigned(c: Cell, x: Value, p: u32) -> Cell
+fn assigned(c: Cell, x: Value, p: usize) -> Cell
     ensures { λ r. ⌜ r ≡ nextCell p noSlot Assign x c ⌝ }
 {
     let mut d = c;
@@ -332,7 +332,7 @@ fn assigned(c: Cell, x: Value, p: u32) -> Cell
     d
 }
 
-fn prescient_assigned(c: Cell, x: Value, p: u32) -> Cell
+fn prescient_assigned(c: Cell, x: Value, p: usize) -> Cell
     ensures { λ r. ⌜ r ≡ nextCell p noSlot B x c ⌝ }
 {
     let mut d = c;
@@ -344,7 +344,7 @@ fn prescient_assigned(c: Cell, x: Value, p: u32) -> Cell
 }
 
 // `s` is the oldest outstanding read.
-fn loaded(c: Cell, s: Slot, x: Value, p: u32) -> Cell
+fn loaded(c: Cell, s: Slot, x: Value, p: usize) -> Cell
     ensures { λ r. ⌜ r ≡ nextCell p s L x c ⌝ }
 {
     let q = c.reads;
@@ -356,7 +356,7 @@ fn loaded(c: Cell, s: Slot, x: Value, p: u32) -> Cell
     d
 }
 
-fn has_read(c: Cell, s: Slot, x: Value, p: u32) -> Cell
+fn has_read(c: Cell, s: Slot, x: Value, p: usize) -> Cell
     ensures { λ r. ⌜ r ≡ nextCell p s R x c ⌝ }
 {
     let q = c.reads;
@@ -366,7 +366,7 @@ fn has_read(c: Cell, s: Slot, x: Value, p: u32) -> Cell
     d
 }
 
-fn stored(c: Cell, x: Value, p: u32) -> Cell
+fn stored(c: Cell, x: Value, p: usize) -> Cell
     ensures { λ r. ⌜ r ≡ nextCell p noSlot S x c ⌝ }
 {
     let q = c.stores;
@@ -377,7 +377,7 @@ fn stored(c: Cell, x: Value, p: u32) -> Cell
     d
 }
 
-fn prescient_stored(c: Cell, x: Value, p: u32) -> Cell
+fn prescient_stored(c: Cell, x: Value, p: usize) -> Cell
     ensures { λ r. ⌜ r ≡ nextCell p noSlot P x c ⌝ }
 {
     let q = c.stores;
@@ -389,7 +389,7 @@ fn prescient_stored(c: Cell, x: Value, p: u32) -> Cell
     d
 }
 
-fn has_written(c: Cell, x: Value, p: u32) -> Cell
+fn has_written(c: Cell, x: Value, p: usize) -> Cell
     ensures { λ r. ⌜ r ≡ nextCell p noSlot W x c ⌝ }
 {
     let q = c.stores;
@@ -439,7 +439,7 @@ fn left(a: Hold, t: usize) -> Hold
 // ---- The turns. A letter that is none of a turn's breaks nothing there and leaves everything.
 
 // U: what it breaks. It leaves everything.
-pub fn use_rule(c: Cell, locked: u32, x: Value) -> u8
+pub fn use_rule(c: Cell, locked: usize, x: Value) -> u8
     ensures { λ r. ⌜ r ≡ useRule c locked x ⌝ }
 {
     let b = use_checks(c, locked, x);
@@ -448,7 +448,7 @@ pub fn use_rule(c: Cell, locked: u32, x: Value) -> u8
 }
 
 // U, A, B: the cell alone.
-pub fn cell_turn(c: Cell, locked: u32, k: u8, x: Value, p: u32) -> CellTurn
+pub fn cell_turn(c: Cell, locked: usize, k: u8, x: Value, p: usize) -> CellTurn
     ensures { λ r. ⌜ r ≡ cellTurn c locked k x p ⌝ }
 {
     let mut turn = CellTurn { rule: 0, cell: c };
@@ -476,7 +476,7 @@ pub fn reads_turn(
     main: Main,
     k: u8,
     x: Value,
-    p: u32,
+    p: usize,
 ) -> ReadsTurn
     ensures { λ r. ⌜ r ≡ readsTurn c front behind main k x p ⌝ }
 {
@@ -512,10 +512,10 @@ pub fn stores_turn(
     front: Slot,
     behind: Slot,
     main: Main,
-    locked: u32,
+    locked: usize,
     k: u8,
     x: Value,
-    p: u32,
+    p: usize,
 ) -> StoresTurn
     ensures { λ r. ⌜ r ≡ storesTurn c front behind main locked k x p ⌝ }
 {
@@ -558,12 +558,12 @@ pub fn stores_turn(
 // one that the arms change is slower here (docs/PERFORMANCE.md).
 pub fn lock_turn(
     a: Hold,
-    locked: u32,
+    locked: usize,
     threads: usize,
     any: OnSome,
     t: usize,
     k: u8,
-    p: u32,
+    p: usize,
 ) -> LockTurn
     ensures { λ r. ⌜ r ≡ lockTurn a locked threads any t k p ⌝ }
 {
@@ -611,7 +611,7 @@ pub struct Parts {
     pub stores: Ends,
     pub main: Main,
     pub hold: Hold,
-    pub locked: u32,
+    pub locked: usize,
 }
 
 // 0 or the number of the first check of the event's row that is broken, and what the event leaves of each part.
@@ -622,7 +622,7 @@ pub struct Turn {
     pub store: Slot,
     pub main: Main,
     pub hold: Hold,
-    pub locked: u32,
+    pub locked: usize,
 }
 
 // The first number that is not 0.
@@ -633,7 +633,7 @@ fn either(a: u8, b: u8) -> u8
 }
 
 // All turns: one of them is the letter's. `n` threads are declared, and `any` is what the variables of thread t have.
-pub fn any_turn(a: Parts, n: usize, any: OnSome, t: usize, k: u8, x: Value, p: u32) -> Turn
+pub fn any_turn(a: Parts, n: usize, any: OnSome, t: usize, k: u8, x: Value, p: usize) -> Turn
     ensures { λ r. ⌜ r ≡ turnOf a n any t k x p ⌝ }
 {
     let q = a.reads;

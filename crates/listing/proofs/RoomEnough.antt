@@ -25,7 +25,7 @@ use Rattle.listing.specs.Listing.{acceptedLine, mainLine, copyLine, sect
 use Rattle.listing.proofs.LineLaws.{all-text}
 use Rattle.listing.proofs.ListLaws.{each-suc, both}
 
--- ---- the length of a line; a value of any width up to 64 bits has at most 21 bytes, a minus and 20 digits (`value-short`)
+-- ---- the length of a line; the text of a value has at most 21 bytes, a minus and 20 digits (`value-short`)
 
 -- a number below 10 to the k has at most k digits
 digits-most : (k n : ℕ) → n < 10 ^ suc k → n < 2 ^ 64 → length (naturalText n) ≤ suc k

@@ -159,7 +159,7 @@ fn refuse(number: u8, line: usize) -> Outcome
 }
 
 // The copies in the cells of a state, where these are the positions of the threads' last locks.
-fn copies_of(cells: [Cell; 128], locked: [u32; 8]) -> [Cached; 128]
+fn copies_of(cells: [Cell; 128], locked: [usize; 8]) -> [Cached; 128]
     ensures { λ r. ⌜ r ≡ memoriesOf (wordsIn (stateOf cells locked [])) .copies ⌝ }
 {
     let none = Cached {
@@ -182,7 +182,7 @@ fn copies_of(cells: [Cell; 128], locked: [u32; 8]) -> [Cached; 128]
 }
 
 // All is accepted: the memories that these parts of a state give.
-fn accept(cells: [Cell; 128], locked: [u32; 8], main: [Main; 16]) -> Outcome
+fn accept(cells: [Cell; 128], locked: [usize; 8], main: [Main; 16]) -> Outcome
     ensures { λ r. ⌜ r ≡ record { verdict = said accepted; memories = memoriesOf (wordsIn (stateOf cells locked main)) } ⌝ }
 {
     let copies = copies_of(cells, locked);
@@ -223,7 +223,8 @@ fn run(start: State, counted: [Tally; 8], what: &[u32], value: &[Value]) -> Outc
         if h.threads <= t {
             return refuse(5, line);
         }
-        let p = n + 1;
+        let events = n + 1;
+        let p = events as usize;
         if rules::is_lock_letter(k) {
             // A lock, and what the variables of the thread have.
             if h.locks <= v {
@@ -238,7 +239,7 @@ fn run(start: State, counted: [Tally; 8], what: &[u32], value: &[Value]) -> Outc
                 return refuse(lock.rule, line);
             }
             let held = lock.hold;
-            s.events = p;
+            s.events = events;
             s.locked[t] = lock.locked;
             s.holds[v] = held;
             i += 1;
@@ -255,7 +256,7 @@ fn run(start: State, counted: [Tally; 8], what: &[u32], value: &[Value]) -> Outc
                 if rule != 0 {
                     return refuse(rule, line);
                 }
-                s.events = p;
+                s.events = events;
                 i += 1;
             } else if (k == b'R') | (k == b'L') {
                 // The reads of the cell.
@@ -271,7 +272,7 @@ fn run(start: State, counted: [Tally; 8], what: &[u32], value: &[Value]) -> Outc
                 }
                 let cell = read.cell;
                 let slot = read.slot;
-                s.events = p;
+                s.events = events;
                 s.cells[at] = cell;
                 s.reads[end] = slot;
                 i += 1;
@@ -293,7 +294,7 @@ fn run(start: State, counted: [Tally; 8], what: &[u32], value: &[Value]) -> Outc
                 let left = store.main;
                 let tally = tallies[t];
                 let tallied = tally_after(tally, c, cell);
-                s.events = p;
+                s.events = events;
                 s.cells[at] = cell;
                 s.stores[end] = slot;
                 s.memory[v] = left;
@@ -309,7 +310,7 @@ fn run(start: State, counted: [Tally; 8], what: &[u32], value: &[Value]) -> Outc
                 let cell = alone.cell;
                 let tally = tallies[t];
                 let tallied = tally_after(tally, c, cell);
-                s.events = p;
+                s.events = events;
                 s.cells[at] = cell;
                 tallies[t] = tallied;
                 i += 1;
@@ -409,7 +410,8 @@ fn take_turn(s: State, e: Event) -> Judged
     let l = asked(on_lock, place);
     let t = e.thread;
     let h = s.counts;
-    let p = s.events + 1;
+    let events = s.events + 1;
+    let p = events as usize;
     let parts = parts_of(s, t, v, l);
     let any = some_in(tally_of(s, t));
     let turn = judging::any_turn(parts, h.threads, any, t, k, rules::value_of(kind), p);
@@ -425,7 +427,7 @@ fn take_turn(s: State, e: Event) -> Judged
     let hold = turn.hold;
     let main = turn.main;
     let mut next = s;
-    next.events = p;
+    next.events = events;
     next.cells[at] = cell;
     next.reads[read_end] = read;
     next.stores[store_end] = store;

@@ -2,3 +2,4 @@ pub mod Whole
 pub mod Refused
 pub mod ReadRows
 pub mod Stays
+pub mod Narrow

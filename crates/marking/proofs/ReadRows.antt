@@ -11,7 +11,7 @@ use borrow.Author.Tests.{eq-eqb}
 use Rattle.rules.specs.declared.Event.{Event}
 use Rattle.rules.specs.declared.Counts.{Counts}
 use Rattle.rules.specs.declared.Verdict.the-variants as verdict
-use Rattle.rules.specs.Limits.{full, firstLine, lineAfter, allowed}
+use Rattle.rules.specs.Limits.{full, firstLine, lineAfter, allowed, valueWidth}
 use Rattle.rules.specs.Memories.{memoriesOf}
 use Rattle.rules.specs.Rules.{wordsOf, Marked, accepted, refused, told, onMarked, refusedOr, markFrom, markRead}
 use Rattle.rules.specs.Reading.{readFrom, stopFrom}
@@ -129,7 +129,7 @@ module _ (s : List ℕ) (found : told (traceOf full s .verdict) ≡ accepted) wh
       first (refused n l) b e = e
 
   module _ (what what′ : List ℕ) (value value′ : List ℤ) (read : Read) (d : Reads h (eventsOf s (traceOf full s)) read what what′ value value′) where
-    read-same : readFrom full 0 (readings (firstLine h) (partLines (eventsOf s (traceOf full s)))) ≡ es
+    read-same : readFrom full 0 (readings valueWidth (firstLine h) (partLines (eventsOf s (traceOf full s)))) ≡ es
     unfolding linesIn
     read-same = refl
 

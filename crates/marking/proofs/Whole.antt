@@ -9,17 +9,15 @@ use lib.Dec.{T}
 use lib.ListN.{length, length-reverse}
 use Rattle.rules.specs.declared.Event.{Event}
 use Rattle.rules.specs.declared.Counts.{Counts}
-use Rattle.rules.specs.declared.Named.{Named}
-use Rattle.rules.specs.declared.Named.the-variants as named
-use Rattle.rules.specs.Events.{kindOf, eventWith}
-use Rattle.rules.specs.Limits.{full, firstLine, lineAfter, allowed}
+use Rattle.rules.specs.Limits.{full, firstLine, lineAfter, allowed, valueWidth}
 use Rattle.rules.specs.Rules.{verdict, Accepted, Marked, accepted, refused, refusedOr, told, mark, markRead, passing, pastRead}
 use Rattle.lines.specs.Lines.{splitOn}
 use Rattle.rules.proofs.Laws.{passed, few, accepted-last, accepted-before}
 use Rattle.rules.proofs.Bounds.{declared-bounds}
 use Rattle.rules.proofs.Readings.{past-accepted, past-read, past-marked}
 use Rattle.records.proofs.RowLaws.{Numbered, Small}
-use Rattle.events.specs.Events.{Fields, wrong, right, lineOf, eventIn, eventOf, readings, partLines}
+use Rattle.events.specs.Events.{eventOf, readings, partLines}
+use Rattle.events.proofs.LinedLaws.{event-line}
 use Rattle.trace.specs.Trace.{traceOf, eventsOf}
 use Rattle.trace.proofs.TraceLaws.{found-allowed, not-found}
 use Rattle.marking.specs.Marking.{linesIn, markedOf, pastOf, eventsIn, readIn}
@@ -66,40 +64,24 @@ events-few s = rw length-reverse (few full (traceOf full s .head) (pastOf full s
 
 -- ---- each stands in its line
 
-abbrev Lined : ℕ → Option Event → Type 0
-Lined n none = Unit {0}
-Lined n (some e) = e .line ≡ n
-
-lined : (n : ℕ) (l : List ℕ) → Lined n (eventOf n l)
-unfolding eventOf
-lined n l = by (lineOf l)
-  where
-    kind : (t : ℕ) (k : Named) → Lined n (eventWith n t k)
-    kind t named.Nothing = tt
-    kind t (named.Of k) = refl
-
-    by : (f : Fields) → Lined n (eventIn n f)
-    by wrong = tt
-    by (right k t p x) = kind t (kindOf k p x)
-
 module _ (h : Counts) where
   -- the latest first
   abbrev Turned : List Event → Type 0
   Turned [] = Unit {0}
   Turned (e ∷ es) = (e .line ≡ lineAfter h (length es)) × Turned es
 
-  turned : (es : List Event) (n : ℕ) (ls : List (List ℕ)) → n ≡ lineAfter h (length es) → Turned es → Turned (pastRead full h es (readings n ls))
+  turned : (es : List Event) (n : ℕ) (ls : List (List ℕ)) → n ≡ lineAfter h (length es) → Turned es → Turned (pastRead full h es (readings valueWidth n ls))
   unfolding pastRead readings
   turned es n [] q k = k
-  turned es n (l ∷ ls) q k = by (eventOf n l) (lined n l) (λ e z. turned (e ∷ es) (suc n) ls (omega (arith, q)) (z ∙ q, k))
+  turned es n (l ∷ ls) q k = by (eventOf valueWidth n l) refl (λ e z. turned (e ∷ es) (suc n) ls (omega (arith, q)) (z ∙ q, k))
     where
-      go : (e : Event) (v : ℕ) → Turned (pastRead full h (e ∷ es) (readings (suc n) ls)) → Turned (passing v es (pastRead full h (e ∷ es) (readings (suc n) ls)))
+      go : (e : Event) (v : ℕ) → Turned (pastRead full h (e ∷ es) (readings valueWidth (suc n) ls)) → Turned (passing v es (pastRead full h (e ∷ es) (readings valueWidth (suc n) ls)))
       go e zero r = r
       go e (suc v) r = k
 
-      by : (o : Option Event) → Lined n o → ((e : Event) → e .line ≡ n → Turned (pastRead full h (e ∷ es) (readings (suc n) ls))) → Turned (pastRead full h es (o ∷ readings (suc n) ls))
+      by : (o : Option Event) → eventOf valueWidth n l ≡ o → ((e : Event) → e .line ≡ n → Turned (pastRead full h (e ∷ es) (readings valueWidth (suc n) ls))) → Turned (pastRead full h es (o ∷ readings valueWidth (suc n) ls))
       by none z r = k
-      by (some e) z r = go e (verdict full h es e) (r e z)
+      by (some e) z r = go e (verdict full h es e) (r e (event-line valueWidth n l e z))
 
   -- in their own order
   turn : (es rest : List Event) → Turned es → Numbered h (length es) rest → Numbered h 0 (reverseAux es rest)

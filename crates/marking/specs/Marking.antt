@@ -18,7 +18,7 @@ use Rattle.marking.specs.declared.Marking.{Marking}
 
 -- the lines of the part that holds the events, each an event or none
 unfoldable pub linesIn : Limits → List ℕ → List (Option Event)
-linesIn m s = readings (firstLine (traceOf m s .head)) (partLines (eventsOf s (traceOf m s)))
+linesIn m s = readings (m .width) (firstLine (traceOf m s .head)) (partLines (eventsOf s (traceOf m s)))
 
 -- Whole paper: 1, 2, 3, 6, then line by line 4, 9, 5 and the row.
 unfoldable pub markedOf : Limits → List ℕ → Marked

@@ -3,3 +3,4 @@ pub mod Printed
 pub mod Reported
 pub mod Briefed
 pub mod Theorems
+pub mod Narrow

@@ -1,3 +1,4 @@
 pub mod Report
+pub mod Narrow
 -- what is only computed
 pub mod Computed

@@ -17,3 +17,4 @@ pub mod Live
 pub mod Loads
 pub mod DeadReads
 pub mod PrescientStores
+pub mod Widths

@@ -8,3 +8,4 @@ pub mod Reading
 pub mod Traces
 pub mod DeadReads
 pub mod PrescientStores
+pub mod Widths

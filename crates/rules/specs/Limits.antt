@@ -1,14 +1,23 @@
--- The limits of document 01, each named once.
-use Prim.Native.Nat.{ℕ, _+_, _≤_, _<_}
+-- The limits of documents 01 and 02, each named once.
+use Prim.Native.Nat.{ℕ, _+_, _^_, _≤_, _<_}
 use mathlib.Core.Bool.{Bool, cond, _&&_, _||_}
 use lib.Dec.{ltb, leb}
-use mir.Syntax.{Width, w32}
+use mir.Syntax.{Width, w64}
+use mir.Val.{hbits}
 use Rattle.rules.specs.declared.Event.{Event}
 use Rattle.rules.specs.declared.Counts.{Counts}
 use Rattle.rules.specs.Events.{place, onLock}
 
+-- A value is a signed number of 64 bits.
+abbrev pub valueWidth : Width
+valueWidth = w64
+
+-- a value of width w is from -limit w to limit w - 1
+abbrev pub limit : Width → ℕ
+limit w = 2 ^ hbits w
+
 -- the most threads, variables, locks and events of a course, and the number of the refusal of one event more; the most bytes of a paper; the
--- least that is lent for records, output, order list and scratch
+-- least that is lent for records, output, order list and scratch; the width of the values that lines have
 pub record Limits : Type 0 where
   pub threads : ℕ
   pub variables : ℕ
@@ -20,9 +29,11 @@ pub record Limits : Type 0 where
   pub output : ℕ
   pub entries : ℕ
   pub scratch : ℕ
+  pub width : Width
 
 -- `H t v l`: threads 1 to 8, variables 1 to 16, locks 0 to 8. 9. 2,000 events are already in. 1. Paper over 65,536 bytes. 7. Records under
--- 2,000 places, output under 32,768 bytes; where an order is wanted, order list under 1,000 places or scratch under 2,000.
+-- 2,000 places, output under 32,768 bytes; where an order is wanted, order list under 1,000 places or scratch under 2,000. Document 02 (g): a value
+-- outside 64 bits is 4.
 abbrev pub full : Limits
 full = record {
   threads = 8;
@@ -35,9 +46,10 @@ full = record {
   output = 32768;
   entries = 1000;
   scratch = 2000;
+  width = valueWidth;
 }
 
--- limits that are nowhere above the full ones
+-- limits whose counts and events are nowhere above the full ones
 pub record UpToFull (m : Limits) : Type 0 where
   pub threads : m .threads ≤ full .threads
   pub variables : m .variables ≤ full .variables
@@ -56,10 +68,6 @@ firstLine h = 3
 -- the line of the event that comes after n events
 abbrev pub lineAfter : Counts → ℕ → ℕ
 lineAfter h n = n + firstLine h
-
--- A value is a signed number of 32 bits.
-abbrev pub valueWidth : Width
-valueWidth = w32
 
 -- `H t v l`: threads 1 to 8, variables 1 to 16, locks 0 to 8.
 unfoldable pub allowed : Limits → Counts → Bool

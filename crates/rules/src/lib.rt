@@ -1,12 +1,11 @@
 // The events of a trace, what a trace declares, and what is said of it. What the rules say of events stands in specs/.
 ghost use mathlib.Core.Path.{_≡_};
-ghost use mathlib.Core.Bool.{_||_};
 ghost use Rattle.rules.specs.Events.{letter, place, value, isLetter, isLockLetter, kindOf};
 ghost use Rattle.rules.specs.Limits.{full, lineAfter, allowed, declared, lentShort, orderShort};
 ghost use Rattle.rules.specs.Rules.{told, numberIn, lineIn};
 
 // The value of a variable. Its width is `valueWidth` in specs/Limits.antt.
-pub type Value = i32;
+pub type Value = i64;
 
 // The ten kinds, each with its own data: a variable and a value, or a lock.
 pub enum Kind {
@@ -37,11 +36,12 @@ pub struct Event {
     pub kind: Kind,
 }
 
-// An outstanding read or store: its value, and the position of its event among all events, from 1.
+// An outstanding read or store: its value, and the position of its event among all events, from 1. With 64 bits for each it has no padding, and the
+// empty queues of a first state are cleared at once.
 #[repr(C)]
 pub struct Slot {
     pub value: Value,
-    pub position: u32,
+    pub position: usize,
 }
 
 // How many threads, variables and locks a trace declares in its head.

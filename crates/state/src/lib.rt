@@ -26,9 +26,9 @@ pub struct Cell {
     pub copy: Value,
     pub announced: Value,
     // The latest position that makes the copy usable: of an A or B, or of the read of an L.
-    pub source: u32,
+    pub source: usize,
     // The position of the thread's last write on the variable.
-    pub written: u32,
+    pub written: usize,
     pub reads: Ring,
     pub stores: Ring,
     pub fresh: bool,
@@ -54,7 +54,7 @@ pub struct State {
     pub reads: [Slot; 1024],
     pub stores: [Slot; 1024],
     // The position of each thread's last lock.
-    pub locked: [u32; 8],
+    pub locked: [usize; 8],
     pub holds: [Hold; 8],
     pub memory: [Main; 16],
 }
@@ -128,14 +128,14 @@ pub fn slot_place(i: usize, q: Ring, j: u8) -> usize
 
 // ---- Refusal 8.
 
-fn hold_ok(threads: usize, n: u32, a: Hold, p: u32) -> bool
+fn hold_ok(threads: usize, n: u32, a: Hold, p: usize) -> bool
     ensures { λ r. ⌜ r ≡ holdOk threads n a p ⌝ }
 {
     (a.holder <= threads)
         & (a.depth <= n)
         & ((a.holder != 0) | (a.depth == 0))
         & ((a.holder == 0) | (a.depth != 0))
-        & (p <= n)
+        & (p <= n as usize)
 }
 
 fn holds_ok(s: State) -> bool
@@ -156,7 +156,7 @@ fn holds_ok(s: State) -> bool
 fn cell_ok(n: u32, c: Cell) -> bool
     ensures { λ r. ⌜ r ≡ cellOk n c ⌝ }
 {
-    (c.source <= n) & (c.written <= n)
+    (c.source <= n as usize) & (c.written <= n as usize)
 }
 
 fn cells_ok(s: State) -> bool
@@ -184,7 +184,7 @@ fn ring_of(c: Cell, stores: bool) -> Ring
 fn slot_ok(n: u32, len: u8, j: u8, s: Slot) -> bool
     ensures { λ r. ⌜ r ≡ slotOk n len j s ⌝ }
 {
-    (len <= j) | (s.position <= n)
+    (len <= j) | (s.position <= n as usize)
 }
 
 // The queues of all cells, of their stores or of their reads: at most eight each, with positions up to n.
@@ -216,7 +216,7 @@ fn sized(
     cells: [Cell; 128],
     reads: [Slot; 1024],
     stores: [Slot; 1024],
-    locked: [u32; 8],
+    locked: [usize; 8],
     holds: [Hold; 8],
     memory: [Main; 16],
 ) -> bool

@@ -91,16 +91,16 @@ lock-value (kind.PrescientAssign v x) q = absurd (false≢true q)
 
 -- the fields of a line with this letter
 module _ (n k t v : ℕ) (ht : t ≤ cap) (hv : v ≤ cap) (l : isLetter k ≡ true) where
-  lock-back : isLockLetter k ≡ true → eventOf n (wordRow (k ∷ []) (t ∷ v ∷ [])) ≡ eventWith n t (kindOf k v (pos 0))
+  lock-back : isLockLetter k ≡ true → eventOf valueWidth n (wordRow (k ∷ []) (t ∷ v ∷ [])) ≡ eventWith n t (kindOf k v (pos 0))
   unfolding eventOf lineOf texts lines.letter
-  lock-back q = ap (λ (fs : List (List ℕ)). eventIn n (fromFields fs)) (row-fields k (t ∷ v ∷ []) (not-space k l)) ∙ rw (l, natural-back t ht, q, natural-back v hv)
+  lock-back q = ap (λ (fs : List (List ℕ)). eventIn n (fromFields valueWidth fs)) (row-fields k (t ∷ v ∷ []) (not-space k l)) ∙ rw (l, natural-back t ht, q, natural-back v hv)
 
-  value-back : (x : ℤ) → SFits valueWidth x → isLockLetter k ≡ false → eventOf n (wordValue (k ∷ []) (t ∷ v ∷ []) x) ≡ eventWith n t (kindOf k v x)
+  value-back : (x : ℤ) → SFits valueWidth x → isLockLetter k ≡ false → eventOf valueWidth n (wordValue (k ∷ []) (t ∷ v ∷ []) x) ≡ eventWith n t (kindOf k v x)
   unfolding eventOf lineOf lines.letter
   value-back x f q =
-      ap (λ (fs : List (List ℕ)). eventIn n (fromFields fs)) (value-fields k t v x (not-space k l)) ∙ rw (l, natural-back t ht, q, natural-back v hv, integer-back x f)
+      ap (λ (fs : List (List ℕ)). eventIn n (fromFields valueWidth fs)) (value-fields k t v x (not-space k l)) ∙ rw (l, natural-back t ht, q, natural-back v hv, integer-back x f)
 
-event-back : (e : Event) → e .thread ≤ cap → place (e .kind) ≤ cap → SFits valueWidth (value (e .kind)) → eventOf (e .line) (eventLine e) ≡ some e
+event-back : (e : Event) → e .thread ≤ cap → place (e .kind) ≤ cap → SFits valueWidth (value (e .kind)) → eventOf valueWidth (e .line) (eventLine e) ≡ some e
 event-back e ht hv f = by (isLockLetter k) refl
   where
     k : ℕ
@@ -109,12 +109,12 @@ event-back e ht hv f = by (isLockLetter k) refl
     made : (x : ℤ) → x ≡ value (e .kind) → eventWith (e .line) (e .thread) (kindOf k (place (e .kind)) x) ≡ some e
     made x q = ap (eventWith (e .line) (e .thread)) (ap (kindOf k (place (e .kind))) q ∙ kind-back (e .kind))
 
-    by : (b : Bool) → isLockLetter k ≡ b → eventOf (e .line) (eventLine e) ≡ some e
+    by : (b : Bool) → isLockLetter k ≡ b → eventOf valueWidth (e .line) (eventLine e) ≡ some e
     by true q =
-        ap (eventOf (e .line)) (event-text e true q) ∙ lock-back (e .line) k (e .thread) (place (e .kind)) ht hv (letter-is (e .kind)) q
+        ap (eventOf valueWidth (e .line)) (event-text e true q) ∙ lock-back (e .line) k (e .thread) (place (e .kind)) ht hv (letter-is (e .kind)) q
         ∙ made (pos 0) (lock-value (e .kind) q)
     by false q =
-        ap (eventOf (e .line)) (event-text e false q) ∙ value-back (e .line) k (e .thread) (place (e .kind)) ht hv (letter-is (e .kind)) (value (e .kind)) f q
+        ap (eventOf valueWidth (e .line)) (event-text e false q) ∙ value-back (e .line) k (e .thread) (place (e .kind)) ht hv (letter-is (e .kind)) (value (e .kind)) f q
         ∙ made (value (e .kind)) refl
 
 -- what is declared is below the cap
@@ -122,10 +122,10 @@ declared-capped : (h : Counts) (e : Event) → allowed full h ≡ true → decla
 declared-capped h e a d = let b = declared-bounds h e a d in (omega arith, omega arith)
 
 -- Writing an event as its line and reading it back gives the event, for every declared event whose value is in range.
-pub written-read : (h : Counts) (n : ℕ) (e : Event) → allowed full h ≡ true → Declared h n e → eventOf n (eventLine e) ≡ some e
+pub written-read : (h : Counts) (n : ℕ) (e : Event) → allowed full h ≡ true → Declared h n e → eventOf valueWidth n (eventLine e) ≡ some e
 written-read h n e a d =
     let b = declared-capped h e a (d .known) in
-    ap (λ (i : ℕ). eventOf i (eventLine e)) (sym (d .at)) ∙ event-back e (b .0) (b .1) (d .fits)
+    ap (λ (i : ℕ). eventOf valueWidth i (eventLine e)) (sym (d .at)) ∙ event-back e (b .0) (b .1) (d .fits)
 
 -- an event's line holds no end of a line
 pub event-free : (e : Event) → Free 10 (eventLine e)

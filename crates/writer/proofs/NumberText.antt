@@ -9,11 +9,11 @@ use borrow.Author.Tests.{lt-ltb, le-leb, ne-eqb}
 use lib.IntN.{ℤ, pos, negsuc}
 use lib.ListN.{length, getD}
 use mir.Val.{SFits}
-use Rattle.rules.specs.Limits.{valueWidth}
+use Rattle.rules.specs.Limits.{valueWidth, limit}
 use Rattle.lines.proofs.PartLaws.{lt-or-le}
 use Rattle.decimal.specs.declared.Natural.the-variants as natural
 use Rattle.decimal.specs.declared.Integer.the-variants as integer
-use Rattle.decimal.specs.Decimal.{cap, limit, digitsFrom, naturalOf, integerOf}
+use Rattle.decimal.specs.Decimal.{cap, digitsFrom, naturalOf, integerOf}
 use Rattle.decimal.proofs.TextLaws.{digits-small, digits-large}
 use Rattle.decimal.specs.Text.{digitsIn, naturalText, integerText}
 
@@ -94,12 +94,12 @@ unfolding naturalText
 no-minus zero h e = omega (arith, e, ap (λ (t : List ℕ). getD t 0 0) (digits-small 19 0 (omega arith)))
 no-minus (suc m) h e = omega (arith, e, first 19 (suc m) h (omega arith))
 
-pub integer-back : (x : ℤ) → SFits valueWidth x → integerOf (integerText x) ≡ integer.Of x
+pub integer-back : (x : ℤ) → SFits valueWidth x → integerOf valueWidth (integerText x) ≡ integer.Of x
 unfolding integerOf integerText
 integer-back (pos n) f =
-    let l : n < limit = f .sfits in
-    rw (ne-eqb (getD (naturalText n) 0 0) 45 (no-minus n (omega arith)), natural-back n (omega arith), lt-ltb n limit l)
+    let l : n < limit valueWidth = f .sfits in
+    rw (ne-eqb (getD (naturalText n) 0 0) 45 (no-minus n (omega arith)), natural-back n (omega arith), lt-ltb n (limit valueWidth) l)
 integer-back (negsuc n) f =
-    let l : n < limit = f .sfits in
+    let l : n < limit valueWidth = f .sfits in
     let e : suc n - 1 ≡ n = omega arith in
-    rw (natural-back (suc n) (omega arith), ne-eqb (suc n) 0 (λ z. omega arith), le-leb (suc n) limit (omega arith), e)
+    rw (natural-back (suc n) (omega arith), ne-eqb (suc n) 0 (λ z. omega arith), le-leb (suc n) (limit valueWidth) (omega arith), e)

@@ -11,7 +11,7 @@ use lib.ListN.{length, getD, take, drop, set, replicate, length-append}
 use lib.Seq.{take-at, drop-at, getD-at, set-at}
 use Rattle.rules.specs.declared.Counts.{Counts}
 use Rattle.rules.specs.declared.Event.{Event}
-use Rattle.rules.specs.Limits.{full, allowed, firstLine}
+use Rattle.rules.specs.Limits.{full, allowed, firstLine, valueWidth}
 use Rattle.rules.proofs.Bounds.{allowed-bounds}
 use Rattle.lines.specs.Lines.{before, upTo, splitOn, linesOf, letter}
 use Rattle.lines.specs.Lines as lines
@@ -155,11 +155,11 @@ guards-back c g a (given ns n b) =
     ∙ rw (d, eq-eqb _ _ m) k
 
 -- the events
-events-back : (c : Counts) → allowed full c ≡ true → (n : ℕ) (es : List Event) → AllDeclared c n es → readings n (linesOf (eventsText es)) ≡ map (λ (e : Event). some e) es
+events-back : (c : Counts) → allowed full c ≡ true → (n : ℕ) (es : List Event) → AllDeclared c n es → readings valueWidth n (linesOf (eventsText es)) ≡ map (λ (e : Event). some e) es
 unfolding readings eventsText linesOf splitOn lines.ended
 events-back c a n [] (done m) = refl
 events-back c a n (e ∷ es) (more m f fs d r) =
-    ap (readings n) (ap linesOf (append-assoc (eventLine e) (10 ∷ []) (eventsText es)) ∙ lines-free (eventLine e) (eventsText es) (event-free e))
+    ap (readings valueWidth n) (ap linesOf (append-assoc (eventLine e) (10 ∷ []) (eventsText es)) ∙ lines-free (eventLine e) (eventsText es) (event-free e))
     ∙ rw (written-read c n e a d, events-back c a (suc n) es r)
 
 events-whole : (es : List Event) → upTo 10 (eventsText es) ≡ length (eventsText es)
@@ -243,5 +243,5 @@ module _ (c : Counts) (g : Guards) (es : List Event) (a : allowed full c ≡ tru
       ∙ ap (λ (k : ℕ). take k (e ++ z)) m ∙ take-at e z (length e) refl
 
   -- Its lines are read as the events.
-  pub events-read : AllDeclared c (firstLine c) es → readings (firstLine c) (linesOf (eventsOf (traceText c g es) (traceOf full (traceText c g es)))) ≡ map (λ (e : Event). some e) es
-  events-read d = ap (λ (t : List ℕ). readings (firstLine c) (linesOf t)) events-found ∙ events-back c a (firstLine c) es d
+  pub events-read : AllDeclared c (firstLine c) es → readings valueWidth (firstLine c) (linesOf (eventsOf (traceText c g es) (traceOf full (traceText c g es)))) ≡ map (λ (e : Event). some e) es
+  events-read d = ap (λ (t : List ℕ). readings valueWidth (firstLine c) (linesOf t)) events-found ∙ events-back c a (firstLine c) es d

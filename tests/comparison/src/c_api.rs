@@ -1,6 +1,8 @@
 //! The C interface of the proved marker, as `include/dabzhoni.h` declares it.
 
-use papers::Event;
+use papers::{Event, Value};
+use std::mem::{offset_of, size_of};
+use std::ops::Range;
 
 #[repr(C)]
 #[derive(Clone, Copy, Debug, PartialEq, Eq)]
@@ -20,10 +22,10 @@ pub struct Ring {
 #[repr(C)]
 #[derive(Clone, Copy, Debug, PartialEq, Eq)]
 pub struct Cell {
-    pub copy: i32,
-    pub announced: i32,
-    pub source: u32,
-    pub written: u32,
+    pub copy: Value,
+    pub announced: Value,
+    pub source: usize,
+    pub written: usize,
     pub reads: Ring,
     pub stores: Ring,
     pub fresh: bool,
@@ -33,8 +35,8 @@ pub struct Cell {
 #[repr(C)]
 #[derive(Clone, Copy, Debug, PartialEq, Eq)]
 pub struct Slot {
-    pub value: i32,
-    pub position: u32,
+    pub value: Value,
+    pub position: usize,
 }
 
 #[repr(C)]
@@ -52,18 +54,28 @@ pub struct State {
     pub cells: [Cell; 128],
     pub reads: [Slot; 1024],
     pub stores: [Slot; 1024],
-    pub locked: [u32; 8],
+    pub locked: [usize; 8],
     pub holds: [Hold; 8],
-    pub memory: [i32; 16],
+    pub memory: [Value; 16],
 }
 
 /// Bytes of a state, its padding included.
-pub const STATE_BYTES: usize = 19_712;
-/// The padding before the locks' holders.
-const PADDING: std::ops::Range<usize> = 19_516..19_520;
-const _: () = assert!(std::mem::size_of::<State>() == STATE_BYTES);
-const _: () = assert!(std::mem::offset_of!(State, cells) == 28);
-const _: () = assert!(std::mem::offset_of!(State, holds) == 19_520);
+pub const STATE_BYTES: usize = 38_240;
+const _: () = assert!(size_of::<Counts>() == 24 && size_of::<Ring>() == 2);
+const _: () = assert!(offset_of!(Cell, written) == 24 && offset_of!(Cell, pending) == 37 && size_of::<Cell>() == 40);
+const _: () = assert!(offset_of!(Slot, position) == 8 && size_of::<Slot>() == 16);
+const _: () = assert!(offset_of!(Hold, depth) == 8 && size_of::<Hold>() == 16);
+const _: () = assert!(offset_of!(State, events) == 24 && offset_of!(State, cells) == 32 && offset_of!(State, reads) == 5_152);
+const _: () = assert!(offset_of!(State, stores) == 21_536 && offset_of!(State, locked) == 37_920);
+const _: () = assert!(offset_of!(State, holds) == 37_984 && offset_of!(State, memory) == 38_112);
+const _: () = assert!(size_of::<State>() == STATE_BYTES);
+
+/// The bytes of a state's padding: behind the events, each cell and each hold.
+fn padding() -> impl Iterator<Item = Range<usize>> {
+    let cells = (0..128).map(|i| offset_of!(State, cells) + 40 * i).map(|cell| cell + 38..cell + 40);
+    let holds = (0..8).map(|i| offset_of!(State, holds) + 16 * i).map(|hold| hold + 12..hold + 16);
+    [28..32].into_iter().chain(cells).chain(holds)
+}
 
 #[repr(C)]
 #[derive(Clone, Copy, Debug, PartialEq, Eq)]
@@ -85,18 +97,18 @@ pub struct Marked {
     pub denial_line: usize,
 }
 
-const _: () = assert!(std::mem::size_of::<Marked>() == 56);
+const _: () = assert!(size_of::<Marked>() == 56);
 
 #[link(name = "c_api", kind = "static")]
 extern "C" {
     fn dabzhoni_initial(state: *mut State, threads: usize, variables: usize, locks: usize);
-    fn dabzhoni_step(state: *mut State, letter: u8, thread: usize, place: usize, value: i32) -> Reply;
+    fn dabzhoni_step(state: *mut State, letter: u8, thread: usize, place: usize, value: Value) -> Reply;
     fn dabzhoni_mark(
         paper: *const u8,
         paper_len: usize,
         what: *mut u32,
         what_len: usize,
-        values: *mut i32,
+        values: *mut Value,
         values_len: usize,
         out: *mut u8,
         out_len: usize,
@@ -110,7 +122,7 @@ extern "C" {
         paper_len: usize,
         what: *mut u32,
         what_len: usize,
-        values: *mut i32,
+        values: *mut Value,
         values_len: usize,
         out: *mut u8,
         out_len: usize,
@@ -125,13 +137,17 @@ pub struct Kept {
 }
 
 impl Kept {
-    /// The state before the first event. The padding is not zeros.
+    /// The state before the first event.
     pub fn initial(counts: Counts) -> Kept {
         let mut kept = Kept { bytes: [0; STATE_BYTES] };
-        kept.bytes[PADDING].fill(0xa5);
         // SAFETY: the pointer is to the memory of a state, aligned to 8, and nothing else refers to it.
         unsafe { dabzhoni_initial(&mut *kept, counts.threads, counts.variables, counts.locks) };
         kept
+    }
+
+    /// Fills the padding with a byte that is not zero.
+    pub fn paint(&mut self) {
+        padding().for_each(|bytes| self.bytes[bytes].fill(0xa5));
     }
 
     pub fn step(&mut self, e: &Event) -> Reply {
@@ -159,7 +175,7 @@ impl std::ops::DerefMut for Kept {
 pub fn mark(
     paper: &[u8],
     what: &mut [u32],
-    values: &mut [i32],
+    values: &mut [Value],
     out: &mut [u8],
     order: &mut [u64],
     scratch: &mut [u64],
@@ -184,7 +200,7 @@ pub fn mark(
 }
 
 /// Marks a paper where no order is wanted.
-pub fn mark_unordered(paper: &[u8], what: &mut [u32], values: &mut [i32], out: &mut [u8]) -> Marked {
+pub fn mark_unordered(paper: &[u8], what: &mut [u32], values: &mut [Value], out: &mut [u8]) -> Marked {
     // SAFETY: four slices that do not overlap, each with its own length.
     unsafe {
         dabzhoni_mark_unordered(

@@ -45,7 +45,7 @@ fn all_steps(times: usize, seed: u64) -> Tally {
         steps::walk(tally, rng, length, 6, 20)
     });
     part("steps along long traces", 4, &mut |tally, rng| steps::walk(tally, rng, 2_000, 2, 40));
-    part("steps from states in range", 2_000, &mut |tally, rng| steps::in_range(tally, rng, 40));
+    part("steps from states in range", 3_000, &mut |tally, rng| steps::in_range(tally, rng, 40));
     part("steps from states out of range", 20, &mut steps::out_of_range);
     steps::every_answer(&mut tally);
     tally

@@ -1,4 +1,4 @@
-//! What documents 01 and 02 (a) and (d) say of one step from a state that a caller hands in, over the fields of `include/dabzhoni.h`.
+//! What documents 01 and 02 (a), (d) and (g) say of one step from a state that a caller hands in, over the fields of `include/dabzhoni.h`.
 
 use crate::c_api::{Cell, Ring, Slot, State};
 use marker_a::rules::{self, ROWS};
@@ -15,7 +15,7 @@ fn queue(i: usize, q: Ring) -> impl Iterator<Item = usize> {
 
 /// "8. The state handed in has a number out of range".
 pub fn out_of_range(s: &State) -> bool {
-    let n = s.events;
+    let n = s.events as usize;
     let above = |slots: &[Slot], i: usize, q: Ring| queue(i, q).any(|p| slots[p].position > n);
     let counts = s.counts;
     // "declared counts as in the head"
@@ -30,7 +30,7 @@ pub fn out_of_range(s: &State) -> bool {
         || s.cells.iter().any(|c| c.source > n || c.written > n)
         || s.cells.iter().enumerate().any(|(i, c)| above(&s.reads, i, c.reads) || above(&s.stores, i, c.stores))
         || s.locked.iter().any(|&p| p > n)
-        || s.holds.iter().any(|a| a.depth > n)
+        || s.holds.iter().any(|a| a.depth > s.events)
         // "a holder undeclared; a holder without depth or depth without holder"
         || s.holds.iter().any(|a| a.holder > counts.threads || (a.holder == 0) != (a.depth == 0))
 }
@@ -96,27 +96,31 @@ pub fn broken(s: &State, e: &Event) -> Vec<u32> {
 
 /// Takes an accepted event into the state.
 pub fn take(s: &mut State, e: &Event) {
-    let (t, p, x) = (e.thread, e.place, e.value);
     s.events += 1;
-    let now = s.events;
-    let slot = Slot { value: x, position: now };
-    match e.letter {
-        b'K' => {
-            s.locked[t] = now;
-            s.holds[p].holder = t + 1;
-            s.holds[p].depth += 1;
-            return;
-        }
-        b'N' => {
-            s.holds[p].depth -= 1;
-            if s.holds[p].depth == 0 {
-                s.holds[p].holder = 0;
-            }
-            return;
-        }
-        _ => {}
+    let now = s.events as usize;
+    if e.is_lock() {
+        take_lock(s, e, now);
+    } else {
+        take_access(s, e, now);
     }
-    let i = cell(t, p);
+}
+
+fn take_lock(s: &mut State, e: &Event, now: usize) {
+    let a = &mut s.holds[e.place];
+    if e.letter == b'K' {
+        s.locked[e.thread] = now;
+        a.holder = e.thread + 1;
+        a.depth += 1;
+    } else {
+        a.depth -= 1;
+        a.holder = if a.depth == 0 { 0 } else { a.holder };
+    }
+}
+
+fn take_access(s: &mut State, e: &Event, now: usize) {
+    let (p, x) = (e.place, e.value);
+    let slot = Slot { value: x, position: now };
+    let i = cell(e.thread, p);
     let c = &mut s.cells[i];
     let behind = |q: Ring| 8 * i + (usize::from(q.first) + usize::from(q.len)) % 8;
     let popped = |q: Ring| Ring { first: ((usize::from(q.first) + 1) % 8) as u8, len: q.len - 1 };
@@ -133,14 +137,12 @@ pub fn take(s: &mut State, e: &Event) {
             c.source = c.source.max(read.position);
             c.reads = popped(c.reads);
         }
-        b'S' => {
-            c.fresh = false;
-            s.stores[behind(c.stores)] = slot;
-            c.stores.len += 1;
-        }
-        b'P' => {
-            c.pending = true;
-            c.announced = x;
+        b'S' | b'P' => {
+            if e.letter == b'S' {
+                c.fresh = false;
+            } else {
+                (c.pending, c.announced) = (true, x);
+            }
             s.stores[behind(c.stores)] = slot;
             c.stores.len += 1;
         }
@@ -163,12 +165,11 @@ pub fn differs(s: &State, es: &[marker_a::Event]) -> Option<String> {
     let said = |right: bool, what: &str| (!right).then(|| what.to_string());
     let last = |kind, t: u32, v: Option<u32>| {
         let found = es.iter().rposition(|e| e.kind == kind && e.thread == t && v.is_none_or(|v| e.target == v));
-        found.map_or(0, |i| i as u32 + 1)
+        found.map_or(0, |i| i + 1)
     };
     let held = |slots: &[Slot], i: usize, q: Ring| queue(i, q).map(|p| slots[p]).collect::<Vec<Slot>>();
-    let listed = |places: Vec<usize>| -> Vec<Slot> {
-        places.into_iter().map(|i| Slot { value: es[i].value, position: i as u32 + 1 }).collect()
-    };
+    let listed =
+        |places: Vec<usize>| -> Vec<Slot> { places.into_iter().map(|i| Slot { value: es[i].value, position: i + 1 }).collect() };
     let mut wrong = said(s.events as usize == es.len(), "events");
     for t in 0..s.counts.threads as u32 {
         wrong = wrong.or_else(|| said(s.locked[t as usize] == last(K, t, None), "last lock"));

@@ -4,9 +4,9 @@
 use crate::c_api::{Cell, Counts, Hold, Kept, Reply, Ring, Slot, State};
 use crate::model;
 use marker_a::paper;
-use papers::generate::{self, Rng, DOUBLES, LETTERS, PAIRS};
+use papers::generate::{self, one_bit_off, Rng, DOUBLES, LETTERS, OF_64_BITS, PAIRS};
 use papers::shrink::shrink;
-use papers::{by_a, Event};
+use papers::{by_a, Event, Value};
 use std::collections::BTreeMap;
 
 const PRINTED_FAILURES: usize = 20;
@@ -21,6 +21,8 @@ pub struct Tally {
     pub answers: BTreeMap<(u8, u32, u32), usize>,
     /// the same for each part of 16 at N
     pub unlocks: [usize; UNLOCKS.len()],
+    /// and for 18 at a letter where the values have the same low 32 bits
+    pub halves: BTreeMap<u8, usize>,
 }
 
 impl Tally {
@@ -56,14 +58,16 @@ fn kept_counts(c: papers::Counts) -> Counts {
     Counts { threads: c.threads, variables: c.variables, locks: c.locks }
 }
 
-/// One step: the reply that is wanted, and the state byte for byte as it was after a refusal.
+/// One step: the reply that is wanted, and the state byte for byte as it was after a refusal, its padding included.
 fn stepped(before: &Kept, e: &Event, wanted: (usize, usize)) -> Result<Kept, String> {
+    let mut before = before.clone();
+    before.paint();
     let mut after = before.clone();
     let Reply { number, line } = after.step(e);
     if (number, line) != wanted {
         return Err(format!("{}: number and line {number} {line}, wanted {} {}", e.line(), wanted.0, wanted.1));
     }
-    if number != 0 && after != *before {
+    if number != 0 && after != before {
         return Err(format!("{}: refused, and the state is changed", e.line()));
     }
     Ok(after)
@@ -130,7 +134,22 @@ fn smallest(counts: papers::Counts, events: &[Event], report: String) -> String 
     format!("step, the smallest paper:\n{}{report}", String::from_utf8_lossy(&small))
 }
 
-/// An event, often one that some state accepts: declared in most cases, with a value that the state has.
+/// The value that an event must bear, where something fixes it. A queue may be empty.
+fn due(s: &State, letter: u8, thread: usize, place: usize) -> Option<Value> {
+    let i = 16 * (thread % 8) + place % 16;
+    let c = &s.cells[i];
+    let oldest = |slots: &[Slot], q: Ring| slots[8 * i + usize::from(q.first) % 8].value;
+    match letter {
+        b'U' | b'S' => Some(c.copy),
+        b'L' => Some(oldest(&s.reads, c.reads)),
+        b'W' => Some(oldest(&s.stores, c.stores)),
+        b'R' => Some(s.memory[place % 16]),
+        b'B' => Some(c.announced),
+        _ => None,
+    }
+}
+
+/// An event, often one that some state accepts: declared in most cases, with the value that is due, or one that differs from it in one bit.
 fn any_event(rng: &mut Rng, s: &State) -> Event {
     let letter = rng.pick(LETTERS);
     let lock = matches!(letter, b'K' | b'N');
@@ -142,16 +161,11 @@ fn any_event(rng: &mut Rng, s: &State) -> Event {
     };
     let thread = number(threads, 8);
     let place = if lock { number(locks, 8) } else { number(variables, 16) };
-    let c = &s.cells[(16 * (thread % 8)) + place % 16];
-    let oldest = |slots: &[Slot], q: Ring| slots[8 * (16 * (thread % 8) + place % 16) + usize::from(q.first) % 8].value;
-    let value = match (rng.below(8), letter) {
-        (0, _) => rng.next() as i32,
-        (_, b'U' | b'S') => c.copy,
-        (_, b'L') => oldest(&s.reads, c.reads),
-        (_, b'W') => oldest(&s.stores, c.stores),
-        (_, b'R') => s.memory[place % 16],
-        (_, b'B') => c.announced,
-        _ => rng.pick(&[0, 1, 5, -7, i32::MAX, i32::MIN]),
+    let due = due(s, letter, thread, place).unwrap_or_else(|| rng.pick(OF_64_BITS));
+    let value = match rng.below(10) {
+        0 => rng.next() as Value,
+        1..=4 => one_bit_off(rng, due),
+        _ => due,
     };
     Event { letter, thread, place, value }
 }
@@ -182,9 +196,35 @@ pub fn walk(tally: &mut Tally, rng: &mut Rng, length: usize, stops: usize, each:
 // ---- states that events need not reach
 
 /// A number up to n: 0 and n more often than others.
-fn position(rng: &mut Rng, n: u32) -> u32 {
-    let any = rng.below(n as usize + 1) as u32;
+fn position(rng: &mut Rng, n: usize) -> usize {
+    let any = rng.below(n + 1);
     rng.pick(&[0, n, any])
+}
+
+/// A cell in range after n events.
+fn cell_in_range(rng: &mut Rng, n: usize, bars: usize, value: &impl Fn(&mut Rng) -> Value) -> Cell {
+    let ring = |rng: &mut Rng| Ring { first: rng.next() as u8, len: position(rng, 8) as u8 };
+    let mut c = Cell {
+        copy: value(rng),
+        announced: value(rng),
+        source: position(rng, n),
+        written: position(rng, n),
+        reads: ring(rng),
+        stores: ring(rng),
+        fresh: rng.chance(30),
+        pending: rng.chance(10),
+    };
+    match bars {
+        // half of the states have no thread that bars a lock or an unlock
+        0 | 1 => (c.pending, c.fresh, c.stores.len) = (false, false, 0),
+        // a quarter have early stores that wait, and few others
+        2 => {
+            (c.pending, c.fresh) = (rng.chance(50), false);
+            c.stores.len = u8::from(c.pending && rng.chance(70)) + u8::from(rng.chance(8));
+        }
+        _ => {}
+    }
+    c
 }
 
 /// A state in range, with anything in the places past a queue's count.
@@ -193,36 +233,18 @@ pub fn state_in_range(rng: &mut Rng) -> Kept {
     let mut s = Kept::initial(counts);
     let any = position(rng, 2_000);
     let n = rng.pick(&[1, 50, 1_999, any, any, any]);
-    s.events = n;
+    s.events = n as u32;
     let few = rng.chance(50);
     let bars = rng.below(4);
-    let value = |rng: &mut Rng| if few { rng.pick(&[0, 1]) } else { rng.next() as i32 };
-    let ring = |rng: &mut Rng| Ring { first: rng.next() as u8, len: position(rng, 8) as u8 };
+    let near = rng.pick(OF_64_BITS);
+    let pool = [near, one_bit_off(rng, near)];
+    let value = |rng: &mut Rng| if few { rng.pick(&pool) } else { rng.next() as Value };
     for i in 0..128 {
-        let mut c = Cell {
-            copy: value(rng),
-            announced: value(rng),
-            source: position(rng, n),
-            written: position(rng, n),
-            reads: ring(rng),
-            stores: ring(rng),
-            fresh: rng.chance(30),
-            pending: rng.chance(10),
-        };
-        match bars {
-            // half of the states have no thread that bars a lock or an unlock
-            0 | 1 => (c.pending, c.fresh, c.stores.len) = (false, false, 0),
-            // a quarter have early stores that wait, and few others
-            2 => {
-                (c.pending, c.fresh) = (rng.chance(50), false);
-                c.stores.len = u8::from(c.pending && rng.chance(70)) + u8::from(rng.chance(8));
-            }
-            _ => {}
-        }
+        let c = cell_in_range(rng, n, bars, &value);
         s.cells[i] = c;
         for k in 0..8 {
-            s.reads[8 * i + k] = Slot { value: value(rng), position: rng.next() as u32 };
-            s.stores[8 * i + k] = Slot { value: value(rng), position: rng.next() as u32 };
+            s.reads[8 * i + k] = Slot { value: value(rng), position: rng.next() as usize };
+            s.stores[8 * i + k] = Slot { value: value(rng), position: rng.next() as usize };
         }
         for k in 0..usize::from(c.reads.len) {
             s.reads[8 * i + (usize::from(c.reads.first) + k) % 8].position = position(rng, n);
@@ -234,7 +256,7 @@ pub fn state_in_range(rng: &mut Rng) -> Kept {
     for i in 0..8 {
         s.locked[i] = position(rng, n);
         if n > 0 && rng.chance(50) {
-            s.holds[i] = Hold { holder: rng.between(1, counts.threads), depth: position(rng, n).max(1) };
+            s.holds[i] = Hold { holder: rng.between(1, counts.threads), depth: position(rng, n).max(1) as u32 };
         }
     }
     for x in s.memory.iter_mut() {
@@ -279,6 +301,9 @@ fn against_model(tally: &mut Tally, before: &Kept, e: &Event) {
     if e.letter == b'N' && matches!(number, 0 | 16) {
         count_unlock(tally, before, e.thread, number);
     }
+    if number == 18 && due(before, e.letter, e.thread, e.place).is_some_and(|x| x as u32 == e.value as u32) {
+        *tally.halves.entry(e.letter).or_insert(0) += 1;
+    }
     let line = if number == 8 { 0 } else { before.events as usize + 3 };
     let reply = if number == 0 { (0, 0) } else { (number as usize, line) };
     let said = stepped(before, e, reply).and_then(|after| {
@@ -317,8 +342,8 @@ const IN_NO_PAPER: [(u8, u32, u32); 8] = [
     (b'P', 19, 23),
 ];
 
-/// Each refusal of each row, each two that one event can break, and each part of 16 at N occurred in the steps from states in range.
-/// Prints how often those with 15, 16 or 23 did.
+/// Each refusal of each row, each two that one event can break, each part of 16 at N, and 18 of values with the same low 32 bits at each
+/// letter occurred in the steps from states in range. Prints how often those with 15, 16 or 23, and these parts, did.
 pub fn every_answer(tally: &mut Tally) {
     let pairs = PAIRS.map(|(letter, number)| (letter, number, 0));
     let mut all = Vec::new();
@@ -330,6 +355,10 @@ pub fn every_answer(tally: &mut Tally) {
     }
     for ((name, number, _), times) in UNLOCKS.iter().zip(tally.unlocks) {
         all.push((*number, format!("{number} at N, {name}"), times, true));
+    }
+    for letter in "ULSRWB".bytes() {
+        let times = tally.halves.get(&letter).copied().unwrap_or(0);
+        all.push((18, format!("18 at {}, the same low 32 bits", letter as char), times, true));
     }
     for (number, name, times, _) in &all {
         let said = if *times > 0 { Ok(()) } else { Err(format!("no step from a state in range has {name}")) };
@@ -358,21 +387,25 @@ const SPOILS: [(&str, usize, Spoil); 17] = [
     ("source", 128, |s, i, r| s.cells[i].source = above(s.events, r)),
     ("last write", 128, |s, i, r| s.cells[i].written = above(s.events, r)),
     ("last lock", 8, |s, i, r| s.locked[i] = above(s.events, r)),
-    ("depth", 8, |s, i, r| s.holds[i] = Hold { holder: 1, depth: above(s.events, r) }),
+    ("depth", 8, |s, i, r| s.holds[i] = Hold { holder: 1, depth: r.pick(&[s.events + 1, 2_001, u32::MAX]) }),
     ("holder", 8, |s, i, r| s.holds[i] = Hold { holder: s.counts.threads + r.pick(&[1, 2, 8, 1 << 40]), depth: 1 }),
     ("holder without depth", 8, |s, i, r| s.holds[i] = Hold { holder: r.between(1, s.counts.threads), depth: 0 }),
     ("depth without holder", 8, |s, i, r| s.holds[i] = Hold { holder: 0, depth: r.pick(&[1, s.events]) }),
 ];
 
-fn above(n: u32, rng: &mut Rng) -> u32 {
-    rng.pick(&[n + 1, 2_001, u32::MAX])
+/// A position above n; some have the low 32 bits of one up to n.
+fn above(n: u32, rng: &mut Rng) -> usize {
+    let n = n as usize;
+    let low = position(rng, n);
+    let upper = rng.pick(&[1 << 32, 1 << 33, 1 << 63, usize::MAX << 32]);
+    rng.pick(&[n + 1, 2_001, u32::MAX as usize, usize::MAX, upper | low, upper | low])
 }
 
 /// The count of cell i is above eight, and no position above the events.
 fn spoil_count(n: u32, q: &mut Ring, slots: &mut [Slot], i: usize, rng: &mut Rng) {
     q.len = rng.pick(&[9, 16, 255]);
     for slot in &mut slots[8 * i..8 * i + 8] {
-        slot.position = slot.position.min(n);
+        slot.position = slot.position.min(n as usize);
     }
 }
 
@@ -382,7 +415,7 @@ fn spoil_queue(n: u32, q: &mut Ring, slots: &mut [Slot], i: usize, rng: &mut Rng
     let back = rng.below(8);
     *q = Ring { first: ((place + 8 - back) % 8) as u8, len: (back + 1) as u8 };
     for slot in &mut slots[i - place..i - place + 8] {
-        slot.position = slot.position.min(n);
+        slot.position = slot.position.min(n as usize);
     }
     slots[i].position = above(n, rng);
 }

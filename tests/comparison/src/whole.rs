@@ -4,6 +4,7 @@ use crate::c_api::{self, Marked};
 use marker_a::order::Section;
 use marker_a::{listing, paper, rules, Kind, Outcome, Verdict};
 use papers::generate::Rng;
+use papers::Value;
 use std::cell::{Cell, RefCell};
 
 /// Places that must be lent.
@@ -60,7 +61,7 @@ impl Lengths {
 
 struct Lent {
     what: Memory<u32>,
-    values: Memory<i32>,
+    values: Memory<Value>,
     out: Memory<u8>,
     order: Memory<u64>,
     scratch: Memory<u64>,
@@ -123,7 +124,7 @@ impl Lent {
         ensure(got == listing, || format!("markers A, B:\n{listing}this one:\n{got}"))?;
         ensure(marked == wanted, || format!("{marked:?}, wanted {wanted:?}"))?;
         ensure(self.out.is(listing.as_bytes()), || "output past the listing is touched".into())?;
-        let (what, values): (Vec<u32>, Vec<i32>) = records.iter().copied().unzip();
+        let (what, values): (Vec<u32>, Vec<Value>) = records.iter().copied().unzip();
         ensure(self.what.is(&what), || format!("records, wanted {what:x?}"))?;
         ensure(self.values.is(&values), || format!("values of the records, wanted {values:?}"))?;
         self.out.renew_front(listing.len());
@@ -151,7 +152,7 @@ pub struct Papers {
 }
 
 /// The record of an event, one number in each row: letter * 65536 + thread * 256 + variable or lock, and the value.
-type Record = (u32, i32);
+type Record = (u32, Value);
 
 fn record(e: &marker_a::Event) -> Record {
     let letter = match e.kind {
@@ -258,7 +259,7 @@ impl Papers {
         // no byte of a listing, no record, no entry and no zero is in a pattern; a value may be any number
         let lent = Lent {
             what: Memory::new(RECORDS, || rng.next() as u32 | 1 << 31),
-            values: Memory::new(RECORDS, || rng.next() as i32 | 1 << 30),
+            values: Memory::new(RECORDS, || rng.next() as Value | 1 << 62),
             out: Memory::new(OUT, || rng.next() as u8 | 0x80),
             order: Memory::new(ORDER, || rng.next() | 1 << 63),
             scratch: Memory::new(SCRATCH, || rng.next() | 1 << 63),

@@ -1,7 +1,8 @@
-//! A naive marker for the papers of document 01, with requests (a) and (d) of document 02.
+//! A naive marker for the papers of document 01, with requests (a), (d) and (g) of document 02.
 //!
 //! Every word of 01 is computed anew from the list of earlier events.
-//! The quoted sentences are 01's, for 23 those of 02 (a), and for 16 at N also those of 02 (d).
+//! The quoted sentences are 01's, for 23 those of 02 (a), for 16 at N also those of 02 (d), and for
+//! the width of values those of 02 (g).
 
 pub mod listing;
 pub mod order;
@@ -26,6 +27,9 @@ pub const MAX_VARIABLES: u32 = 16;
 pub const MAX_LOCKS: u32 = 8;
 /// "at most 8 outstanding reads and 8 outstanding stores for each thread and variable".
 pub const MAX_OUTSTANDING: usize = 8;
+
+/// "Values become signed 64-bit whole numbers in lines, records, copies, queues and listings."
+pub type Value = i64;
 
 /// The declared counts: "`H t v l`".
 #[derive(Clone, Copy, Debug, PartialEq, Eq)]
@@ -67,7 +71,7 @@ pub struct Event {
     pub kind: Kind,
     pub thread: u32,
     pub target: u32,
-    pub value: i32,
+    pub value: Value,
 }
 
 /// "A refusal gives number and line and nothing else."
@@ -90,7 +94,7 @@ pub enum Verdict {
 pub struct UsableCopy {
     pub thread: u32,
     pub variable: u32,
-    pub value: i32,
+    pub value: Value,
 }
 
 /// The order of an accepted paper.
@@ -114,7 +118,7 @@ pub struct Outcome {
     pub guards: Option<Vec<u32>>,
     pub events: Vec<Event>,
     /// Main memory of each declared variable after the last event.
-    pub main: Vec<i32>,
+    pub main: Vec<Value>,
     /// "by thread then variable".
     pub copies: Vec<UsableCopy>,
     pub order: Order,

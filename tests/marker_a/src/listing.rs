@@ -1,15 +1,15 @@
 //! The lines that the program `mark` prints.
 
-use crate::{Order, Outcome, Verdict};
+use crate::{Order, Outcome, Value, Verdict};
 
 /// The listing of a paper.
 pub fn listing(o: &Outcome) -> Vec<u8> {
     let mut out = Vec::new();
     match o.verdict {
         // "Otherwise it prints only `refused line number`".
-        Verdict::Refused(r) => write_line(&mut out, b"refused", &[r.line as i64, r.number.into()]),
+        Verdict::Refused(r) => write_line(&mut out, b"refused", &[r.line as Value, r.number.into()]),
         Verdict::Accepted(n) => {
-            write_line(&mut out, b"accepted", &[n as i64]);
+            write_line(&mut out, b"accepted", &[n as Value]);
             write_main(&mut out, o);
             write_copies(&mut out, o);
             write_order(&mut out, o);
@@ -21,14 +21,14 @@ pub fn listing(o: &Outcome) -> Vec<u8> {
 /// "each declared variable, rising, and its value in main memory".
 fn write_main(out: &mut Vec<u8>, o: &Outcome) {
     for (variable, &value) in o.main.iter().enumerate() {
-        write_line(out, b"main", &[variable as i64, value.into()]);
+        write_line(out, b"main", &[variable as Value, value]);
     }
 }
 
 /// "thread, variable and value of each usable copy, by thread then variable".
 fn write_copies(out: &mut Vec<u8>, o: &Outcome) {
     for c in &o.copies {
-        write_line(out, b"copy", &[c.thread.into(), c.variable.into(), c.value.into()]);
+        write_line(out, b"copy", &[c.thread.into(), c.variable.into(), c.value]);
     }
 }
 
@@ -38,18 +38,19 @@ fn write_order(out: &mut Vec<u8>, o: &Outcome) {
     match &o.order {
         Order::None => {}
         Order::Denied { number, line } => {
-            write_line(out, b"unordered", &[*line as i64, (*number).into()]);
+            write_line(out, b"unordered", &[*line as Value, (*number).into()]);
         }
         Order::Sections(sections) => {
             for s in sections {
-                write_line(out, b"section", &[s.thread.into(), s.first as i64, s.last as i64]);
+                write_line(out, b"section", &[s.thread.into(), s.first as Value, s.last as Value]);
             }
         }
     }
 }
 
-/// A word and numbers parted by one space, ended by byte 10.
-fn write_line(out: &mut Vec<u8>, word: &[u8], numbers: &[i64]) {
+/// A word and numbers parted by one space, ended by byte 10. Every printed number is within a
+/// value's width.
+fn write_line(out: &mut Vec<u8>, word: &[u8], numbers: &[Value]) {
     out.extend_from_slice(word);
     for &n in numbers {
         out.push(b' ');
@@ -59,16 +60,18 @@ fn write_line(out: &mut Vec<u8>, word: &[u8], numbers: &[i64]) {
 }
 
 /// Base ten, a minus before a negative number.
-fn write_number(out: &mut Vec<u8>, n: i64) {
+fn write_number(out: &mut Vec<u8>, n: Value) {
     if n < 0 {
         out.push(b'-');
     }
-    write_digits(out, n.unsigned_abs());
+    write_digits(out, n);
 }
 
-fn write_digits(out: &mut Vec<u8>, n: u64) {
-    if n >= 10 {
+/// The digits without the minus. The last digit is taken by itself, so the least value, which has
+/// no opposite, is written too.
+fn write_digits(out: &mut Vec<u8>, n: Value) {
+    if n / 10 != 0 {
         write_digits(out, n / 10);
     }
-    out.push(b'0' + (n % 10) as u8);
+    out.push(b'0' + (n % 10).unsigned_abs() as u8);
 }

@@ -2,7 +2,7 @@
 
 use crate::rules::{held, owed, under};
 use crate::Kind::{A, B, K, N, U};
-use crate::{line_of, Counts, Event, MAX_LOCKS, MAX_VARIABLES};
+use crate::{line_of, Counts, Event, Value, MAX_LOCKS, MAX_VARIABLES};
 
 /// A section: its thread, the lines of its first K and last N, and the line of its last K.
 #[derive(Clone, Copy, Debug, PartialEq, Eq)]
@@ -17,8 +17,8 @@ pub struct Section {
 #[derive(Clone, Copy, Debug, PartialEq, Eq)]
 pub struct Given {
     pub line: usize,
-    pub given: i32,
-    pub stated: i32,
+    pub given: Value,
+    pub stated: Value,
 }
 
 /// The places of a section in the list: its first K, and its last N unless it is still
@@ -110,7 +110,7 @@ fn rule_22(counts: Counts, events: &[Event]) -> bool {
 /// end before the next." Gives every U in running order, and the memory at the end.
 /// "It has one value for each declared variable, 0 at the start": the memory has the 16 that
 /// can be declared, and undeclared ones stay 0.
-pub fn plain_run(order: &[Section], events: &[Event]) -> (Vec<Given>, Vec<i32>) {
+pub fn plain_run(order: &[Section], events: &[Event]) -> (Vec<Given>, Vec<Value>) {
     let mut memory = vec![0; MAX_VARIABLES as usize];
     let mut uses = Vec::new();
     for section in order {
@@ -123,7 +123,7 @@ pub fn plain_run(order: &[Section], events: &[Event]) -> (Vec<Given>, Vec<i32>) 
 /// last, as they stand in the paper. A and B set their variable to the event's value. U
 /// changes nothing and is given its variable's value; the value in the U itself is not
 /// looked at. Every other kind does nothing, P included".
-fn run_section(section: &Section, events: &[Event], memory: &mut [i32], uses: &mut Vec<Given>) {
+fn run_section(section: &Section, events: &[Event], memory: &mut [Value], uses: &mut Vec<Given>) {
     for (i, e) in events.iter().enumerate() {
         let line = line_of(i);
         if e.thread != section.thread || line < section.first || line > section.last {

@@ -1,6 +1,6 @@
 //! The byte format of a paper: trailer, head, `G` line, event lines, numbers.
 
-use crate::{Counts, Event, Kind, Refusal};
+use crate::{Counts, Event, Kind, Refusal, Value};
 use crate::{MAX_BYTES, MAX_LOCKS, MAX_THREADS, MAX_VARIABLES};
 
 /// The parts of a paper that 1, 2, 3 and 6 do not refuse.
@@ -116,11 +116,16 @@ fn fields(line: &[u8]) -> Vec<&[u8]> {
     line.split(|&b| b == b' ').collect()
 }
 
-/// "Numbers are base ten, no leading zeros, no plus sign". A number over 64 bits gives the
-/// largest 64-bit number, which is over every limit.
+/// "Numbers are base ten, no leading zeros, no plus sign".
+fn well_formed(field: &[u8]) -> bool {
+    let digits = !field.is_empty() && field.iter().all(u8::is_ascii_digit);
+    digits && (field.len() == 1 || field[0] != b'0')
+}
+
+/// A number that is not a value. One over 64 bits gives the largest 64-bit number, which is over
+/// every limit.
 pub fn number(field: &[u8]) -> Option<u64> {
-    let digits = !field.is_empty() && field.iter().all(|b| (b'0'..=b'9').contains(b));
-    if !digits || (field.len() > 1 && field[0] == b'0') {
+    if !well_formed(field) {
         return None;
     }
     Some(field.iter().fold(0u64, |n, b| n.saturating_mul(10).saturating_add(u64::from(b - b'0'))))
@@ -142,22 +147,16 @@ fn index(field: &[u8]) -> Option<u32> {
     number(field).map(|n| n.min(u64::from(u32::MAX)) as u32)
 }
 
-/// "only a value may have a minus", "no `-0`", "a value outside 32 bits is 4".
-pub fn value(field: &[u8]) -> Option<i32> {
-    match field.split_first() {
-        Some((b'-', digits)) => {
-            let n = number(digits)?;
-            if n == 0 || n > 1 << 31 {
-                return None;
-            }
-            Some((-(n as i64)) as i32)
-        }
-        _ => {
-            let n = number(field)?;
-            if n > i32::MAX as u64 {
-                return None;
-            }
-            Some(n as i32)
-        }
+/// "only a value may have a minus", "no `-0`", "A value outside 64 bits is 4". The digits are added
+/// up one by one; more digits only take the sum further from 0, so a value is outside as soon as
+/// the sum is under `Value::MIN` or over `Value::MAX`.
+pub fn value(field: &[u8]) -> Option<Value> {
+    let (sign, digits) = match field.split_first() {
+        Some((b'-', digits)) => (-1, digits),
+        _ => (1, field),
+    };
+    if !well_formed(digits) || (sign == -1 && digits == b"0") {
+        return None;
     }
+    digits.iter().try_fold(0, |n: Value, b| n.checked_mul(10)?.checked_add(sign * Value::from(b - b'0')))
 }

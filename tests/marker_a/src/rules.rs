@@ -4,7 +4,7 @@
 //! T is `t`, V is `v`, the list is `es`.
 
 use crate::Kind::{self, A, B, K, L, N, P, R, S, U, W};
-use crate::{Counts, Event, MAX_EVENTS, MAX_OUTSTANDING};
+use crate::{Counts, Event, Value, MAX_EVENTS, MAX_OUTSTANDING};
 
 /// "the ten rows of this table are fixed", with "23, dead read, after 19 in the rows of R, A
 /// and P".
@@ -99,7 +99,7 @@ pub fn outstanding_stores(es: &[Event], t: u32, v: u32) -> Vec<usize> {
 }
 
 /// "*Copy*: the value of T's latest A, B or L on V." "copies are absent" at the start.
-pub fn copy(es: &[Event], t: u32, v: u32) -> Option<i32> {
+pub fn copy(es: &[Event], t: u32, v: u32) -> Option<Value> {
     latest(es, &[A, B, L], t, v).map(|e| e.value)
 }
 
@@ -150,7 +150,7 @@ pub fn under(es: &[Event], guards: &[u32], t: u32, v: u32) -> bool {
 }
 
 /// "*Main memory* of V: the value of the latest W on V, by any thread; 0 before one."
-pub fn main_memory(es: &[Event], v: u32) -> i32 {
+pub fn main_memory(es: &[Event], v: u32) -> Value {
     es.iter().rev().find(|e| e.kind == W && e.target == v).map_or(0, |e| e.value)
 }
 

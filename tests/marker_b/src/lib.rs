@@ -1,5 +1,8 @@
 //! Marker B: one pass over the bytes and a state that each event changes.
 
+/// What a variable holds.
+pub type Value = i64;
+
 /// What the head declares.
 #[derive(Clone, Copy, Debug, PartialEq, Eq)]
 pub struct Counts {
@@ -14,7 +17,7 @@ pub struct Event {
     pub letter: u8,
     pub thread: usize,
     pub place: usize,
-    pub value: i32,
+    pub value: Value,
 }
 
 impl Event {
@@ -44,13 +47,13 @@ const FIRST_LINE: u32 = 3;
 /// The outstanding reads or stores of a cell, in a ring: value and position.
 #[derive(Clone, Copy, Default)]
 struct Ring {
-    slots: [(i32, u32); ROOM],
+    slots: [(Value, u32); ROOM],
     start: usize,
     len: usize,
 }
 
 impl Ring {
-    fn front(&self) -> Option<(i32, u32)> {
+    fn front(&self) -> Option<(Value, u32)> {
         (self.len > 0).then(|| self.slots[self.start])
     }
 
@@ -58,7 +61,7 @@ impl Ring {
         self.len == ROOM
     }
 
-    fn push(&mut self, value: i32, position: u32) {
+    fn push(&mut self, value: Value, position: u32) {
         self.slots[(self.start + self.len) % ROOM] = (value, position);
         self.len += 1;
     }
@@ -74,11 +77,11 @@ impl Ring {
 struct Cell {
     reads: Ring,
     stores: Ring,
-    copy: i32,
+    copy: Value,
     /// the latest position among its assigns and the reads of its loads: usable when after the thread's last lock
     source: u32,
     last_write: u32,
-    announced: i32,
+    announced: Value,
     fresh: bool,
     owed: bool,
 }
@@ -119,7 +122,7 @@ pub struct State {
     cells: [[Cell; VARIABLES]; THREADS],
     threads: [Thread; THREADS],
     locks: [Lock; LOCKS],
-    main: [i32; VARIABLES],
+    main: [Value; VARIABLES],
     sections: Vec<Section>,
     denied: Option<(u32, u32)>,
 }
@@ -373,7 +376,7 @@ impl State {
     }
 
     /// The value that an event of this letter must bear, where something fixes it.
-    pub fn due(&self, letter: u8, t: usize, v: usize) -> Option<i32> {
+    pub fn due(&self, letter: u8, t: usize, v: usize) -> Option<Value> {
         let cell = &self.cells[t][v];
         match letter {
             b'U' | b'S' => Some(cell.copy),
@@ -426,12 +429,12 @@ impl<'a> Cursor<'a> {
         (self.at == self.line.len()).then_some(())
     }
 
-    /// Digits without a leading zero. Stops growing at ten digits and more, past every limit of the paper.
-    fn digits(&mut self) -> Option<i64> {
+    /// Digits without a leading zero. Stops growing at the greatest `u64`, past every limit of the paper.
+    fn digits(&mut self) -> Option<u64> {
         let first = self.at;
-        let mut n = 0i64;
+        let mut n = 0u64;
         while let Some(d @ b'0'..=b'9') = self.line.get(self.at) {
-            n = (n * 10 + i64::from(d - b'0')).min(1 << 40);
+            n = n.saturating_mul(10).saturating_add(u64::from(d - b'0'));
             self.at += 1;
         }
         match self.at - first {
@@ -442,22 +445,20 @@ impl<'a> Cursor<'a> {
         }
     }
 
-    fn spaced(&mut self) -> Option<i64> {
+    fn spaced(&mut self) -> Option<u64> {
         self.byte(b' ')?;
         self.digits()
     }
 
-    fn spaced_value(&mut self) -> Option<i32> {
+    fn spaced_value(&mut self) -> Option<Value> {
         self.byte(b' ')?;
-        let n = if self.byte(b'-').is_some() {
-            match self.digits()? {
-                0 => return None,
-                n => -n,
-            }
-        } else {
-            self.digits()?
-        };
-        i32::try_from(n).ok()
+        if self.byte(b'-').is_none() {
+            return Value::try_from(self.digits()?).ok();
+        }
+        match self.digits()? {
+            0 => None,
+            n => Value::checked_sub_unsigned(0, n),
+        }
     }
 }
 
@@ -466,7 +467,7 @@ fn read_head(line: &[u8]) -> Option<Counts> {
     c.byte(b'H')?;
     let (t, v, l) = (c.spaced()?, c.spaced()?, c.spaced()?);
     c.end()?;
-    if t < 1 || t > THREADS as i64 || v < 1 || v > VARIABLES as i64 || l > LOCKS as i64 {
+    if t < 1 || t > THREADS as u64 || v < 1 || v > VARIABLES as u64 || l > LOCKS as u64 {
         return None;
     }
     Some(Counts { threads: t as usize, variables: v as usize, locks: l as usize })
@@ -480,7 +481,7 @@ fn read_guards(line: &[u8], counts: Counts) -> Option<Vec<usize>> {
     if line != b"G -" {
         for _ in 0..counts.variables {
             let l = c.spaced()?;
-            if l >= counts.locks as i64 {
+            if l >= counts.locks as u64 {
                 return None;
             }
             guards.push(l as usize);
@@ -511,7 +512,7 @@ fn find_trailer(paper: &[u8]) -> Option<usize> {
     c.byte(b'Z')?;
     let n = c.spaced()?;
     c.end()?;
-    (last == 10 && n == start as i64).then_some(start)
+    (last == 10 && n == start as u64).then_some(start)
 }
 
 /// The state after the paper's events, or line and number of the refusal.

@@ -3,12 +3,12 @@
 use crate::fields::{load, long_fields, unread};
 use crate::find::Found;
 use crate::rows::*;
-use crate::{Counts, EVENTS, FIRST_LINE, LOCKS, SECTIONS, THREADS, VARIABLES};
+use crate::{Counts, Value, EVENTS, FIRST_LINE, LOCKS, SECTIONS, THREADS, VARIABLES};
 use std::marker::PhantomData;
 use std::mem::MaybeUninit;
 
 /// Reading a line by words takes bytes up to so many behind its start, and less than so many before it.
-const AROUND: usize = 24;
+const AROUND: usize = 40;
 
 /// How marking ended: after the last event, or at an event that is refused or denies the order.
 #[derive(Clone, Copy)]
@@ -22,7 +22,7 @@ pub enum End {
 pub struct Room {
     cells: [Cell; CELLS],
     what: [u32; EVENTS],
-    values: [i32; EVENTS],
+    values: [Value; EVENTS],
     /// entries of the order list, the position of the section's last lock in the upper half
     sections: [u64; SECTIONS],
     /// the last lines of the paper, with enough bytes around them
@@ -100,14 +100,14 @@ impl<'a> Machine<'a> {
 
     /// Main memory of a declared variable.
     #[inline(always)]
-    pub fn main(&self, v: usize) -> i32 {
+    pub fn main(&self, v: usize) -> Value {
         // SAFETY: the row of main memory is filled.
-        unsafe { (*self.room).cells[v].slots[COPY] as i32 }
+        unsafe { (*self.room).cells[v].slots[COPY] }
     }
 
     /// A copy of a declared thread.
     #[inline(always)]
-    pub fn copy(&self, t: usize, v: usize) -> i32 {
+    pub fn copy(&self, t: usize, v: usize) -> Value {
         self.main(VARIABLES * (1 + t) + v)
     }
 
@@ -122,7 +122,7 @@ impl<'a> Machine<'a> {
         unsafe { std::slice::from_raw_parts((&raw const (*self.room).sections).cast(), self.closed) }
     }
 
-    pub fn copy_records(&self, what: &mut [u32], values: &mut [i32]) {
+    pub fn copy_records(&self, what: &mut [u32], values: &mut [Value]) {
         let n = self.events;
         // SAFETY: so many are filled, and at least as many lent.
         unsafe {
@@ -173,7 +173,7 @@ impl<'a> Machine<'a> {
         let Counts { threads, variables, locks } = self.counts;
         let one_digit = variables.min(10);
         let what = (&raw mut (*self.room).what).cast::<u32>();
-        let values = (&raw mut (*self.room).values).cast::<i32>();
+        let values = (&raw mut (*self.room).values).cast::<Value>();
         let mut at = self.at;
         let mut events = self.events;
         let stop = self.stop;
@@ -206,7 +206,7 @@ impl<'a> Machine<'a> {
                 }
             } else {
                 if word >> 40 & 0xff_f0_ff == 0x0a_30_20 && (word >> 48 & 15) < 10 && place < one_digit {
-                    value = (word >> 48 & 15) as i32;
+                    value = (word >> 48 & 15) as Value;
                     next = at.add(8);
                 } else {
                     let Some(long) = long_fields(at, word, variables) else {
@@ -232,7 +232,7 @@ impl<'a> Machine<'a> {
     /// An event on a variable, whatever its letter: all that a row may ask and do, by the row's numbers. Letters follow each other
     /// without a pattern, and a wrong guess of a branch would cost more than what a row does not need.
     #[inline(always)]
-    unsafe fn access<const ORDER: bool>(&mut self, letter: u8, t: usize, v: usize, value: i32, events: usize) -> End {
+    unsafe fn access<const ORDER: bool>(&mut self, letter: u8, t: usize, v: usize, value: Value, events: usize) -> End {
         let row = TABLE.get_unchecked(usize::from(letter % 32));
         if row.letter != letter {
             return End::Refused(4);
@@ -243,22 +243,24 @@ impl<'a> Machine<'a> {
         let bits = *BITS.get_unchecked(v);
         let counts = u64::from_le_bytes((*cell).counts);
         let due_cell = if letter == b'R' { main } else { cell };
-        let due = slot(due_cell, cell, row.due).read() as u32;
-        let read = (slot(cell, cell, Pick { base: READS_AT as u32, count: READS_OUT as u32 }).read() >> 32) as u32;
+        let due = slot(due_cell, cell, row.due).read();
+        let read = u32::from(*(*cell).positions.get_unchecked(usize::from((*cell).counts[READS_OUT])));
         // shifted, the owed set lies over the fresh one
         let asked = thread.sets & !(thread.sets >> 16 & row.unless_owed);
         let broken = (asked ^ row.sets_due) & row.sets & bits
             | (counts.wrapping_add(row.plus) ^ row.counts_due) & row.counts
-            | u64::from((due ^ value as u32) & row.value);
+            | (due ^ value) as u64 & row.value;
         if broken != 0 {
-            return End::Refused(first_broken(letter, thread.sets & bits, (*cell).counts, due == value as u32));
+            return End::Refused(first_broken(letter, thread.sets & bits, (*cell).counts, due == value));
         }
         if ORDER && row.under & !(thread.under >> v) != 0 {
             return End::Denied(20);
         }
-        let now = events as u64 + 1;
         let to_cell = if letter == b'W' { main } else { cell };
-        slot(to_cell, cell, row.to).write(now << 32 | u64::from(value as u32));
+        slot(to_cell, cell, row.to).write(value);
+        // the position if it is a read. With eight outstanding the place is the oldest's, and this position does as well as its own: once
+        // a lock has followed that read, the rows bar every event on the cell but the load, which has taken the position
+        *(*cell).positions.get_unchecked_mut(usize::from((*cell).counts[READS_IN])) = events as u16 + 1;
         (*cell).counts = (counts.wrapping_add(row.step) & COUNTS).to_le_bytes();
         let joins = row.set & bits | (u64::from(read > thread.last_lock) & row.load) << v;
         thread.sets = (thread.sets & !(row.clear & bits) | joins).wrapping_add(row.unwritten);
@@ -352,7 +354,7 @@ impl<'a> Machine<'a> {
 
 /// The slot in a cell that is picked by the counts of this or another cell.
 #[inline(always)]
-unsafe fn slot(of: *mut Cell, counts: *const Cell, pick: Pick) -> *mut Slot {
+unsafe fn slot(of: *mut Cell, counts: *const Cell, pick: Pick) -> *mut Value {
     let further = *(*counts).counts.get_unchecked(pick.count as usize);
-    (&raw mut (*of).slots).cast::<Slot>().add(pick.base as usize + usize::from(further))
+    (&raw mut (*of).slots).cast::<Value>().add(pick.base as usize + usize::from(further))
 }

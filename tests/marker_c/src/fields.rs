@@ -1,6 +1,6 @@
 //! The fields of an event line, read by words of eight bytes.
 
-use crate::EVENTS;
+use crate::{Value, EVENTS};
 use std::arch::x86_64::{_mm_cmpeq_epi8, _mm_loadu_si128, _mm_movemask_epi8, _mm_set1_epi8};
 
 /// Eight bytes, the first in the lowest place.
@@ -12,7 +12,7 @@ pub unsafe fn load(at: *const u8) -> u64 {
 /// Variable, value and next line of a line on a variable; none where they are no declared variable and no value. The word is the
 /// line's first, with a letter, a thread and a digit in it.
 #[inline(always)]
-pub unsafe fn long_fields(at: *const u8, word: u64, variables: usize) -> Option<(usize, i32, *const u8)> {
+pub unsafe fn long_fields(at: *const u8, word: u64, variables: usize) -> Option<(usize, Value, *const u8)> {
     let (mut place, mut field) = ((word >> 32 & 15) as usize, 6);
     if (word >> 40) as u8 != b' ' {
         if word >> 32 & 0xff_f0_ff != 0x20_30_31 {
@@ -28,37 +28,57 @@ pub unsafe fn long_fields(at: *const u8, word: u64, variables: usize) -> Option<
 
 /// The value that begins at byte 6 or 7 of a line, and where it ends; without a branch on its sign and its length up to 8 digits.
 #[inline(always)]
-unsafe fn value(at: *const u8, word: u64, field: usize) -> Option<(i32, *const u8)> {
-    let ends = _mm_cmpeq_epi8(_mm_loadu_si128(at.add(5).cast()), _mm_set1_epi8(10));
-    let length = 5 + (_mm_movemask_epi8(ends) as u32).trailing_zeros() as usize;
+unsafe fn value(at: *const u8, word: u64, field: usize) -> Option<(Value, *const u8)> {
+    let mut ends = line_ends(at.add(5));
+    if ends == 0 {
+        ends = line_ends(at.add(21)) << 16;
+    }
+    let length = 5 + ends.trailing_zeros() as usize;
     let negative = usize::from((word >> (8 * field)) as u8 == b'-');
     let digits = length.wrapping_sub(field + negative);
-    if digits.wrapping_sub(1) > 9 {
+    if digits.wrapping_sub(1) >= DIGITS {
         return None;
     }
     let end = at.add(length);
-    let (kept, least) = *LENGTHS.get_unchecked(digits);
-    let lower = (load(end.sub(8)) ^ ZEROS) & kept;
-    let mut bad = over_nine(lower);
-    let mut magnitude = eight(lower);
+    let least = LENGTHS.get_unchecked(digits).1[negative];
+    let (mut magnitude, mut bad) = up_to_eight(end, digits);
     if digits > 8 {
-        // one or two digits before the last eight
-        let upper = (load(end.sub(16)) ^ ZEROS) >> 48 & if digits == 9 { 0xff00 } else { 0xffff };
-        bad |= over_nine(upper);
-        magnitude += 100_000_000 * (10 * (upper & 255) + (upper >> 8));
-        bad |= u64::from(magnitude > i32::MAX as u64 + negative as u64);
+        let (middle, bad_too) = up_to_eight(end.sub(8), digits - 8);
+        magnitude += 100_000_000 * middle;
+        bad |= bad_too;
+    }
+    if digits > 16 {
+        let (upper, bad_too) = up_to_eight(end.sub(16), digits - 16);
+        magnitude = magnitude.wrapping_add(upper.wrapping_mul(10_000_000_000_000_000));
+        bad |= bad_too | u64::from(magnitude > Value::MAX as u64 + negative as u64);
     }
     // no zero before other digits or behind a minus
-    bad |= u64::from(magnitude < least[negative]);
+    bad |= u64::from(magnitude < least);
     let value = if negative != 0 { magnitude.wrapping_neg() } else { magnitude };
-    (bad == 0).then_some((value as i32, end))
+    (bad == 0).then_some((value as Value, end))
 }
 
+/// Which of sixteen bytes are byte 10, a bit each.
+#[inline(always)]
+unsafe fn line_ends(at: *const u8) -> u32 {
+    _mm_movemask_epi8(_mm_cmpeq_epi8(_mm_loadu_si128(at.cast()), _mm_set1_epi8(10))) as u32
+}
+
+/// The number of the last eight of so many digits before `end`, and a 0 if they are digits. With other bytes it is any of 32 bits.
+#[inline(always)]
+unsafe fn up_to_eight(end: *const u8, digits: usize) -> (u64, u64) {
+    let kept = (load(end.sub(8)) ^ ZEROS) & LENGTHS.get_unchecked(digits).0;
+    (eight(kept), over_nine(kept))
+}
+
+/// The digits of the longest value. A number of so many fits into 64 bits.
+const DIGITS: usize = 19;
+
 /// By the number of digits: the bytes of the last eight, and the least number that has so many, without a minus and with one.
-static LENGTHS: [(u64, [u64; 2]); 11] = {
-    let mut lengths = [(!0, [0, 1]); 11];
+static LENGTHS: [(u64, [u64; 2]); DIGITS + 1] = {
+    let mut lengths = [(!0, [0, 1]); DIGITS + 1];
     let (mut n, mut power) = (1, 1);
-    while n <= 10 {
+    while n <= DIGITS {
         if n < 8 {
             lengths[n].0 = !0 << (64 - 8 * n);
         }
@@ -109,12 +129,12 @@ impl Cursor {
         (*self.0 == b).then(|| self.0 = self.0.add(1))
     }
 
-    /// A number in the paper's form, held at a number over all limits.
+    /// A number in the paper's form, held at the greatest `u64`, over all limits.
     unsafe fn number(&mut self) -> Option<u64> {
         let first = self.0;
         let mut n = 0u64;
         while (*self.0).is_ascii_digit() {
-            n = (10 * n + u64::from(*self.0 - b'0')).min(1 << 40);
+            n = n.saturating_mul(10).saturating_add(u64::from(*self.0 - b'0'));
             self.0 = self.0.add(1);
         }
         match self.0.offset_from(first) {
@@ -139,7 +159,7 @@ impl Cursor {
             self.byte(b' ')?;
             let negative = self.byte(b'-').is_some();
             let n = self.number()?;
-            if n > i32::MAX as u64 + u64::from(negative) || negative && n == 0 {
+            if n > Value::MAX as u64 + u64::from(negative) || negative && n == 0 {
                 return None;
             }
         }

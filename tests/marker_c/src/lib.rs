@@ -11,6 +11,9 @@ use events::{End, Machine};
 use listing::Listing;
 use std::mem::MaybeUninit;
 
+/// What a variable holds.
+pub type Value = i64;
+
 /// What is said of a trace, as in `include/dabzhoni.h`.
 #[derive(Clone, Copy, Debug, Default, PartialEq, Eq)]
 pub struct Marked {
@@ -50,7 +53,7 @@ struct Order<'a> {
 pub fn mark(
     paper: &[u8],
     what: &mut [u32],
-    values: &mut [i32],
+    values: &mut [Value],
     out: &mut [u8],
     order: &mut [u64],
     scratch: &mut [u64],
@@ -62,12 +65,12 @@ pub fn mark(
 }
 
 /// The same where no order is wanted.
-pub fn mark_unordered(paper: &[u8], what: &mut [u32], values: &mut [i32], out: &mut [u8]) -> Marked {
+pub fn mark_unordered(paper: &[u8], what: &mut [u32], values: &mut [Value], out: &mut [u8]) -> Marked {
     into(paper, what, values, out, None)
 }
 
 #[inline(always)]
-fn into(paper: &[u8], what: &mut [u32], values: &mut [i32], out: &mut [u8], order: Option<Order>) -> Marked {
+fn into(paper: &[u8], what: &mut [u32], values: &mut [Value], out: &mut [u8], order: Option<Order>) -> Marked {
     if what.len() < EVENTS || values.len() < EVENTS || out.len() < OUT {
         return Marked { number: 7, ..Marked::default() };
     }

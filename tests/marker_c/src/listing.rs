@@ -1,9 +1,10 @@
 //! The lines of the output. They are composed apart, by stores that are wider than what they write, and copied out at the end.
 
 use crate::events::Machine;
+use crate::Value;
 use std::mem::MaybeUninit;
 
-/// More than the longest listing: `accepted`, 16 variables, 128 copies and 1,000 sections.
+/// More than the longest listing, which has under 24,357 bytes: `accepted`, 16 variables, 128 copies and 1,000 sections.
 pub type Lines = MaybeUninit<[u8; 24_576]>;
 
 pub struct Listing<'a> {
@@ -47,25 +48,20 @@ impl<'a> Listing<'a> {
 
     /// A space and a value.
     #[inline(always)]
-    fn value(&mut self, value: i32) {
-        let mut n = value.unsigned_abs();
+    fn value(&mut self, value: Value) {
         self.push([b' ', b'-'], 1 + usize::from(value < 0));
-        if n < 10_000 {
-            let (digits, len) = four(n);
-            return self.push(digits.to_le_bytes(), len);
+        // fours of digits behind the first one to four, the last of them first
+        let (mut n, mut fours, mut behind) = (value.unsigned_abs(), [0; 4], 0);
+        while n >= 10_000 {
+            fours[behind] = (n % 10_000) as u32;
+            n /= 10_000;
+            behind += 1;
         }
-        let mut upper = n / 10_000;
-        n %= 10_000;
-        if upper >= 10_000 {
-            let (digits, len) = four(upper / 10_000);
-            self.push(digits.to_le_bytes(), len);
-            upper %= 10_000;
-            self.push((four_digits(upper) | 0x3030_3030).to_le_bytes(), 4);
-        } else {
-            let (digits, len) = four(upper);
-            self.push(digits.to_le_bytes(), len);
+        let (digits, len) = four(n as u32);
+        self.push(digits.to_le_bytes(), len);
+        for &n in fours[..behind].iter().rev() {
+            self.push((four_digits(n) | 0x3030_3030).to_le_bytes(), 4);
         }
-        self.push((four_digits(n) | 0x3030_3030).to_le_bytes(), 4);
     }
 
     /// A line of a word and two numbers.

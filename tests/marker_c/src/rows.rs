@@ -1,7 +1,7 @@
 //! What is kept for a thread and for a cell, and the rows of the letters as numbers, so that U, A, L, S, R, W, P and B all take one
 //! path without a branch on the letter.
 
-use crate::{THREADS, VARIABLES};
+use crate::{Value, EVENTS, THREADS, VARIABLES};
 
 /// What is kept for a thread.
 #[derive(Clone, Copy, Default)]
@@ -39,16 +39,17 @@ pub static BITS: [u64; VARIABLES] = {
     bits
 };
 
-/// A value, and its position in the upper half.
-pub type Slot = u64;
-
 /// What is kept for a thread and a variable: the copy, and the outstanding stores and reads, two queues of eight places.
 #[repr(C, align(32))]
 pub struct Cell {
     /// the lengths of the queues and their places, a byte each
     pub counts: [u8; 8],
-    pub slots: [Slot; 17],
+    pub slots: [Value; 17],
+    /// where the reads are among the events, by their places
+    pub positions: [u16; 8],
 }
+
+const _: () = assert!(std::mem::size_of::<Cell>() == 160 && EVENTS <= u16::MAX as usize);
 
 /// Main memory is a row of cells before those of the threads: its values are their copies.
 pub const CELLS: usize = (1 + THREADS) * VARIABLES;
@@ -56,7 +57,7 @@ pub const CELLS: usize = (1 + THREADS) * VARIABLES;
 /// Bytes of `counts`: the lengths, where the next read or store comes in, where the oldest is, where the latest store is; and a zero.
 pub const READS: usize = 0;
 pub const STORES: usize = 1;
-const READS_IN: usize = 2;
+pub const READS_IN: usize = 2;
 pub const READS_OUT: usize = 3;
 const STORES_IN: usize = 4;
 const STORES_OUT: usize = 5;
@@ -72,7 +73,7 @@ pub const NO_COUNTS: u64 = 7 << (8 * STORES_LAST);
 /// The slots: the copy, and where the queues begin.
 pub const COPY: usize = 0;
 const STORES_AT: usize = 1;
-pub const READS_AT: usize = 9;
+const READS_AT: usize = 9;
 
 /// A slot: the one at `base` and as many further as the byte of the counts says.
 #[derive(Clone, Copy)]
@@ -118,9 +119,9 @@ pub struct Row {
     pub plus: u64,
     pub counts: u64,
     pub counts_due: u64,
-    /// the value that the event must have, and whether it must
+    /// the value that the event must have, and all bits where it must
     pub due: Pick,
-    pub value: u32,
+    pub value: u64,
     /// 1 where the oldest read makes the copy usable if it came after the last lock
     pub load: u64,
     /// 1 where the variable must be under its guard
@@ -131,7 +132,7 @@ pub struct Row {
     pub unwritten: u64,
     /// what is added to the counts
     pub step: u64,
-    /// where the value and the position go
+    /// where the value goes
     pub to: Pick,
 }
 
@@ -145,7 +146,7 @@ const NO_ROW: Row = Row {
     counts: 0,
     counts_due: 0,
     due: THE_COPY,
-    value: u32::MAX,
+    value: u64::MAX,
     load: 0,
     under: 0,
     clear: 0,

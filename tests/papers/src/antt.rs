@@ -2,13 +2,13 @@
 
 use crate::by_a::After;
 use crate::generate::{self, candidates, short, Aim, Rng, Short, DOUBLES, PAIRS};
-use crate::{Counts, Event};
+use crate::{Counts, Event, Value};
 
-fn value(x: i32) -> String {
+fn value(x: Value) -> String {
     if x >= 0 {
         format!("(pos {x})")
     } else {
-        format!("(negsuc {})", -(i64::from(x)) - 1)
+        format!("(negsuc {})", -(x + 1))
     }
 }
 
@@ -171,7 +171,7 @@ pub fn accepted(most: usize) -> Vec<Vec<Event>> {
 }
 
 const FEW: Counts = Counts { threads: 2, variables: 1, locks: 1 };
-const VALUES: [i32; 2] = [0, 1];
+const VALUES: [Value; 2] = [0, 1];
 
 /// Each accepted trace: the verdict on every next event, main memory and usable copies.
 pub fn every_file(traces: &[Vec<Event>]) -> String {

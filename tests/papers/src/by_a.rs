@@ -1,6 +1,6 @@
 //! Marker A over marker B's events: its words and verdicts after a list of them.
 
-use crate::{Counts, Event};
+use crate::{Counts, Event, Value};
 use marker_a::{rules, Kind};
 
 pub fn counts(c: Counts) -> marker_a::Counts {
@@ -128,12 +128,12 @@ impl After {
     }
 
     /// Main memory, by variable.
-    pub fn main(&self) -> Vec<i32> {
+    pub fn main(&self) -> Vec<Value> {
         (0..self.counts.variables).map(|v| rules::main_memory(&self.earlier, v)).collect()
     }
 
     /// Thread, variable and value of each usable copy.
-    pub fn copies(&self) -> Vec<(u32, u32, i32)> {
+    pub fn copies(&self) -> Vec<(u32, u32, Value)> {
         let cells = (0..self.counts.threads).flat_map(|t| (0..self.counts.variables).map(move |v| (t, v)));
         cells
             .filter(|&(t, v)| rules::usable(&self.earlier, t, v))

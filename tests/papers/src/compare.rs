@@ -3,7 +3,7 @@
 use crate::by_a::{self, After};
 use crate::generate::{self, candidates, Aim, Rng, CASES, DOUBLES, PAIRS};
 use crate::shrink::shrink;
-use crate::{expected, Counts, Event};
+use crate::{expected, Counts, Event, Value};
 use marker_a::Kind;
 use marker_b::State;
 use std::collections::BTreeMap;
@@ -153,8 +153,8 @@ impl Comparison {
 
     /// Every trace of up to `most` events with two threads, one variable, one lock and two values, with its guard and without.
     /// Nothing is looked at after a refused event, so a trace ends with its first one.
-    pub fn every_short_trace(&mut self, most: usize) {
-        let all = candidates(FEW, &[0, 1]);
+    pub fn every_short_trace(&mut self, most: usize, values: [Value; 2]) {
+        let all = candidates(FEW, &values);
         for guards in [Some(&[0][..]), None] {
             self.extend(guards, &all, most, &mut Vec::new(), &State::new(FEW, guards));
         }
@@ -180,7 +180,8 @@ impl Comparison {
         }
     }
 
-    /// The same, and a trace goes on after a refused event.
+    /// Every trace of up to `most` events with the same threads, variable and lock and the values 0 and 1, guarded, going on after refused
+    /// events.
     pub fn every_trace(&mut self, most: usize) {
         let all = candidates(FEW, &[0, 1]);
         let mut traces: Vec<Vec<Event>> = vec![Vec::new()];
@@ -257,7 +258,10 @@ pub fn run(check: Check, size: Size) -> (usize, usize) {
     };
     let Size { seed, random, damaged, large, large_by_a, aimed, short } = size;
     part("known listings", &|c| c.known());
-    part("every short trace", &|c| c.every_short_trace(short));
+    part("every short trace", &|c| c.every_short_trace(short, [0, 1]));
+    part("every short trace of values with the same low 32 bits", &|c| {
+        c.every_short_trace(short.saturating_sub(1), [0, 1 << 32])
+    });
     part("every trace, past refused events too", &|c| c.every_trace(short.saturating_sub(2)));
     part("aimed papers", &|c| c.aimed(seed, aimed));
     part("random papers", &|c| c.seeds("seed", generate::random_paper, seed, random, random));

@@ -1,6 +1,8 @@
-//! Papers with the listing that documents 01 and 02 (a) and (d) give, or that follows from their words, worked out by hand.
+//! Papers with the listing that documents 01 and 02 (a), (d) and (g) give, or that follows from their words, worked out by hand. Those
+//! about the range of values are in `values`.
 
 use crate::generate::close;
+use crate::values;
 
 pub struct Expected {
     pub name: String,
@@ -9,7 +11,7 @@ pub struct Expected {
 }
 
 /// A paper from its head, `G` line and events, with commas for line ends; the trailer counts right.
-fn text(head: &str, guards: &str, events: &str) -> Vec<u8> {
+pub fn text(head: &str, guards: &str, events: &str) -> Vec<u8> {
     let mut body = format!("{head}\n{guards}\n");
     for line in events.split(", ").filter(|line| !line.is_empty()) {
         body += line;
@@ -19,7 +21,7 @@ fn text(head: &str, guards: &str, events: &str) -> Vec<u8> {
 }
 
 /// A listing, with commas for line ends.
-fn lines(listing: &str) -> String {
+pub fn lines(listing: &str) -> String {
     listing.split(", ").map(|line| format!("{line}\n")).collect()
 }
 
@@ -307,10 +309,6 @@ const TRACES: &[(&str, &str, &str)] = &[
         "accepted 2, main 0 0, main 1 0, copy 0 0 -2147483648, copy 0 1 2147483647",
     ),
     // numbers and forms of event lines
-    ("value past 32 bits", "A 0 0 2147483648", "refused 3 4"),
-    ("value below 32 bits", "A 0 0 -2147483649", "refused 3 4"),
-    ("value past 64 bits", "A 0 0 18446744073709551616", "refused 3 4"),
-    ("value that wraps 32 bits", "A 0 0 4294967296", "refused 3 4"),
     ("value below zero", "A 0 0 -1", "accepted 1, main 0 0, main 1 0, copy 0 0 -1"),
     ("minus zero", "A 0 0 -0", "refused 3 4"),
     ("minus alone", "A 0 0 -", "refused 3 4"),
@@ -336,7 +334,6 @@ const TRACES: &[(&str, &str, &str)] = &[
     ("thread that wraps 64 bits", "A 18446744073709551616 0 0", "refused 3 5"),
     ("variable that wraps 64 bits", "A 0 18446744073709551616 0", "refused 3 5"),
     ("undeclared and malformed", "A 9 9 00", "refused 3 4"),
-    ("undeclared and value past 32 bits", "A 9 9 2147483648", "refused 3 4"),
     ("undeclared before the row", "U 0 2 0", "refused 3 5"),
     ("too few fields", "U 0 0", "refused 3 4"),
     ("too many fields", "U 0 0 0 0", "refused 3 4"),
@@ -774,5 +771,6 @@ pub fn papers() -> Vec<Expected> {
     add("byte 255 in an event".into(), close(b"H 1 1 1\nG -\nA 0 0 \xff\n".to_vec()), "refused 3 4");
     add("byte 128 behind an event".into(), close(b"H 1 1 1\nG -\nA 0 0 0\x80\n".to_vec()), "refused 3 4");
     add("byte 255 in the trailer".into(), b"H 1 1 1\nG -\nZ 12\xff\n".to_vec(), "refused 0 2");
+    list.extend(values::papers());
     list
 }

@@ -1,7 +1,7 @@
 //! Papers and traces to mark.
 
 use crate::by_a::After;
-use crate::{Counts, Event};
+use crate::{Counts, Event, Value};
 use marker_b::State;
 
 /// SplitMix64: the same seed gives the same papers.
@@ -153,8 +153,40 @@ pub const CASES: [Case; 17] = [
     (b'L', 0, |after, e| after.at_read(e).is_some_and(|then| then.is_owed(e) && then.is_fresh(e))),
 ];
 
+/// Values of many lengths, and about the ends of 32 and 64 bits. Some have the same low 32 bits as another, or as 0.
+pub const OF_64_BITS: &[Value] = &[
+    1,
+    5,
+    -1,
+    -7,
+    100,
+    123_456_789,
+    i32::MAX as Value,
+    i32::MIN as Value,
+    i32::MAX as Value + 1,
+    i32::MIN as Value - 1,
+    (1 << 32) - 7,
+    (1 << 32) - 1,
+    1 << 32,
+    (1 << 32) + 1,
+    (1 << 32) + 5,
+    -1 << 32,
+    99_999_999_999,
+    -1_000_000_000_000_000,
+    12_345_678_901_234_567,
+    Value::MAX,
+    Value::MAX - 1,
+    Value::MIN + 1,
+    Value::MIN,
+];
+
+/// The value with another bit in one place, which is one of the upper 32 in half of the cases.
+pub fn one_bit_off(rng: &mut Rng, x: Value) -> Value {
+    x ^ 1 << rng.below(64)
+}
+
 /// Every event with these numbers and values.
-pub fn candidates(c: Counts, values: &[i32]) -> Vec<Event> {
+pub fn candidates(c: Counts, values: &[Value]) -> Vec<Event> {
     let mut list = Vec::new();
     for thread in 0..c.threads {
         for &letter in LETTERS {
@@ -194,7 +226,8 @@ pub fn short(rng: &mut Rng, aim: Aim, most: usize) -> Short {
         let counts = Counts { threads: rng.between(2, 3), variables: rng.between(2, 3), locks: rng.between(2, 3) };
         let mut values = vec![0];
         while values.len() < 3 {
-            let x = rng.pick(&[1, 5, -1, -7, 100, i32::MAX, i32::MIN]);
+            let other = rng.pick(&values);
+            let x = if rng.chance(40) { one_bit_off(rng, other) } else { rng.pick(OF_64_BITS) };
             if !values.contains(&x) {
                 values.push(x);
             }
@@ -315,10 +348,10 @@ struct Style {
     discipline: usize,
     /// in how many of a hundred events the thread stays the same as before
     stay: usize,
-    values: Vec<i32>,
+    values: Vec<Value>,
 }
 
-fn style(rng: &mut Rng) -> Style {
+fn style(rng: &mut Rng, pool: &[Value]) -> Style {
     // an outstanding read bars an assign, so that loads weigh more than reads where assigns are wanted
     let weights = match rng.below(10) {
         // U A L S R W K N P B
@@ -339,12 +372,12 @@ fn style(rng: &mut Rng) -> Style {
     };
     let mut values = vec![0];
     for _ in 0..rng.between(1, 4) {
-        values.push(rng.pick(&[1, 2, 5, -1, -7, 100, 65_536, 123_456_789, i32::MAX, i32::MIN]));
+        values.push(rng.pick(pool));
     }
     Style { weights, discipline: rng.pick(&[100, 100, 100, 98, 60, 0]), stay: rng.pick(&[0, 50, 90]), values }
 }
 
-fn any_event(rng: &mut Rng, counts: Counts, values: &[i32]) -> Event {
+fn any_event(rng: &mut Rng, counts: Counts, values: &[Value]) -> Event {
     let letter = rng.pick(LETTERS);
     let lock = matches!(letter, b'K' | b'N');
     Event {
@@ -381,9 +414,17 @@ fn open_event(rng: &mut Rng, state: &State, style: &Style, t: usize, closing: bo
     Some(rng.pick(&open[i]))
 }
 
-/// Counts, guards and events of a paper; accepted but for the bad events that are put in, so many in a hundred. An orderly paper
+/// Counts, guards and events.
+pub type Trace = (Counts, Option<Vec<usize>>, Vec<Event>);
+
+/// What a paper has, with values of 64 bits; accepted but for the bad events that are put in, so many in a hundred. An orderly paper
 /// has guards, keeps the order's rules, and ends with nothing held, owed or outstanding.
-pub fn long(rng: &mut Rng, length: usize, bad_percent: usize, orderly: bool) -> (Counts, Option<Vec<usize>>, Vec<Event>) {
+pub fn long(rng: &mut Rng, length: usize, bad_percent: usize, orderly: bool) -> Trace {
+    long_of(rng, OF_64_BITS, length, bad_percent, orderly)
+}
+
+/// The same, with 0 and some of these values.
+pub fn long_of(rng: &mut Rng, pool: &[Value], length: usize, bad_percent: usize, orderly: bool) -> Trace {
     let mut counts = match rng.below(10) {
         0 => Counts { threads: 8, variables: 16, locks: 8 },
         1 => Counts { threads: rng.between(1, 8), variables: rng.between(1, 16), locks: rng.between(0, 8) },
@@ -395,7 +436,7 @@ pub fn long(rng: &mut Rng, length: usize, bad_percent: usize, orderly: bool) -> 
     }
     let guarded = counts.locks > 0 && (orderly || rng.chance(65));
     let guards: Option<Vec<usize>> = guarded.then(|| (0..counts.variables).map(|_| rng.below(counts.locks)).collect());
-    let mut style = style(rng);
+    let mut style = style(rng, pool);
     if orderly {
         style.discipline = 100;
     }
@@ -407,6 +448,9 @@ pub fn long(rng: &mut Rng, length: usize, bad_percent: usize, orderly: bool) -> 
         tries += 1;
         if bad_percent > 0 && rng.chance(bad_percent) {
             let mut e = any_event(rng, counts, &style.values);
+            if let Some(due) = state.due(e.letter, e.thread, e.place).filter(|_| rng.chance(30)) {
+                e.value = one_bit_off(rng, due);
+            }
             if rng.chance(10) {
                 e.thread = rng.below(9);
             }
@@ -437,7 +481,7 @@ pub fn long(rng: &mut Rng, length: usize, bad_percent: usize, orderly: bool) -> 
     (counts, guards, events)
 }
 
-const FIELDS: [&[u8]; 24] = [
+const FIELDS: [&[u8]; 38] = [
     b"0",
     b"1",
     b"7",
@@ -458,7 +502,21 @@ const FIELDS: [&[u8]; 24] = [
     b"-2147483648",
     b"-2147483649",
     b"4294967296",
+    b"-4294967297",
+    b"999999999999999999",
+    b"1000000000000000000",
+    b"9223372036854775807",
+    b"9223372036854775808",
+    b"-9223372036854775808",
+    b"-9223372036854775809",
+    b"09223372036854775807",
+    b"9999999999999999999",
+    b"18446744073709551615",
     b"18446744073709551616",
+    b"-18446744073709551617",
+    b"340282366920938463463374607431768211456",
+    b"-340282366920938463463374607431768211457",
+    b"10000000000000000000000000000000000000000000000000000000000000000",
     b"99999999999999999999999999999999999999999999",
     b"x",
     b" ",
@@ -567,7 +625,8 @@ pub fn large_paper(seed: u64) -> Vec<u8> {
     let mut rng = Rng::new(seed);
     if rng.chance(25) {
         let mut body = b"H 1 1 1\nG 0\n".to_vec();
-        let field = vec![b'9'; 60_000 + rng.below(6_000)];
+        let mut field = vec![rng.pick(b"09"); 60_000 + rng.below(6_000)];
+        field[0] = rng.pick(b"19");
         body.extend(rng.pick(&[b"A ".as_slice(), b"A 0 ", b"A 0 0 ", b"A 0 0 -", b"K ", b"N 0 "]));
         body.extend(field);
         body.extend(rng.pick(&[b" 0 0\n".as_slice(), b" 0\n", b"\n"]));
@@ -585,12 +644,12 @@ pub fn large_paper(seed: u64) -> Vec<u8> {
     if rng.chance(50) {
         let at = events.len().saturating_sub(1 + rng.below(100));
         if let Some(e) = events.get_mut(at) {
-            *e = any_event(&mut rng, counts, &[0, 1, 5]);
+            *e = any_event(&mut rng, counts, &[0, 1, 1 << 32]);
         }
     }
     // and some go on past 2,000 events
     while events.len() < length {
-        events.push(any_event(&mut rng, counts, &[0, 1, 5]));
+        events.push(any_event(&mut rng, counts, &[0, 1, 1 << 32]));
     }
     paper(counts, guards.as_deref(), &events)
 }

@@ -6,5 +6,6 @@ pub mod compare;
 pub mod expected;
 pub mod generate;
 pub mod shrink;
+pub mod values;
 
-pub use marker_b::{Counts, Event};
+pub use marker_b::{Counts, Event, Value};

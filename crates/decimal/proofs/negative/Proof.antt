@@ -3,11 +3,10 @@ use mathlib.Core.Path.{ap, _∙_}
 use Prim.Native.Nat.{_-_, _<_}
 use native.Mathlib.Omega.{arith}
 use borrow.Author.Tests.{ne-eqb, le-leb, lt-leb}
-use Rattle.rules.specs.Limits.{valueWidth}
+use Rattle.rules.specs.Limits.{valueWidth, limit}
 use mir.ValLaws.{toZ-ofZ}
 use Rattle.decimal.specs.declared.Integer.the-variants as integer
 use Rattle.decimal.proofs.SignedLaws.{minus, minus-fits}
-use Rattle.decimal.specs.Decimal.{limit}
 use borrow.Author.Needs.{needs}
 use Rattle.decimal.proofs.negative.Statement.{statement}
 use Rattle.decimal.proofs.negative.Tie as tie
@@ -36,14 +35,14 @@ returns-2 c = search needs
 returns-3 : tie.Need-returns-3
 returns-3 c =
     let m = c .before .before .before .n .given .0 .0 in
-    let k : m - 1 < limit = omega arith in
-    rw (c .before .before .before .n .given .1, ne-eqb m 0 (λ e. omega arith), le-leb m limit (omega arith))
+    let k : m - 1 < limit valueWidth = omega arith in
+    rw (c .before .before .before .n .given .1, ne-eqb m 0 (λ e. omega arith), le-leb m (limit valueWidth) (omega arith))
     (ap integer.Of (toZ-ofZ valueWidth _ (sub-t10 c) ∙ minus valueWidth (m - 1) k))
 
 returns-4 : tie.Need-returns-4
 returns-4 c =
     let m = c .before .before .before .n .given .0 .0 in
-    rw (c .before .before .before .n .given .1, ne-eqb m 0 (λ e. omega arith), lt-leb m limit (omega arith))
+    rw (c .before .before .before .n .given .1, ne-eqb m 0 (λ e. omega arith), lt-leb m (limit valueWidth) (omega arith))
 
 pub negative-spec : {M : Type 1} → statement M
 negative-spec =

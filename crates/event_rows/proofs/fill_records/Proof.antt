@@ -34,7 +34,8 @@ use denote.Shadow.{pureI}
 use denote.Laws.{Is, shows}
 use denote.Memory.{pointee}
 use denote.Plain.{uint-makes, uint-vals, uint-tells, uint-lawful}
-use denote.Builtin.{u32, i32, usize}
+use denote.Builtin.{u32, usize}
+use denote.Signed.{SInt}
 use denote.Ref.{RefT}
 use denote.Slice.{sliceTy, sliceVal, MutSlice, ShrSlice, Room, heres, codedHoleys, at-slice, slice-vals, mut-slice-tells, shr-slice-tells, shr-slice-copy}
 use denote.Lend.{Held}
@@ -51,6 +52,7 @@ use denote.Triple.Table.{entered, cited}
 use denote.Triple.Walked.{says, Stays, stay-slice, stay-dropped, walkOf, goes-slice, goes-dropped, Walks, ends-at, walked, walk-meets}
 use denote.Exit.{yes}
 use borrow.Author.Needs.{scaled-fits}
+use Rattle.rules.specs.Limits.{valueWidth}
 use Rattle.rules.specs.declared.Event.{Event}
 use Rattle.rules.specs.declared.Counts.{Counts}
 use Rattle.rules.proofs.Event as E
@@ -77,7 +79,7 @@ use Rattle.event_rows.proofs.fill_records.Code.Mir as mir-of
 abbrev stayed : Stays (fill.ended .signature .params) (fill.ended .kept)
 stayed = (
   stay-slice (0 ∷ []) tt (plain (λ _. E.the-row)),
-  (stay-dropped (plain (λ _. Cn.the-row)) yes, (stay-dropped (shrSliceOf (1 ∷ []) tt (plain (λ _. u32))) yes, (stay-dropped (shrSliceOf (2 ∷ []) tt (plain (λ _. i32))) yes, (stay-dropped (plain (λ _. usize)) yes, tt)))),
+  (stay-dropped (plain (λ _. Cn.the-row)) yes, (stay-dropped (shrSliceOf (1 ∷ []) tt (plain (λ _. u32))) yes, (stay-dropped (shrSliceOf (2 ∷ []) tt (plain (λ _. SInt valueWidth))) yes, (stay-dropped (plain (λ _. usize)) yes, tt)))),
 )
 
 abbrev evals : Event → List Val
@@ -99,7 +101,7 @@ abbrev slice₁ : Ty
 slice₁ = sliceTy (tyRef (named 1) imm (pointee (u32 .written)))
 
 abbrev slice₂ : Ty
-slice₂ = sliceTy (tyRef (named 2) imm (pointee (i32 .written)))
+slice₂ = sliceTy (tyRef (named 2) imm (pointee (SInt valueWidth .written)))
 
 -- the least of the counts
 abbrev Count : ℕ → ℕ → ℕ → ℕ → ℕ
@@ -128,7 +130,7 @@ some-event = unpacked 0 0 (pos 0)
 
 module _ {M : Type 1} (𝓤 : URA M) (H : Heap 𝓤) (A : Atoms 𝓤) (W : Given 𝓤 H A) (mem : Memory → SProp 𝓤) (run : Routine → Fun 𝓤) (κ κ₁ κ₂ : Lft) (q q₁ q₂ : Share)
     (b o : ℕ) (γ : GName) (ys : List Event) (h : Counts) (b₁ o₁ : ℕ) (γ₁ : GName) (rs : List ℕ) (b₂ o₂ : ℕ) (γ₂ : GName) (xs : List ℤ) (n : ℕ)
-    (h-is : Is Cn.the-row h (cvals h)) (n-fits : n < 2 ^ 64) (room : Room E.the-row (length ys)) (room₁ : Room u32 (length rs)) (room₂ : Room i32 (length xs)) where
+    (h-is : Is Cn.the-row h (cvals h)) (n-fits : n < 2 ^ 64) (room : Room E.the-row (length ys)) (room₁ : Room u32 (length rs)) (room₂ : Room (SInt valueWidth) (length xs)) where
   abbrev at : List Event → RefT (List Event)
   at l = record { ptr = (b, o); name = γ; now = l }
 
@@ -162,7 +164,7 @@ module _ {M : Type 1} (𝓤 : URA M) (H : Heap 𝓤) (A : Atoms 𝓤) (W : Given
   Own₁ = ‵ (ShrSlice (named 1) κ₁ u32 .own p₁ (t₁ ∷ []))
 
   abbrev Own₂ : Item 𝓤
-  Own₂ = ‵ (ShrSlice (named 2) κ₂ i32 .own p₂ (t₂ ∷ []))
+  Own₂ = ‵ (ShrSlice (named 2) κ₂ (SInt valueWidth) .own p₂ (t₂ ∷ []))
 
   -- the row of events with its first i places written
   abbrev after : ℕ → List Event
@@ -210,7 +212,7 @@ module _ {M : Type 1} (𝓤 : URA M) (H : Heap 𝓤) (A : Atoms 𝓤) (W : Given
   Tokens = ‵ (flft κ q) ⊛ ‵ (flft κ₁ q₁) ⊛ ‵ (flft κ₂ q₂) ⊛ ‵ ftrue
 
   abbrev Owned : Item 𝓤
-  Owned = ‵ (owns (MutSlice (named 0) κ E.the-row ∷ Cn.the-row ∷ ShrSlice (named 1) κ₁ u32 ∷ ShrSlice (named 2) κ₂ i32 ∷ usize ∷ []) a vals)
+  Owned = ‵ (owns (MutSlice (named 0) κ E.the-row ∷ Cn.the-row ∷ ShrSlice (named 1) κ₁ u32 ∷ ShrSlice (named 2) κ₂ (SInt valueWidth) ∷ usize ∷ []) a vals)
 
   module _ (𝓣 : Tables 𝓤 H) (known : Triple 𝓤 (𝓣 .C #event-at) (EventAt 𝓤 H A mem run)) (m : ℕ) (is-m : m ≡ Count n (length ys) (length rs) (length xs)) (m-fits : m < 2 ^ 64) (l₀ l₁ l₂ l₃ l₄ l₅ l₆ l₇ l₈ l₉ l₁₀ l₁₁ l₁₂ l₁₃ l₁₄ : ℕ) where
     abbrev C : Calls 𝓤 H
@@ -273,7 +275,7 @@ module _ {M : Type 1} (𝓤 : URA M) (H : Heap 𝓤) (A : Atoms 𝓤) (W : Given
         rewrite ! 3 (λ (t : Bool). ‵ (fat fullShare tyBool l₁₂ 0 (vbool t))) (holds (ltb i m) (lt→ltb i m small)) refl $
         stays ! (load ! (from ! (stop !)) (look ! 3 refl)) $
         move ! (32 ∷ []) $ use1 W (Own₁ ⊛ Own₁) (shr-slice-copy 𝓤 H A W (named 1) κ₁ u32 .twice p₁ (t₁ ∷ [])) $ split ! $
-        move ! (34 ∷ []) $ use1 W (Own₂ ⊛ Own₂) (shr-slice-copy 𝓤 H A W (named 2) κ₂ i32 .twice p₂ (t₂ ∷ [])) $ split ! $
+        move ! (34 ∷ []) $ use1 W (Own₂ ⊛ Own₂) (shr-slice-copy 𝓤 H A W (named 2) κ₂ (SInt valueWidth) .twice p₂ (t₂ ∷ [])) $ split ! $
         move ! (34 ∷ 35 ∷ 2 ∷ 0 ∷ []) $ group ! 4 $ use1 W (raw (EventAt 𝓤 H A mem run .pre (to-event i))) (goes-event i i-fits (lt-of-lt-of-le small few, (lt-of-lt-of-le small fits₁, lt-of-lt-of-le small fits₂))) $
         -- [what the callee asks; the values'; the whats'; the row; i; …]
         calls-at ! (fmOf 𝓤 H (W .laws) 𝓣) (EventAt 𝓤 H A mem run) known (to-event i) (and-then ! (load ! (from ! (stop !)) (look ! 10 refl)) (and-then ! (load ! (from ! (stop !)) (look ! 11 refl)) (and-then ! (load ! (from ! (stop !)) (look ! 12 refl)) (and-then ! (load ! (from ! (stop !)) (look ! 4 refl)) (no-more !))))) (λ v.
@@ -419,7 +421,7 @@ module _ {M : Type 1} (𝓤 : URA M) (H : Heap 𝓤) (A : Atoms 𝓤) (W : Given
 module _ {M : Type 1} (𝓤 : URA M) (H : Heap 𝓤) (A : Atoms 𝓤) (W : Given 𝓤 H A) (mem : Memory → SProp 𝓤) (run : Routine → Fun 𝓤) (𝓣 : Tables 𝓤 H) (known-least : Triple 𝓤 (𝓣 .C #least) (Least 𝓤 H A mem run)) (known : Triple 𝓤 (𝓣 .C #event-at) (EventAt 𝓤 H A mem run)) where
   fill-walks : Walks 𝓤 H A fill.ended stayed (WpFn 𝓤 H (𝓣 .C) (𝓣 .Λ) code.function) (fill.clauses 𝓤 H A mem run)
   fill-walks = walked 𝓤 H A fill.ended stayed (fill.clauses 𝓤 H A mem run) (WpFn 𝓤 H (𝓣 .C) (𝓣 .Λ) code.function)
-      (λ κs. (slice-vals, (cvals, (slice-vals, (slice-vals, (uint-vals w64, tt)))))) (λ κs. (mut-slice-tells (named 0) (κs .0) E.the-row, (LL.tells Cn.the-type Cn′.the-laws, (shr-slice-tells (named 1) (κs .1 .0) u32, (shr-slice-tells (named 2) (κs .1 .1 .0) i32, (uint-tells w64, tt))))))
+      (λ κs. (slice-vals, (cvals, (slice-vals, (slice-vals, (uint-vals w64, tt)))))) (λ κs. (mut-slice-tells (named 0) (κs .0) E.the-row, (LL.tells Cn.the-type Cn′.the-laws, (shr-slice-tells (named 1) (κs .1 .0) u32, (shr-slice-tells (named 2) (κs .1 .1 .0) (SInt valueWidth), (uint-tells w64, tt))))))
       (λ κs qs bounds a g are. via 𝓤 _ (fst∗ 𝓤 _ (emp 𝓤))
       (walk 𝓤 H A W mem run (κs .0) (κs .1 .0) (κs .1 .1 .0) (qs .0) (qs .1 .0) (qs .1 .1 .0) (a .0 .ptr .0) (a .0 .ptr .1) (a .0 .name) (a .0 .now) (a .1 .0)
       (a .1 .1 .0 .ptr .0) (a .1 .1 .0 .ptr .1) (a .1 .1 .0 .name) (a .1 .1 .0 .now) (a .1 .1 .1 .0 .ptr .0) (a .1 .1 .1 .0 .ptr .1) (a .1 .1 .1 .0 .name) (a .1 .1 .1 .0 .now) (a .1 .1 .1 .1 .0)
@@ -429,7 +431,7 @@ module _ {M : Type 1} (𝓤 : URA M) (H : Heap 𝓤) (A : Atoms 𝓤) (W : Given
   fill-meets =
       walk-meets 𝓤 H A fill.ended stayed W (
         goes-slice 𝓤 H A W 3 0 tt (plain (λ _. E.the-row)),
-        (goes-dropped 𝓤 H A W 3 (plain (λ _. Cn.the-row)) yes (λ κs x f. refl), (goes-dropped 𝓤 H A W 3 (shrSliceOf (1 ∷ []) tt (plain (λ _. u32))) yes (λ κs x f. refl), (goes-dropped 𝓤 H A W 3 (shrSliceOf (2 ∷ []) tt (plain (λ _. i32))) yes (λ κs x f. refl), (goes-dropped 𝓤 H A W 3 (plain (λ _. usize)) yes (λ κs x f. refl), tt)))),
+        (goes-dropped 𝓤 H A W 3 (plain (λ _. Cn.the-row)) yes (λ κs x f. refl), (goes-dropped 𝓤 H A W 3 (shrSliceOf (1 ∷ []) tt (plain (λ _. u32))) yes (λ κs x f. refl), (goes-dropped 𝓤 H A W 3 (shrSliceOf (2 ∷ []) tt (plain (λ _. SInt valueWidth))) yes (λ κs x f. refl), (goes-dropped 𝓤 H A W 3 (plain (λ _. usize)) yes (λ κs x f. refl), tt)))),
       ) (fill.clauses 𝓤 H A mem run)
       (WpFn 𝓤 H (𝓣 .C) (𝓣 .Λ) code.function) (WpFn-mono 𝓤 H (W .laws) 𝓣 code.function) fill-walks
 

@@ -3,6 +3,7 @@ use mathlib.Core.Path.{sym, ap, _∙_}
 use Prim.Native.Nat.{ℕ, _-_}
 use denote.Ref.{now}
 use lib.ListN.{drop}
+use Rattle.rules.specs.Limits.{valueWidth}
 use Rattle.decimal.specs.declared.Reached.{Reached}
 use Rattle.events.specs.Events.{afterThread}
 use Rattle.events.specs.Computed.Lines.{stage}
@@ -32,7 +33,7 @@ returns c =
     let a = c .before .before .before .before .before .args in
     let r = c .before .before .before .number-until in
     c .no-line .ensures
-    ∙ sym (stage-bad (afterThread (a .k)) (thread-none (a .k)) (a .at) (drop (a .at) (now (a .s))) (ap (λ (q : Reached). q .number) (sym (r .ensures)) ∙ c .before .enum-told .given .1))
+    ∙ sym (stage-bad (afterThread valueWidth (a .k)) (thread-none (a .k)) (a .at) (drop (a .at) (now (a .s))) (ap (λ (q : Reached). q .number) (sym (r .ensures)) ∙ c .before .enum-told .given .1))
 
 returns-2 : tie.Need-returns-2
 returns-2 c =
@@ -40,8 +41,8 @@ returns-2 c =
     let r = c .before .before .before .before .number-until in
     let n = c .before .before .n in
     c .after-thread .ensures
-    ∙ ap (λ (i : ℕ). stage (afterThread (a .k) (n .given .0 .0)) i (drop i (now (a .s)))) (ap (λ (q : Reached). q .next) (r .ensures))
-    ∙ sym (stage-number (afterThread (a .k)) (a .at) (now (a .s)) (n .given .0 .0) (ap (λ (q : Reached). q .number) (sym (r .ensures)) ∙ n .given .1))
+    ∙ ap (λ (i : ℕ). stage (afterThread valueWidth (a .k) (n .given .0 .0)) i (drop i (now (a .s)))) (ap (λ (q : Reached). q .next) (r .ensures))
+    ∙ sym (stage-number (afterThread valueWidth (a .k)) (a .at) (now (a .s)) (n .given .0 .0) (ap (λ (q : Reached). q .number) (sym (r .ensures)) ∙ n .given .1))
 
 pub after-letter-spec : {M : Type 1} → statement M
 after-letter-spec =

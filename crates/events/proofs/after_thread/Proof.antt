@@ -3,6 +3,7 @@ use mathlib.Core.Path.{refl, sym, ap, _∙_}
 use Prim.Native.Nat.{ℕ}
 use denote.Ref.{now}
 use lib.ListN.{drop}
+use Rattle.rules.specs.Limits.{valueWidth}
 use Rattle.decimal.specs.declared.Reached.{Reached}
 use Rattle.events.specs.Events.{last, valueEnd}
 use Rattle.events.specs.Computed.Lines.{stage}
@@ -43,7 +44,7 @@ returns-2 c =
     let a = c .before .before .before .before .before .before .before .args in
     let r = c .before .before .before .number-until in
     c .no-line .ensures
-    ∙ sym (stage-bad (λ v. last (valueEnd (a .k) (a .t) v)) (λ n. refl) (a .at) (drop (a .at) (now (a .s))) (ap (λ (q : Reached). q .number) (sym (r .ensures)) ∙ c .before .enum-told .given .1))
+    ∙ sym (stage-bad (λ v. last (valueEnd valueWidth (a .k) (a .t) v)) (λ n. refl) (a .at) (drop (a .at) (now (a .s))) (ap (λ (q : Reached). q .number) (sym (r .ensures)) ∙ c .before .enum-told .given .1))
     ∙ thread-value (a .k) (a .t) (a .at) (drop (a .at) (now (a .s))) (sym (c .before .before .before .before .before .is-lock-letter .ensures) ∙ c .before .before .before .before .if1 .left)
 
 returns-3 : tie.Need-returns-3
@@ -52,8 +53,8 @@ returns-3 c =
     let r = c .before .before .before .before .number-until in
     let n = c .before .before .n in
     c .value-end .ensures
-    ∙ ap (λ (i : ℕ). stage (last (valueEnd (a .k) (a .t) (n .given .0 .0))) i (drop i (now (a .s)))) (ap (λ (q : Reached). q .next) (r .ensures))
-    ∙ sym (stage-number (λ v. last (valueEnd (a .k) (a .t) v)) (a .at) (now (a .s)) (n .given .0 .0) (ap (λ (q : Reached). q .number) (sym (r .ensures)) ∙ n .given .1))
+    ∙ ap (λ (i : ℕ). stage (last (valueEnd valueWidth (a .k) (a .t) (n .given .0 .0))) i (drop i (now (a .s)))) (ap (λ (q : Reached). q .next) (r .ensures))
+    ∙ sym (stage-number (λ v. last (valueEnd valueWidth (a .k) (a .t) v)) (a .at) (now (a .s)) (n .given .0 .0) (ap (λ (q : Reached). q .number) (sym (r .ensures)) ∙ n .given .1))
     ∙ thread-value (a .k) (a .t) (a .at) (drop (a .at) (now (a .s))) (sym (c .before .before .before .before .before .before .is-lock-letter .ensures) ∙ c .before .before .before .before .before .if1 .left)
 
 pub after-thread-spec : {M : Type 1} → statement M

@@ -3,6 +3,7 @@ use mathlib.Core.Path.{sym, _∙_}
 use native.Mathlib.Omega.{arith}
 use borrow.Author.Tests.{not-true, not-false}
 use denote.Ref.{now}
+use Rattle.rules.specs.Limits.{valueWidth}
 use Rattle.events.specs.Events.{fromFields}
 use Rattle.events.specs.Computed.Lines.{lineAt}
 use Rattle.events.proofs.LineLaws.{at-none, at-last, at-other, at-space, stage-out}
@@ -17,7 +18,7 @@ returns : tie.Need-returns
 unfolding lineAt
 returns c =
     let a = c .before .before .before .args in
-    c .no-line .ensures ∙ stage-out fromFields (now (a .s)) (a .at) (c .before .if1 .taken)
+    c .no-line .ensures ∙ stage-out (fromFields valueWidth) (now (a .s)) (a .at) (c .before .if1 .taken)
 
 shared-slice-read-k : tie.Need-shared-slice-read-k
 shared-slice-read-k c = search needs

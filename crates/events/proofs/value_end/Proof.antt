@@ -3,6 +3,7 @@ use mathlib.Core.Path.{sym, ap, _∙_}
 use Prim.Native.Nat.{_-_}
 use native.Mathlib.Omega.{arith}
 use denote.Ref.{now}
+use Rattle.rules.specs.Limits.{valueWidth}
 use Rattle.decimal.specs.declared.Integer.{Integer}
 use Rattle.decimal.specs.Decimal.{positiveOf, negativeOf}
 use Rattle.decimal.specs.declared.Reached.{Reached}
@@ -19,7 +20,7 @@ no-line-requires c κs = search needs
 returns : tie.Need-returns
 returns c =
     let a = c .before .before .before .args in
-    c .no-line .ensures ∙ stage-out (last (valueEnd (a .k) (a .t) (a .v))) (now (a .s)) (a .at) (c .before .if1 .taken)
+    c .no-line .ensures ∙ stage-out (last (valueEnd valueWidth (a .k) (a .t) (a .v))) (now (a .s)) (a .at) (c .before .if1 .taken)
 
 shared-slice-read-if2 : tie.Need-shared-slice-read-if2
 shared-slice-read-if2 c = search needs
@@ -42,7 +43,7 @@ returns-2 c =
     let r = c .before .before .number-until in
     c .made .ensures
     ∙ ap (λ (i : Integer). placed (r .result .next) (onInteger i (λ z. right (a .k) (a .t) (a .v) z))) (c .before .negative .ensures)
-    ∙ ap (λ (q : Reached). placed (q .next) (onInteger (negativeOf (q .number)) (λ z. right (a .k) (a .t) (a .v) z))) (r .ensures)
+    ∙ ap (λ (q : Reached). placed (q .next) (onInteger (negativeOf valueWidth (q .number)) (λ z. right (a .k) (a .t) (a .v) z))) (r .ensures)
     ∙ sym (minus-line (a .k) (a .t) (a .v) (a .at) (now (a .s)) (omega arith) (omega arith))
 
 number-until-requires-2 : tie.Need-number-until-requires-2
@@ -60,7 +61,7 @@ returns-3 c =
     let r = c .before .before .number-until2 in
     c .made2 .ensures
     ∙ ap (λ (i : Integer). placed (r .result .next) (onInteger i (λ z. right (a .k) (a .t) (a .v) z))) (c .before .positive .ensures)
-    ∙ ap (λ (q : Reached). placed (q .next) (onInteger (positiveOf (q .number)) (λ z. right (a .k) (a .t) (a .v) z))) (r .ensures)
+    ∙ ap (λ (q : Reached). placed (q .next) (onInteger (positiveOf valueWidth (q .number)) (λ z. right (a .k) (a .t) (a .v) z))) (r .ensures)
     ∙ sym (plain-line (a .k) (a .t) (a .v) (a .at) (now (a .s)) (omega arith) (c .before .before .before .if2 .left))
 
 pub value-end-spec : {M : Type 1} → statement M

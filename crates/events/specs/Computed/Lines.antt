@@ -5,6 +5,7 @@ use mathlib.Core.Bool.{cond}
 use lib.Dec.{ltb}
 use lib.IntN.{pos}
 use lib.ListN.{length, take, drop}
+use Rattle.rules.specs.Limits.{valueWidth}
 use Rattle.lines.specs.Lines.{before, splitOn}
 use Rattle.events.specs.declared.Line.{Line}
 use Rattle.events.specs.Events.{Fields, wrong, right, fromFields}
@@ -28,4 +29,4 @@ stage f at t = cond (ltb (before 10 t) (length t)) (placed (at + before 10 t + 1
 
 -- the line that starts at `at`
 unfoldable pub lineAt : List ℕ → ℕ → Line
-lineAt s at = stage fromFields at (drop at s)
+lineAt s at = stage (fromFields valueWidth) at (drop at s)

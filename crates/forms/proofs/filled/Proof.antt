@@ -25,7 +25,8 @@ use sound.WpLaws.{FmC, fmOf, WpFn-mono}
 use denote.RattleType.{owns}
 use denote.Laws.{Is, shows}
 use denote.Plain.{uint-makes, uint-vals, uint-tells, nothing-lawful}
-use denote.Builtin.{u32, i32, usize, unit}
+use denote.Builtin.{u32, usize, unit}
+use denote.Signed.{SInt}
 use denote.Array.{Array, array-makes}
 use denote.Ref.{RefT}
 use denote.Slice.{sliceVal, MutSlice, ShrSlice, Room, slice-vals, shr-slice-tells}
@@ -42,6 +43,7 @@ use denote.Triple.Spec.{Meets, tripleOf}
 use denote.Triple.Table.{entered, cited}
 use denote.Triple.Walked.{Stays, stay-dropped, needs, walkOf, goes-dropped, Walks, ends-at, walked, walk-meets}
 use denote.Exit.{yes}
+use Rattle.rules.specs.Limits.{valueWidth}
 use Rattle.rules.specs.declared.Event.{Event}
 use Rattle.rules.specs.declared.Counts.{Counts}
 use Rattle.rules.proofs.Event as E
@@ -61,7 +63,7 @@ use Rattle.forms.proofs.filled.Code as code
 abbrev stayed : Stays (filled.ended .signature .params) (filled.ended .kept)
 stayed = (
   stay-dropped (arrayOf (plain (λ _. E.the-row)) 5) yes,
-  (stay-dropped (plain (λ _. usize)) yes, (stay-dropped (plain (λ _. Cn.the-row)) yes, (stay-dropped (shrSliceOf (0 ∷ []) tt (plain (λ _. u32))) yes, (stay-dropped (shrSliceOf (1 ∷ []) tt (plain (λ _. i32))) yes, (stay-dropped (plain (λ _. usize)) yes, tt))))),
+  (stay-dropped (plain (λ _. usize)) yes, (stay-dropped (plain (λ _. Cn.the-row)) yes, (stay-dropped (shrSliceOf (0 ∷ []) tt (plain (λ _. u32))) yes, (stay-dropped (shrSliceOf (1 ∷ []) tt (plain (λ _. SInt valueWidth))) yes, (stay-dropped (plain (λ _. usize)) yes, tt))))),
 )
 
 abbrev cvals : Counts → List Val
@@ -73,7 +75,7 @@ Fill 𝓤 H A mem run = tripleOf 𝓤 H A fill.signature (fill.spec 𝓤 H A mem
 
 module _ {M : Type 1} (𝓤 : URA M) (H : Heap 𝓤) (A : Atoms 𝓤) (W : Given 𝓤 H A) (mem : Memory → SProp 𝓤) (run : Routine → Fun 𝓤) (κ₀ κ₁ : Lft) (q₀ q₁ : Share)
     (row : List Event) (k : ℕ) (h : Counts) (p₀ : RefT (List ℕ)) (p₁ : RefT (List ℤ)) (n : ℕ)
-    (row-is : Is (Array E.the-row 5) row (row-vals row)) (within : k ≤ 5) (k-fits : k < 2 ^ 64) (h-is : Is Cn.the-row h (cvals h)) (room₀ : Room u32 (length (p₀ .now))) (room₁ : Room i32 (length (p₁ .now))) (n-fits : n < 2 ^ 64) where
+    (row-is : Is (Array E.the-row 5) row (row-vals row)) (within : k ≤ 5) (k-fits : k < 2 ^ 64) (h-is : Is Cn.the-row h (cvals h)) (room₀ : Room u32 (length (p₀ .now))) (room₁ : Room (SInt valueWidth) (length (p₁ .now))) (n-fits : n < 2 ^ 64) where
   abbrev s₀ : Val
   s₀ = sliceVal (p₀ .ptr) (length (p₀ .now))
 
@@ -108,7 +110,7 @@ module _ {M : Type 1} (𝓤 : URA M) (H : Heap 𝓤) (A : Atoms 𝓤) (W : Given
 
     abbrev Asked : List (Item 𝓤)
     Asked = ‵ (flft (α ∷ []) fullShare) ∷ ‵ (flft κ₀ q₀) ∷ ‵ (flft κ₁ q₁) ∷ ‵ (MutSlice (named 0) (α ∷ []) E.the-row .own (rowAt E.the-row l γ (take k row)) (sliceVal (l, 0) k ∷ [])) ∷ ‵ (ShrSlice (named 1) κ₀ u32 .own p₀ (s₀ ∷ []))
-        ∷ ‵ (ShrSlice (named 2) κ₁ i32 .own p₁ (s₁ ∷ [])) ∷ []
+        ∷ ‵ (ShrSlice (named 2) κ₁ (SInt valueWidth) .own p₁ (s₁ ∷ [])) ∷ []
 
     goes : ent 𝓤 (⋆ 𝓤 H A Asked) (Fill 𝓤 H A mem run .pre to-fill)
     goes =
@@ -128,7 +130,7 @@ module _ {M : Type 1} (𝓤 : URA M) (H : Heap 𝓤) (A : Atoms 𝓤) (W : Given
   module _ (C : Calls 𝓤 H) (Λ : Loops 𝓤 H) (fm : FmC 𝓤 H (W .laws) C) (known : Triple 𝓤 (C #fill) (Fill 𝓤 H A mem run)) where
     walk : ent 𝓤 (onEntry 𝓤 H A filled.signature (κ₀, (κ₁, tt)) (q₀, (q₁, tt)) a at) (WpFn 𝓤 H C Λ code.function args Post)
     walk =
-        qed W (Tokens ∷ ‵ (owns (Array E.the-row 5 ∷ usize ∷ Cn.the-row ∷ ShrSlice (named 0) κ₀ u32 ∷ ShrSlice (named 1) κ₁ i32 ∷ usize ∷ []) a at) ∷ []) ∵ enter ! C Λ code.function args _ $
+        qed W (Tokens ∷ ‵ (owns (Array E.the-row 5 ∷ usize ∷ Cn.the-row ∷ ShrSlice (named 0) κ₀ u32 ∷ ShrSlice (named 1) κ₁ (SInt valueWidth) ∷ usize ∷ []) a at) ∷ []) ∵ enter ! C Λ code.function args _ $
         alloc1 ! (λ l₀. alloc1 ! (λ l₁. alloc1 ! (λ l₂. alloc1 ! (λ l₃. alloc1 ! (λ l₄. alloc1 ! (λ l₅. alloc1 ! (λ l₆. alloc1 ! (λ l₇. alloc1 ! (λ l₈. alloc1 ! (λ l₉. alloc1 ! (λ l₁₀. alloc0 ! $ params1 ! $
         pass1 ! (init ! 18 refl (row-typed 𝓤 H A W 5 row _ row-is)) $ pass1 ! (init ! 16 refl (tt, record { fits = k-fits })) $ pass1 ! (init ! 14 refl (LL.lawful Cn.the-type Cn′.the-laws 𝓤 H A W .typed h _ h-is .0)) $
         pass1 ! (init ! 12 refl (tt, (tt, (record { fits = room₀ .0 }, tt)))) $ pass1 ! (init ! 10 refl (tt, (tt, (record { fits = room₁ .0 }, tt)))) $ pass1 ! (init ! 8 refl (tt, record { fits = n-fits })) $ pass0 ! $
@@ -165,7 +167,7 @@ module _ {M : Type 1} (𝓤 : URA M) (H : Heap 𝓤) (A : Atoms 𝓤) (W : Given
   filled-walks : (C : Calls 𝓤 H) (Λ : Loops 𝓤 H) → FmC 𝓤 H (W .laws) C → Triple 𝓤 (C #fill) (Fill 𝓤 H A mem run) → Walks 𝓤 H A filled.ended stayed (WpFn 𝓤 H C Λ code.function) (filled.clauses 𝓤 H A mem run)
   filled-walks C Λ fm known = walked 𝓤 H A filled.ended stayed (filled.clauses 𝓤 H A mem run) (WpFn 𝓤 H C Λ code.function)
       (λ κs. (row-vals, (uint-vals w64, (cvals, (slice-vals, (slice-vals, (uint-vals w64, tt)))))))
-      (λ κs. (row-tells 5, (uint-tells w64, (LL.tells Cn.the-type Cn′.the-laws, (shr-slice-tells (named 0) (κs .0) u32, (shr-slice-tells (named 1) (κs .1 .0) i32, (uint-tells w64, tt)))))))
+      (λ κs. (row-tells 5, (uint-tells w64, (LL.tells Cn.the-type Cn′.the-laws, (shr-slice-tells (named 0) (κs .0) u32, (shr-slice-tells (named 1) (κs .1 .0) (SInt valueWidth), (uint-tells w64, tt)))))))
       (λ κs qs bounds a _ are. needs 𝓤 (a .1 .0 ≤ 5) _ (λ within. walk 𝓤 H A W mem run (κs .0) (κs .1 .0) (qs .0) (qs .1 .0) (a .0) (a .1 .0) (a .1 .1 .0) (a .1 .1 .1 .0) (a .1 .1 .1 .1 .0) (a .1 .1 .1 .1 .1 .0)
       (are .0) within (are .1 .0 .1) (are .1 .1 .0) (are .1 .1 .1 .0 .0 .1) (are .1 .1 .1 .1 .0 .0 .1) (are .1 .1 .1 .1 .1 .0 .1) C Λ fm known))
 
@@ -174,7 +176,7 @@ filled-meets : {M : Type 1} (𝓤 : URA M) (H : Heap 𝓤) (A : Atoms 𝓤) → 
 filled-meets 𝓤 H A W mem run 𝓣 known =
     walk-meets 𝓤 H A filled.ended stayed W (
       goes-dropped 𝓤 H A W 2 (arrayOf (plain (λ _. E.the-row)) 5) yes (λ κs x f. refl),
-      (goes-dropped 𝓤 H A W 2 (plain (λ _. usize)) yes (λ κs x f. refl), (goes-dropped 𝓤 H A W 2 (plain (λ _. Cn.the-row)) yes (λ κs x f. refl), (goes-dropped 𝓤 H A W 2 (shrSliceOf (0 ∷ []) tt (plain (λ _. u32))) yes (λ κs x f. refl), (goes-dropped 𝓤 H A W 2 (shrSliceOf (1 ∷ []) tt (plain (λ _. i32))) yes (λ κs x f. refl), (goes-dropped 𝓤 H A W 2 (plain (λ _. usize)) yes (λ κs x f. refl), tt))))),
+      (goes-dropped 𝓤 H A W 2 (plain (λ _. usize)) yes (λ κs x f. refl), (goes-dropped 𝓤 H A W 2 (plain (λ _. Cn.the-row)) yes (λ κs x f. refl), (goes-dropped 𝓤 H A W 2 (shrSliceOf (0 ∷ []) tt (plain (λ _. u32))) yes (λ κs x f. refl), (goes-dropped 𝓤 H A W 2 (shrSliceOf (1 ∷ []) tt (plain (λ _. SInt valueWidth))) yes (λ κs x f. refl), (goes-dropped 𝓤 H A W 2 (plain (λ _. usize)) yes (λ κs x f. refl), tt))))),
     ) (filled.clauses 𝓤 H A mem run)
     (WpFn 𝓤 H (𝓣 .C) (𝓣 .Λ) code.function) (WpFn-mono 𝓤 H (W .laws) 𝓣 code.function) (filled-walks 𝓤 H A W mem run (𝓣 .C) (𝓣 .Λ) (fmOf 𝓤 H (W .laws) 𝓣) known)
 

@@ -135,8 +135,11 @@ refuse-requires-3 c κs = search needs
 returns-3 : tie.Need-returns-3 Inv-loop μ-loop
 returns-3 c = c .refuse3 .ensures ∙ ap (stopped 5) (c .before .before .before .before .before .before .line-after .ensures) ∙ ap outcomeOf (turn-thread (turn (c .before .before .before .before .before .before)) (sym (c .before .before .before .before .before .is-letter .ensures) ∙ not-false _ (c .before .before .before .before .if1 .left)) _ refl (c .before .before .before .if2 .left) (c .before .if3 .taken))
 
-add-p : tie.Need-add-p Inv-loop μ-loop
-add-p c = omega arith
+add-events : tie.Need-add-events Inv-loop μ-loop
+add-events c = omega arith
+
+cast-p : tie.Need-cast-p Inv-loop μ-loop
+cast-p c = search needs
 
 is-lock-letter-requires : tie.Need-is-lock-letter-requires Inv-loop μ-loop
 is-lock-letter-requires c κs = search needs
@@ -533,7 +536,8 @@ run-spec =
     returns-2
     refuse-requires-3
     returns-3
-    add-p
+    add-events
+    cast-p
     is-lock-letter-requires
     refuse-requires-4
     returns-4

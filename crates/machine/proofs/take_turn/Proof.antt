@@ -35,8 +35,11 @@ asked-requires c κs = search needs
 asked-requires-2 : tie.Need-asked-requires-2
 asked-requires-2 c κs = search needs
 
-add-p : tie.Need-add-p
-add-p c = search needs
+add-events : tie.Need-add-events
+add-events c = search needs
+
+cast-p : tie.Need-cast-p
+cast-p c = search needs
 
 parts-of-requires : tie.Need-parts-of-requires
 parts-of-requires c κs =
@@ -138,7 +141,8 @@ take-turn-spec =
     is-lock-letter-requires
     asked-requires
     asked-requires-2
-    add-p
+    add-events
+    cast-p
     parts-of-requires
     tally-of-requires
     some-in-requires

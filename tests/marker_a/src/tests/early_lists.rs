@@ -13,7 +13,7 @@ impl Scope {
     /// Every event that may come after the list, with the value that 18 asks for. An A or P
     /// has a value of its own.
     fn next(&self, es: &[Event]) -> Vec<Event> {
-        let own = es.len() as i32 + 1;
+        let own = es.len() as Value + 1;
         let mut events = Vec::new();
         for &kind in self.kinds {
             let targets = if matches!(kind, K | N) { self.counts.locks } else { self.counts.variables };
@@ -47,8 +47,8 @@ struct Seen {
 /// Main memory and the copies, followed event by event.
 #[derive(Clone, Copy, Default)]
 struct Memory {
-    main: [i32; 2],
-    copies: [[Option<i32>; 2]; 2],
+    main: [Value; 2],
+    copies: [[Option<Value>; 2]; 2],
 }
 
 impl Memory {

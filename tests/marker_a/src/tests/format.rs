@@ -178,6 +178,8 @@ fn n3_undeclared() {
         "65536",
         "4294967295",
         "4294967296",
+        "9223372036854775807",
+        "9223372036854775808",
         "18446744073709551615",
         "18446744073709551616",
         long.as_str(),
@@ -200,23 +202,23 @@ fn n3_undeclared() {
 
 #[test]
 fn n4_value_edges() {
-    let least = paper_of(SMALL, "A 0 0 -2147483648; S 0 0 -2147483648; W 0 0 -2147483648");
-    assert_eq!(print(&least), "accepted 3\nmain 0 -2147483648\ncopy 0 0 -2147483648\n");
-    let most = paper_of(SMALL, "A 0 0 2147483647; S 0 0 2147483647; W 0 0 2147483647");
-    assert_eq!(print(&most), "accepted 3\nmain 0 2147483647\ncopy 0 0 2147483647\n");
+    for value in ["-9223372036854775808", "9223372036854775807"] {
+        let paper = paper_of(SMALL, &format!("A 0 0 {value}; S 0 0 {value}; W 0 0 {value}"));
+        assert_eq!(print(&paper), format!("accepted 3\nmain 0 {value}\ncopy 0 0 {value}\n"));
+    }
     let long = "1".repeat(1_000);
     let long_minus = format!("-{long}");
     let zeros = format!("1{}", "0".repeat(999));
     for value in [
-        "2147483648",
-        "-2147483649",
-        "4294967296",
-        "-4294967296",
-        "4294967301",
         "9223372036854775808",
-        "-9223372036854775808",
+        "-9223372036854775809",
         "18446744073709551616",
-        "-18446744073709551615",
+        "-18446744073709551616",
+        "18446744073709551621",
+        "170141183460469231731687303715884105728",
+        "-170141183460469231731687303715884105728",
+        "340282366920938463463374607431768211456",
+        "-340282366920938463463374607431768211455",
         long.as_str(),
         long_minus.as_str(),
         zeros.as_str(),
@@ -256,7 +258,8 @@ fn n6_guard_range() {
 #[test]
 fn n7_two_faults_in_one_line() {
     expect_refused(&one_line("A 9 9 00"), 3, 4);
-    expect_refused(&one_line("A 9 9 2147483648"), 3, 4);
+    expect_refused(&one_line("A 9 9 9223372036854775808"), 3, 4);
+    expect_refused(&one_line("A 9 9 9223372036854775807"), 3, 5);
     expect_refused(&one_line(&format!("A {} 0 -0", "9".repeat(1_000))), 3, 4);
     let full = repeat("A 0 0 5", 2_000);
     expect_refused(&paper_of(TRACE_HEAD, &format!("{full}; A 0 0 00")), 2_003, 4);

@@ -1,18 +1,24 @@
 //! Tests, and the helpers that build papers.
 
+mod compared_values;
 mod dead_reads;
 mod early_lists;
 mod early_stores;
 mod format;
+mod long_listings;
 mod marking;
+mod old_papers;
 mod ordering;
 mod short_lists;
 mod traces;
+mod values;
 mod walks;
+
+use std::str::FromStr;
 
 use crate::rules::{copy, main_memory, outstanding_reads, outstanding_stores};
 use crate::Kind::{self, A, B, K, L, N, P, R, S, U, W};
-use crate::{demand3, judge, line_of, mark, outcome, paper, Counts, Event, Order};
+use crate::{demand3, judge, line_of, mark, outcome, paper, Counts, Event, Order, Value};
 
 /// The head and `G` line of the short traces: "Two threads, variables and locks."
 const TRACE_HEAD: &str = "H 2 2 2\nG -\n";
@@ -96,7 +102,7 @@ fn printed_sections(head: &str, events: &str) -> Vec<String> {
 }
 
 /// The event with the value that 18 asks for; an A or P has the value `free`.
-fn fitting(es: &[Event], kind: Kind, thread: u32, target: u32, free: i32) -> Event {
+fn fitting(es: &[Event], kind: Kind, thread: u32, target: u32, free: Value) -> Event {
     let first = |places: Vec<usize>| places.first().map_or(0, |&i| es[i].value);
     let value = match kind {
         U | S => copy(es, thread, target).unwrap_or(0),
@@ -108,6 +114,38 @@ fn fitting(es: &[Event], kind: Kind, thread: u32, target: u32, free: i32) -> Eve
         K | N => 0,
     };
     Event { kind, thread, target, value }
+}
+
+/// The events parted by `;`, as `paper_of` takes them.
+fn text_of(es: &[Event]) -> String {
+    let line = |e: &Event| match e.kind {
+        K | N => format!("{:?} {} {}", e.kind, e.thread, e.target),
+        _ => format!("{:?} {} {} {}", e.kind, e.thread, e.target, e.value),
+    };
+    es.iter().map(line).collect::<Vec<_>>().join(";")
+}
+
+/// A linear congruential generator.
+struct Dice(u64);
+
+impl Dice {
+    fn roll(&mut self, sides: u32) -> u32 {
+        self.0 = self.0.wrapping_mul(6364136223846793005).wrapping_add(1442695040888963407);
+        ((self.0 >> 33) % u64::from(sides)) as u32
+    }
+}
+
+/// A value of the width of `T`, read by `T` itself. It is written again to see its form: "no leading
+/// zeros, no plus sign, no `-0`".
+fn read_as<T: FromStr + ToString + Into<Value>>(field: &str) -> Option<Value> {
+    let n: T = field.parse().ok()?;
+    (n.to_string() == field).then(|| n.into())
+}
+
+/// The events with `x` for their values, and an event of this kind by thread 0 on variable 0 with
+/// the value `y` after them.
+fn followed(before: &str, x: &str, kind: Kind, y: &str) -> String {
+    format!("{}; {kind:?} 0 0 {y}", before.replace('x', x))
 }
 
 /// `times` copies of the events.

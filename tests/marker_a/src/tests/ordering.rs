@@ -110,7 +110,7 @@ fn plain_memory() {
     // An early store's value comes with its B; the value in a U is not looked at.
     let events = events_of("K 0 0; A 0 0 1; P 0 0 2; U 0 0 9; W 0 0 2; B 0 0 2; U 0 0 2; A 1 0 7; N 0 0");
     let (uses, memory) = plain_run(&sections(&events), &events);
-    let given: Vec<(usize, i32, i32)> = uses.iter().map(|u| (u.line, u.given, u.stated)).collect();
+    let given: Vec<(usize, Value, Value)> = uses.iter().map(|u| (u.line, u.given, u.stated)).collect();
     assert_eq!(given, [(6, 1, 9), (9, 2, 2)]);
     assert_eq!(memory[..2], [2, 0]);
 }

@@ -4,16 +4,6 @@ use super::*;
 use crate::rules::{assign_owed, fresh, held, owed};
 use crate::{Outcome, Verdict};
 
-/// A linear congruential generator.
-struct Dice(u64);
-
-impl Dice {
-    fn roll(&mut self, sides: u32) -> u32 {
-        self.0 = self.0.wrapping_mul(6364136223846793005).wrapping_add(1442695040888963407);
-        ((self.0 >> 33) % u64::from(sides)) as u32
-    }
-}
-
 /// Kinds that finish something are drawn more often, so that sections are short.
 const KINDS: [Kind; 16] = [U, U, A, L, S, S, R, W, W, K, N, N, N, P, B, B];
 /// More K and P, so that early stores wait over an N.
@@ -24,6 +14,8 @@ struct Scope<'a> {
     counts: Counts,
     guards: &'a [u32],
     kinds: [Kind; 16],
+    /// An A or P has a multiple of this value.
+    unit: Value,
 }
 
 /// A random event whose value is the one that 18 asks for.
@@ -33,7 +25,7 @@ fn candidate(dice: &mut Dice, scope: &Scope, es: &[Event]) -> Event {
     let thread = dice.roll(counts.threads);
     let lock_event = matches!(kind, K | N);
     let target = dice.roll(if lock_event { counts.locks } else { counts.variables });
-    let free = if matches!(kind, A | P) { dice.roll(100) as i32 } else { 0 };
+    let free = if matches!(kind, A | P) { Value::from(dice.roll(100)) * scope.unit } else { 0 };
     fitting(es, kind, thread, target, free)
 }
 
@@ -74,14 +66,6 @@ fn walk(seed: u64, scope: &Scope, steps: usize) -> (Vec<Event>, usize) {
         es.push(e);
     }
     (es, dead)
-}
-
-fn text_of(es: &[Event]) -> String {
-    let line = |e: &Event| match e.kind {
-        K | N => format!("{:?} {} {}", e.kind, e.thread, e.target),
-        _ => format!("{:?} {} {} {}", e.kind, e.thread, e.target, e.value),
-    };
-    es.iter().map(line).collect::<Vec<_>>().join(";")
 }
 
 /// How many N have an early store that waits over them: outstanding, and its assign owed.
@@ -136,7 +120,7 @@ fn demand_3_on(seeds: u64, scope: &Scope, steps: usize) -> Seen {
 #[test]
 fn demand_3_on_walks() {
     let counts = Counts { threads: 3, variables: 2, locks: 2 };
-    let seen = demand_3_on(60, &Scope { counts, guards: &[0, 1], kinds: KINDS }, 3_000);
+    let seen = demand_3_on(60, &Scope { counts, guards: &[0, 1], kinds: KINDS, unit: 1 }, 3_000);
     assert!(seen.orders >= 30 && seen.uses >= 100 && seen.early >= 30, "{seen:?}");
     assert!(seen.slips >= 1 && seen.dead >= 100, "{seen:?}");
 }
@@ -145,6 +129,16 @@ fn demand_3_on_walks() {
 #[test]
 fn demand_3_with_waiting_stores() {
     let counts = Counts { threads: 2, variables: 2, locks: 3 };
-    let seen = demand_3_on(150, &Scope { counts, guards: &[0, 1], kinds: WAITING }, 800);
+    let seen = demand_3_on(150, &Scope { counts, guards: &[0, 1], kinds: WAITING, unit: 1 }, 800);
     assert!(seen.orders >= 50 && seen.uses >= 100 && seen.waited >= 50, "{seen:?}");
+}
+
+/// The values differ only above their low 32 bits.
+#[test]
+fn demand_3_on_wide_values() {
+    let counts = Counts { threads: 3, variables: 2, locks: 2 };
+    for unit in [1 << 32, -(1 << 56)] {
+        let seen = demand_3_on(20, &Scope { counts, guards: &[0, 1], kinds: KINDS, unit }, 3_000);
+        assert!(seen.orders >= 10 && seen.uses >= 30 && seen.early >= 10 && seen.slips >= 1, "{seen:?}");
+    }
 }

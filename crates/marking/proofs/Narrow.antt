@@ -1,0 +1,137 @@
+-- Document 02 (g): "Old papers whose values all lie within 32 bits give their old verdicts; a paper refused with 4 for a value within 64 bits is now
+-- marked by its events."
+use Prim.Native.Nat.{ℕ, suc}
+use native.Mathlib.Omega.{arith}
+use mathlib.Core.Path.{_≡_, refl, sym, ap, subst, _∙_}
+use mathlib.Core.List.{List, [], _∷_, _++_, map, reverse, reverse-reverse}
+use mathlib.Core.Bool.{false, cond, false≢true}
+use mathlib.Core.Logic.{_⊎_, inl, inr}
+use mathlib.Core.Option.{Option, none, some}
+use lib.Dec.{T, eqb, ltb, leb}
+use lib.ListN.{length, getD, take, length-reverse}
+use Rattle.rules.specs.declared.Event.{Event}
+use Rattle.rules.specs.declared.Counts.{Counts}
+use Rattle.rules.specs.Events.{value}
+use Rattle.rules.specs.Limits.{full, firstLine, lineAfter, allowed}
+use Rattle.rules.specs.Rules.{Accepted, Marked, accepted, refused, answer, verdict, told, refusedOr, markRead, pastRead}
+use Rattle.rules.specs.Widths.{narrow, fits, narrowed, AllWithin}
+use Rattle.rules.specs.Reading.{readFrom}
+use Rattle.rules.proofs.Readings.{past-accepted}
+use Rattle.rules.proofs.Widths.{all-within, within-at, Same, Wider, narrowed-marked}
+use Rattle.lines.specs.Lines.{before, splitOn, letter}
+use Rattle.decimal.specs.declared.Natural.{Natural}
+use Rattle.decimal.specs.declared.Natural.the-variants as natural
+use Rattle.decimal.specs.Decimal.{naturalOf}
+use Rattle.trace.specs.declared.Trailer.{Trailer}
+use Rattle.trace.specs.declared.Trailer.the-variants as trailer
+use Rattle.trace.specs.Trace.{tooLong, wrongHead, trailerOf, noHead, checkHead, headOf, unfound, behindHead, firstOf, behindTrailer, traceOf, eventsOf}
+use Rattle.trace.proofs.TraceLaws.{not-found}
+use Rattle.events.specs.Events.{partLines, readings}
+use Rattle.events.proofs.WidthLaws.{readings-narrowed}
+use Rattle.marking.specs.Marking.{linesIn, markedOf, pastOf, eventsIn, readIn}
+use Rattle.marking.specs.Narrow.{SameMarked, Widened}
+
+-- ---- the width changes the lines alone
+
+pub narrow-trace : (s : List ℕ) → traceOf narrow s ≡ traceOf full s
+unfolding traceOf firstOf headOf allowed
+narrow-trace s = ap (cond (ltb (full .bytes) (length s)) (unfound tooLong)) (behind (trailerOf s))
+  where
+    head : (t v l : Natural) → checkHead narrow t v l ≡ checkHead full t v l
+    head natural.Bad v l = refl
+    head (natural.Of t) natural.Bad l = refl
+    head (natural.Of t) (natural.Of v) natural.Bad = refl
+    head (natural.Of t) (natural.Of v) (natural.Of l) = refl
+
+    behind : (t : Trailer) → behindTrailer narrow s t ≡ behindTrailer full s t
+    behind trailer.Wrong = refl
+    behind (trailer.At e) =
+        let b = take e s in
+        let a = before 10 b in
+        let fs = splitOn 32 (take a b) in
+        λ i. cond (ltb a (length b)) (behindHead b a e (cond (eqb (length fs) 4) (cond (eqb (letter (getD fs 0 [])) 72) (head (naturalOf (getD fs 1 [])) (naturalOf (getD fs 2 [])) (naturalOf (getD fs 3 [])) i) noHead) noHead)) (unfound wrongHead)
+
+pub narrow-lines : (s : List ℕ) → linesIn narrow s ≡ map (narrowed (narrow .width)) (linesIn full s)
+unfolding linesIn
+narrow-lines s = rw (narrow-trace s) (readings-narrowed (narrow .width) (omega arith) (firstLine (traceOf full s .head)) (partLines (eventsOf s (traceOf full s))))
+
+narrow-marked : (s : List ℕ) → markedOf narrow s ≡ refusedOr (told (traceOf full s .verdict)) (markRead full (traceOf full s .head) [] (map (narrowed (narrow .width)) (linesIn full s)))
+unfolding markedOf markRead verdict answer
+narrow-marked s = rw (narrow-trace s, narrow-lines s) refl
+
+narrow-past : (s : List ℕ) → pastOf narrow s ≡ pastRead full (traceOf full s .head) [] (map (narrowed (narrow .width)) (linesIn full s))
+unfolding pastOf pastRead verdict answer
+narrow-past s = rw (narrow-trace s, narrow-lines s) refl
+
+-- ---- papers whose values all lie within 32 bits
+
+pub same-marked : (s : List ℕ) → AllWithin (narrow .width) (linesIn full s) → markedOf narrow s ≡ markedOf full s
+unfolding markedOf
+same-marked s a = narrow-marked s ∙ rw (all-within (narrow .width) (linesIn full s) a) refl
+
+pub same-past : (s : List ℕ) → AllWithin (narrow .width) (linesIn full s) → pastOf narrow s ≡ pastOf full s
+unfolding pastOf
+same-past s a = narrow-past s ∙ rw (all-within (narrow .width) (linesIn full s) a) refl
+
+pub same-read : (s : List ℕ) → AllWithin (narrow .width) (linesIn full s) → readIn narrow s ≡ readIn full s
+unfolding readIn readFrom
+same-read s a = rw (narrow-lines s, all-within (narrow .width) (linesIn full s) a) (read-narrow 0 (linesIn full s))
+  where
+    read-narrow : (n : ℕ) (rs : List (Option Event)) → readFrom narrow n rs ≡ readFrom full n rs
+    read-narrow n [] = refl
+    read-narrow n (none ∷ rs) = refl
+    read-narrow n (some e ∷ rs) = ap (λ (es : List Event). cond (leb (full .events) n) [] (e ∷ es)) (read-narrow (suc n) rs)
+
+-- ---- every paper
+
+-- a paper that is not found has no lines
+no-lines : (s : List ℕ) (n line : ℕ) → told (traceOf full s .verdict) ≡ refused n line → linesIn full s ≡ []
+unfolding linesIn readings partLines splitOn eventsOf
+no-lines s n line q = rw (not-found full s n line q) refl
+
+-- With values of 32 bits a paper has the same verdict after the same events, or 4 at the first line whose value lies outside 32 bits.
+pub narrow-or-wider : (s : List ℕ) → SameMarked s ⊎ Widened s
+unfolding markedOf pastOf eventsIn markRead pastRead Accepted
+narrow-or-wider s = by (told (traceOf full s .verdict)) refl (narrowed-marked full (narrow .width) h [] (linesIn full s))
+  where
+    h : Counts
+    h = traceOf full s .head
+
+    never : (es : List Event) (e : Event) (rs : List (Option Event)) → map some es ++ (some e ∷ rs) ≡ [] → ⊥
+    never [] e rs q = let z : _≡_ {A = ℕ} 0 1 = cc in omega arith
+    never (x ∷ es) e rs q = let z : _≡_ {A = ℕ} 0 1 = cc in omega arith
+
+    by : (f : Marked) → told (traceOf full s .verdict) ≡ f → Same full (narrow .width) h [] (linesIn full s) ⊎ Wider full (narrow .width) h [] (linesIn full s)
+        → SameMarked s ⊎ Widened s
+    by f q (inl r) = inl (record {
+      fitting = r .fitting (length (pastOf full s)) (omega arith);
+      marked = narrow-marked s ∙ ap (refusedOr (told (traceOf full s .verdict))) (r .narrow-marked);
+      past = narrow-past s ∙ r .narrow-past;
+    })
+    by (refused n line) q (inr r) = absurd (never (r .earlier) (r .event) (r .rest) (sym (r .lines) ∙ no-lines s n line q))
+    by accepted q (inr r) = inr (record {
+      earlier = r .earlier;
+      event = r .event;
+      rest = r .rest;
+      line = lineAfter h (length (reverse (r .earlier)));
+      lines = r .lines;
+      line-is = ap (lineAfter h) (length-reverse (r .earlier));
+      fitting = r .fitting;
+      clean = subst (λ (es : List Event). T (Accepted full h es)) (r .narrow-past) (past-accepted full h [] (map (narrowed (narrow .width)) (linesIn full s)) tt);
+      outside = r .outside;
+      narrow-marked = narrow-marked s ∙ rw q (r .narrow-marked);
+      before = ap (λ (es : List Event). reverse es) (narrow-past s ∙ r .narrow-past) ∙ reverse-reverse (r .earlier);
+      marked = rw q (r .marked);
+      past = r .past;
+    })
+
+-- A paper that is refused with 4 for a value within 64 bits: with values of 32 bits the line behind its accepted events is an event whose value lies
+-- outside 32 bits. It is marked by its events from that line on.
+pub wide-marked : (s : List ℕ) (e : Event) → getD (linesIn full s) (length (pastOf narrow s)) none ≡ some e → fits (narrow .width) (value (e .kind)) ≡ false → Widened s
+wide-marked s e q o = by (narrow-or-wider s)
+  where
+    by : SameMarked s ⊎ Widened s → Widened s
+    by (inr r) = r
+    by (inl r) =
+        let k : length (pastOf full s) ≡ length (pastOf narrow s) = ap length (sym (r .past)) in
+        absurd (false≢true (sym o ∙ within-at (narrow .width) (length (pastOf full s)) (linesIn full s) e (r .fitting) (ap (λ (i : ℕ). getD (linesIn full s) i none) k ∙ q)))
