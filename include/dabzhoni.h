@@ -129,10 +129,10 @@ DABZHONI_ASSERT(sizeof(struct dabzhoni_marked) == 56, "layout of what is said of
    in what, and the value in values, 0 for K and N. Written for an accepted trace alone.
    out: the listing goes to its front.
    order: where there is an order, one entry for each section at the front, thread * 2^24 + last line * 2^12 + first line.
-   scratch: all zeros where there is an order.
+   scratch: all of it zeros where there is an order; what it held before does not matter.
    All other places of these five stay as they were. Refusal 7, before all: what or values under 2,000 places, out under 32,768 bytes,
-   order under 1,000 places or scratch under 2,000; nothing is touched then. Lengths are numbers of places. No pointer is null, each is
-   aligned to its type (values, order and scratch to 8 bytes), and no two of these six overlap. */
+   order or scratch under 1,000 places; nothing is touched then. Lengths are numbers of places. No pointer is null, each is aligned to
+   its type (values, order and scratch to 8 bytes), and no two of these six overlap. */
 struct dabzhoni_marked dabzhoni_mark(const uint8_t *paper, size_t paper_len, uint32_t *what, size_t what_len, int64_t *values,
                                      size_t values_len, uint8_t *out, size_t out_len, uint64_t *order, size_t order_len,
                                      uint64_t *scratch, size_t scratch_len);

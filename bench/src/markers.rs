@@ -20,7 +20,7 @@ impl Default for Lent {
             values: vec![0; 2_000],
             out: vec![0; 32_768],
             order: vec![0; 1_000],
-            scratch: vec![0; 2_000],
+            scratch: vec![0; 1_000],
         }
     }
 }

@@ -180,14 +180,14 @@ static void steps(void) {
 
 /* ---- whole papers */
 
-/* What must be lent; each array has one place more. */
-enum { RECORDS = 2000, OUT = 32768, ORDER = 1000, SCRATCH = 2000, FILL = 0xa5 };
+/* What must be lent, and a longer scratch; each array has one place more. */
+enum { RECORDS = 2000, OUT = 32768, ORDER = 1000, SCRATCH = 1000, LONG_SCRATCH = 2000, FILL = 0xa5 };
 
 static uint32_t what[RECORDS + 1];
 static int64_t values[RECORDS + 1];
 static uint8_t out[OUT + 1];
 static uint64_t order[ORDER + 1];
-static uint64_t scratch[SCRATCH + 1];
+static uint64_t scratch[LONG_SCRATCH + 1];
 
 static void fill(void) {
   memset(what, FILL, sizeof what);
@@ -319,23 +319,27 @@ static void said(const char *name, struct dabzhoni_marked m, struct dabzhoni_mar
 }
 
 static void mark(const struct paper *p) {
+  static const size_t SCRATCHES[] = {SCRATCH, SCRATCH + 1, LONG_SCRATCH};
   const uint8_t *bytes = (const uint8_t *)p->text;
   size_t length = strlen(p->text), events = 0;
   const char *ordering = p->ordering ? p->ordering : "";
   sscanf(p->memories, "accepted %zu", &events);
   struct dabzhoni_marked w = {p->number, p->line, events, strlen(p->memories) + strlen(ordering), p->sections, p->denial, p->denial_line};
 
-  fill();
-  said(p->name, dabzhoni_mark(bytes, length, what, RECORDS, values, RECORDS, out, OUT, order, ORDER, scratch, SCRATCH), w);
-  part(p, "records", recorded(p->text, events));
-  part(p, "listing", listed(p->memories, ordering));
-  bool entries = true, zeros = true;
-  for (size_t i = 0; i < p->sections; i++) entries = entries && order[i] == p->entries[i];
-  part(p, "order list", entries && untouched(order + p->sections, order + ORDER + 1));
-  /* `ordering` is given and nothing denies it: there is an order */
-  size_t cleared = p->ordering && !p->denial ? SCRATCH : 0;
-  for (size_t i = 0; i < cleared; i++) zeros = zeros && scratch[i] == 0;
-  part(p, "scratch", zeros && untouched(scratch + cleared, scratch + SCRATCH + 1));
+  for (size_t k = 0; k < sizeof SCRATCHES / sizeof *SCRATCHES; k++) {
+    size_t lent = SCRATCHES[k];
+    fill();
+    said(p->name, dabzhoni_mark(bytes, length, what, RECORDS, values, RECORDS, out, OUT, order, ORDER, scratch, lent), w);
+    part(p, "records", recorded(p->text, events));
+    part(p, "listing", listed(p->memories, ordering));
+    bool entries = true, zeros = true;
+    for (size_t i = 0; i < p->sections; i++) entries = entries && order[i] == p->entries[i];
+    part(p, "order list", entries && untouched(order + p->sections, order + ORDER + 1));
+    /* `ordering` is given and nothing denies it: there is an order */
+    size_t cleared = p->ordering && !p->denial ? lent : 0;
+    for (size_t i = 0; i < cleared; i++) zeros = zeros && scratch[i] == 0;
+    part(p, "scratch", zeros && untouched(scratch + cleared, scratch + LONG_SCRATCH + 1));
+  }
 
   fill();
   w = (struct dabzhoni_marked){.number = p->number, .line = p->line, .events = events, .written = strlen(p->memories)};
@@ -358,7 +362,7 @@ static void lent_too_little(const struct paper *p) {
     if (i < 6) said("7, no order wanted", dabzhoni_mark_unordered(bytes, length, what, n[0], values, n[1], out, n[2]), seven);
   }
   expect("nothing touched after 7", recorded(p->text, 0) && listed("", "") && untouched(order, order + ORDER + 1) &&
-                                        untouched(scratch, scratch + SCRATCH + 1));
+                                        untouched(scratch, scratch + LONG_SCRATCH + 1));
 }
 
 /* 65,537 bytes: 1. */
@@ -366,6 +370,30 @@ static void too_long(void) {
   static char text[65538];
   memset(text, 10, 65537);
   mark(&(struct paper){.name = "1", .text = text, .memories = "refused 0 1\n", .number = 1});
+}
+
+/* Adds a line so many times. The new end. */
+static char *add(char *end, int times, const char *line) {
+  while (times--) end += sprintf(end, "%s\n", line);
+  return end;
+}
+
+/* 1,000 K in two sections; the one with the first K has the last too, on a lock that it holds already, and half of the others. */
+static void thousand_locks(void) {
+  static char text[12100];
+  char *end = add(text, 1, "H 2 1 2\nG 0");
+  end = add(end, 500, "K 0 0");
+  end = add(end, 499, "K 1 1");
+  end = add(end, 1, "K 0 0");
+  end = add(end, 499, "N 1 1");
+  end = add(end, 501, "N 0 0");
+  sprintf(end, "Z %d\n", (int)(end - text));
+  mark(&(struct paper){.name = "1,000 K",
+                       .text = text,
+                       .memories = "accepted 2000\nmain 0 0\n",
+                       .ordering = "section 1 503 1501\nsection 0 3 2002\n",
+                       .sections = 2,
+                       .entries = {1 << 24 | 1501 << 12 | 503, 2002 << 12 | 3}});
 }
 
 int main(void) {
@@ -377,6 +405,7 @@ int main(void) {
     lent_too_little(&PAPERS[i]);
   }
   too_long();
+  thousand_locks();
   printf("%d passed, %d failed\n", passed, failed);
   return failed != 0;
 }

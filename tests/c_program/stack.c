@@ -22,7 +22,7 @@ static size_t length;
 static uint32_t what[2000];
 static int64_t values[2000];
 static uint8_t out[32768];
-static uint64_t order[1000], scratch[2000];
+static uint64_t order[1000], scratch[1000];
 static struct dabzhoni_marked marked;
 
 static struct dabzhoni_state state;
@@ -38,7 +38,7 @@ static struct dabzhoni_reply reply;
 static void *nothing(void *p) { return p; }
 
 static void *mark(void *p) {
-  marked = dabzhoni_mark(paper, length, what, 2000, values, 2000, out, sizeof out, order, 1000, scratch, 2000);
+  marked = dabzhoni_mark(paper, length, what, 2000, values, 2000, out, sizeof out, order, 1000, scratch, 1000);
   return p;
 }
 

@@ -447,13 +447,14 @@ fn events_in(rows: [Event; 2000]) {
     listed(rows[10]);
 }
 
-// The first three places of the order list, and two of the scratch.
+// The first three places of the order list; of the scratch the first, the last that must be lent and the next, where they are lent.
 fn lists(list: &[u64], scratch: &[u64]) {
     entry(list, 0);
     entry(list, 1);
     entry(list, 2);
     entry(scratch, 0);
-    entry(scratch, 1998);
+    entry(scratch, 999);
+    entry(scratch, 1000);
 }
 
 // What is said, the listing, and what the lent memory then holds.
@@ -473,11 +474,11 @@ fn eventful(paper: &[u8], places: usize, out: &mut [u8], list: &mut [u64], scrat
 
 // So many places are lent.
 fn eventful_in(paper: &[u8], places: usize, bytes: usize, entries: usize, cells: usize)
-    requires { ⌜ (places ≤ 2000) × ((bytes ≤ 32768) × ((entries ≤ 1000) × (cells ≤ 2000))) ⌝ }
+    requires { ⌜ (places ≤ 2000) × ((bytes ≤ 32768) × ((entries ≤ 1000) × (cells ≤ 1001))) ⌝ }
 {
     let mut out = [35u8; 32768];
     let mut list = [77u64; 1000];
-    let mut scratch = [77u64; 2000];
+    let mut scratch = [77u64; 1001];
     eventful(
         paper,
         places,
@@ -487,22 +488,23 @@ fn eventful_in(paper: &[u8], places: usize, bytes: usize, entries: usize, cells:
     );
 }
 
-// 7, with one place too few of each; then a trace that is refused, one without an order, and one with it.
+// 7, with one place too few of each; then a trace that is refused, one without an order, and one with it, also from a longer scratch.
 fn traces(paper: &[u8]) {
     io::write_all(STDOUT_FILENO, b"a trace into events\n");
-    eventful_in(paper, 1999, 32768, 1000, 2000);
-    eventful_in(paper, 2000, 32767, 1000, 2000);
-    eventful_in(paper, 2000, 32768, 999, 2000);
-    eventful_in(paper, 2000, 32768, 1000, 1999);
-    eventful_in(b"H 2 1 1\nG 0\nU 0 0 0\nZ 20\n", 2000, 32768, 1000, 2000);
+    eventful_in(paper, 1999, 32768, 1000, 1000);
+    eventful_in(paper, 2000, 32767, 1000, 1000);
+    eventful_in(paper, 2000, 32768, 999, 1000);
+    eventful_in(paper, 2000, 32768, 1000, 999);
+    eventful_in(b"H 2 1 1\nG 0\nU 0 0 0\nZ 20\n", 2000, 32768, 1000, 1000);
     eventful_in(
         b"H 1 1 1\nG 0\nA 0 0 -9223372036854775808\nZ 39\n",
         2000,
         32768,
         1000,
-        2000,
+        1000,
     );
-    eventful_in(paper, 2000, 32768, 1000, 2000);
+    eventful_in(paper, 2000, 32768, 1000, 1000);
+    eventful_in(paper, 2000, 32768, 1000, 1001);
 }
 
 fn main() {

@@ -2,4 +2,5 @@ pub mod Whole
 pub mod Refused
 pub mod ReadRows
 pub mod Stays
+pub mod FullWith
 pub mod Narrow

@@ -1,55 +1,35 @@
 -- Document 02 (g): "Old papers whose values all lie within 32 bits give their old verdicts; a paper refused with 4 for a value within 64 bits is now
 -- marked by its events."
-use Prim.Native.Nat.{ℕ, suc}
+use Prim.Native.Nat.{ℕ}
 use native.Mathlib.Omega.{arith}
 use mathlib.Core.Path.{_≡_, refl, sym, ap, subst, _∙_}
 use mathlib.Core.List.{List, [], _∷_, _++_, map, reverse, reverse-reverse}
-use mathlib.Core.Bool.{false, cond, false≢true}
+use mathlib.Core.Bool.{false, false≢true}
 use mathlib.Core.Logic.{_⊎_, inl, inr}
 use mathlib.Core.Option.{Option, none, some}
-use lib.Dec.{T, eqb, ltb, leb}
-use lib.ListN.{length, getD, take, length-reverse}
+use lib.Dec.{T}
+use lib.ListN.{length, getD, length-reverse}
 use Rattle.rules.specs.declared.Event.{Event}
 use Rattle.rules.specs.declared.Counts.{Counts}
 use Rattle.rules.specs.Events.{value}
-use Rattle.rules.specs.Limits.{full, firstLine, lineAfter, allowed}
+use Rattle.rules.specs.Limits.{full, firstLine, lineAfter}
 use Rattle.rules.specs.Rules.{Accepted, Marked, accepted, refused, answer, verdict, told, refusedOr, markRead, pastRead}
 use Rattle.rules.specs.Widths.{narrow, fits, narrowed, AllWithin}
-use Rattle.rules.specs.Reading.{readFrom}
 use Rattle.rules.proofs.Readings.{past-accepted}
 use Rattle.rules.proofs.Widths.{all-within, within-at, Same, Wider, narrowed-marked}
-use Rattle.lines.specs.Lines.{before, splitOn, letter}
-use Rattle.decimal.specs.declared.Natural.{Natural}
-use Rattle.decimal.specs.declared.Natural.the-variants as natural
-use Rattle.decimal.specs.Decimal.{naturalOf}
-use Rattle.trace.specs.declared.Trailer.{Trailer}
-use Rattle.trace.specs.declared.Trailer.the-variants as trailer
-use Rattle.trace.specs.Trace.{tooLong, wrongHead, trailerOf, noHead, checkHead, headOf, unfound, behindHead, firstOf, behindTrailer, traceOf, eventsOf}
+use Rattle.lines.specs.Lines.{before, splitOn}
+use Rattle.trace.specs.Trace.{traceOf, eventsOf}
 use Rattle.trace.proofs.TraceLaws.{not-found}
 use Rattle.events.specs.Events.{partLines, readings}
 use Rattle.events.proofs.WidthLaws.{readings-narrowed}
 use Rattle.marking.specs.Marking.{linesIn, markedOf, pastOf, eventsIn, readIn}
 use Rattle.marking.specs.Narrow.{SameMarked, Widened}
+use Rattle.marking.proofs.FullWith.{trace-with, read-with}
 
 -- ---- the width changes the lines alone
 
 pub narrow-trace : (s : List ℕ) → traceOf narrow s ≡ traceOf full s
-unfolding traceOf firstOf headOf allowed
-narrow-trace s = ap (cond (ltb (full .bytes) (length s)) (unfound tooLong)) (behind (trailerOf s))
-  where
-    head : (t v l : Natural) → checkHead narrow t v l ≡ checkHead full t v l
-    head natural.Bad v l = refl
-    head (natural.Of t) natural.Bad l = refl
-    head (natural.Of t) (natural.Of v) natural.Bad = refl
-    head (natural.Of t) (natural.Of v) (natural.Of l) = refl
-
-    behind : (t : Trailer) → behindTrailer narrow s t ≡ behindTrailer full s t
-    behind trailer.Wrong = refl
-    behind (trailer.At e) =
-        let b = take e s in
-        let a = before 10 b in
-        let fs = splitOn 32 (take a b) in
-        λ i. cond (ltb a (length b)) (behindHead b a e (cond (eqb (length fs) 4) (cond (eqb (letter (getD fs 0 [])) 72) (head (naturalOf (getD fs 1 [])) (naturalOf (getD fs 2 [])) (naturalOf (getD fs 3 [])) i) noHead) noHead)) (unfound wrongHead)
+narrow-trace s = trace-with (narrow .scratch) (narrow .width) s
 
 pub narrow-lines : (s : List ℕ) → linesIn narrow s ≡ map (narrowed (narrow .width)) (linesIn full s)
 unfolding linesIn
@@ -74,13 +54,8 @@ unfolding pastOf
 same-past s a = narrow-past s ∙ rw (all-within (narrow .width) (linesIn full s) a) refl
 
 pub same-read : (s : List ℕ) → AllWithin (narrow .width) (linesIn full s) → readIn narrow s ≡ readIn full s
-unfolding readIn readFrom
-same-read s a = rw (narrow-lines s, all-within (narrow .width) (linesIn full s) a) (read-narrow 0 (linesIn full s))
-  where
-    read-narrow : (n : ℕ) (rs : List (Option Event)) → readFrom narrow n rs ≡ readFrom full n rs
-    read-narrow n [] = refl
-    read-narrow n (none ∷ rs) = refl
-    read-narrow n (some e ∷ rs) = ap (λ (es : List Event). cond (leb (full .events) n) [] (e ∷ es)) (read-narrow (suc n) rs)
+unfolding readIn
+same-read s a = rw (narrow-lines s, all-within (narrow .width) (linesIn full s) a) (read-with (narrow .scratch) (narrow .width) 0 (linesIn full s))
 
 -- ---- every paper
 

@@ -3,7 +3,7 @@ use Prim.Native.Nat.{ℕ, _≤_}
 use native.Mathlib.Omega.{arith}
 use mathlib.Core.Path.{_≡_, refl, sym, _∙_, ap, ap₂}
 use mathlib.Core.Bool.{Bool, true, false, cond}
-use mathlib.Core.List.{List, []}
+use mathlib.Core.List.{List}
 use borrow.Author.Tests.{ltb-false}
 use lib.Dec.{ltb}
 use lib.IntN.{ℤ}
@@ -17,17 +17,15 @@ use Rattle.rules.proofs.Laws.{or-false-left, or-false-right}
 use Rattle.decimal.specs.Text.{over}
 use Rattle.trace.specs.declared.Guards.{Guards}
 use Rattle.records.specs.Records.{eventAt, rowEvents}
-use Rattle.rules.specs.Memories.{from}
 use Rattle.sections.specs.Denials.{Denial, fit, denied}
 use Rattle.sections.specs.Refusals.{unfinished, denial}
-use Rattle.sections.proofs.Ordered.{orderly, fit-from}
 use Rattle.sections.specs.Order.{order}
 use Rattle.sections.specs.Entries.{entryCode}
-use Rattle.sections.proofs.Demand3.{room}
+use Rattle.sections.proofs.Demand3.{ended, room}
 use Rattle.ordering.specs.declared.Ordering.{Ordering}
 use Rattle.ordering.specs.declared.Ordering.the-variants.{Ordered, Unordered, NoOrder}
 use Rattle.ordering.specs.Answer.{guardOf, answerOf, answerFor, entriesFor, ordered, Given}
-use Rattle.ordering.specs.Computed.Parts.{Fits, past, toldAs, Orders, Written}
+use Rattle.ordering.specs.Computed.Parts.{Fits, toldAs, Orders, Written}
 use Rattle.ordering.proofs.Rows.{past-all}
 
 -- nothing is written
@@ -74,20 +72,16 @@ module _ (h : Counts) (g : Guards) (es : List Event) where
         given : answerFor h g es ≡ Ordered c
         given = judged ∙ ap₂ answerOf p (sym count ∙ sym (v .count))
 
--- where an order is answered, there are guards, nothing denies it, and its sections are counted
-pub record Fit (h : Counts) (g : Guards) (es : List Event) (c : ℕ) : Type 0 where
-  pub guarded : g .given ≡ true
-  pub undenied : denial h (guardOf (g .locks)) es ≡ fit
-  pub count : c ≡ length (order h es)
-
-pub answered-fit : (h : Counts) (g : Guards) (es : List Event) (c : ℕ) → answerFor h g es ≡ Ordered c → Fit h g es c
+-- where an order is answered, nothing denies it, and its sections are counted
+pub answered-fit : (h : Counts) (g : Guards) (es : List Event) (c : ℕ) → answerFor h g es ≡ Ordered c → (denial h (guardOf (g .locks)) es ≡ fit) × (c ≡ length (order h es))
 unfolding answerFor answerOf
-answered-fit h g es c q = by (g .given) refl (denial h (guardOf (g .locks)) es) refl q
+answered-fit h g es c q = by (g .given) (denial h (guardOf (g .locks)) es) refl q
   where
-    by : (b : Bool) → g .given ≡ b → (x : Denial) → denial h (guardOf (g .locks)) es ≡ x → cond b (answerOf x (length (order h es))) NoOrder ≡ Ordered c → Fit h g es c
-    by true w fit f q = record { guarded = w; undenied = f; count = cc }
-    by true w (denied n m) f q = absurd (let z : _≡_ {A = ℕ} 0 1 = cc in omega arith)
-    by false w x f q = absurd (let z : _≡_ {A = ℕ} 0 1 = cc in omega arith)
+    by : (b : Bool) (x : Denial) → denial h (guardOf (g .locks)) es ≡ x → cond b (answerOf x (length (order h es))) NoOrder ≡ Ordered c
+        → (denial h (guardOf (g .locks)) es ≡ fit) × (c ≡ length (order h es))
+    by true fit f q = (f, cc)
+    by true (denied n m) f q = absurd (let z : _≡_ {A = ℕ} 0 1 = cc in omega arith)
+    by false x f q = absurd (let z : _≡_ {A = ℕ} 0 1 = cc in omega arith)
 
 -- nothing denies an order
 pub is-fit : (v : Verdict) (x : Denial) → v ≡ Accepted → v ≡ toldAs x → x ≡ fit
@@ -95,21 +89,16 @@ unfolding toldAs
 is-fit v fit p q = refl
 is-fit v (denied n m) p q = cc
 
--- at its end nothing is held or owed
-ended-rows : (h : Counts) (guard : ℕ → ℕ) (ws : List ℕ) (xs : List ℤ) → denial h guard (rowEvents h ws xs) ≡ fit → unfinished h (past (eventAt h ws xs) (length ws)) ≡ false
-unfolding rowEvents denial orderly
-ended-rows h guard ws xs p = ap (unfinished h) (past-all (eventAt h ws xs) (length ws)) ∙ fit-from h guard [] (from (eventAt h ws xs) 0 (length ws)) p tt .1
-
 -- enough is lent for it
 pub orders : (h : Counts) (guard : ℕ → ℕ) (ws : List ℕ) (xs : List ℤ) (list scratch : List ℕ) → Fits h ws xs → orderShort full (length list) (length scratch) ≡ false
     → denial h guard (rowEvents h ws xs) ≡ fit → Orders h ws xs list scratch
-unfolding orderShort entriesFor
+unfolding orderShort entriesFor rowEvents
 orders h guard ws xs list scratch f s p = record {
   fits = f;
-  ended = ended-rows h guard ws xs p;
+  ended = ap (unfinished h) (past-all (eventAt h ws xs) (length ws)) ∙ ended h guard (rowEvents h ws xs) p;
   room =
-      let a : 1000 ≤ length list = ltb-false (length list) 1000 (or-false-left (ltb (length list) 1000) (ltb (length scratch) 2000) s) in
+      let a : 1000 ≤ length list = ltb-false (length list) 1000 (or-false-left (ltb (length list) 1000) (ltb (length scratch) 1000) s) in
       let c = length-map (order h (rowEvents h ws xs)) entryCode in
       omega (arith, room full h guard (rowEvents h ws xs) (f .accepted) p);
-  places = ltb-false (length scratch) 2000 (or-false-right (ltb (length list) 1000) (ltb (length scratch) 2000) s);
+  places = ltb-false (length scratch) 1000 (or-false-right (ltb (length list) 1000) (ltb (length scratch) 1000) s);
 }

@@ -4,7 +4,7 @@ use native.Mathlib.Decide.{ℕ-discrete}
 use native.Mathlib.Omega.{arith}
 use mathlib.Core.Path.{_≡_, refl, sym, _∙_}
 use mathlib.Core.Logic.{ite}
-use mathlib.Core.Bool.{Bool, true, false, not, cond, _&&_, false≢true}
+use mathlib.Core.Bool.{Bool, true, false, cond}
 use mathlib.Core.List.{List, [], _∷_}
 use lib.IntN.{ℤ}
 use borrow.Author.Tests.{ne-eqb}
@@ -72,7 +72,7 @@ module _ (hd : Counts) where
       step (yes q) = absurd (p q)
       step (no q) = h
 
-  latest-push : (t n a b : ℕ) (e : E.Event ℤ) (ss : List (Section ℤ)) → Latest t a b ss → Latest t a b (push t n e ss)
+  pub latest-push : (t n a b : ℕ) (e : E.Event ℤ) (ss : List (Section ℤ)) → Latest t a b ss → Latest t a b (push t n e ss)
   unfolding Latest push
   latest-push t n a b e [] h = absurd h
   latest-push t n a b e (s ∷ ss) h = step (ℕ-discrete (s .owner) t) refl h (latest-push t n a b e ss)
@@ -106,17 +106,15 @@ module _ (hd : Counts) where
       step (no p) (yes p′) q h r = rw q h
       step (no p) (no p′) q h r = rw q (r h)
 
-  module _ (i t a j line : ℕ) (e : E.Event ℤ) (ss : List (Section ℤ)) (at : line ≡ lineOf hd (suc i)) where
-    -- its thread's section after it, where it has one
-    pub latest-own : (lock busy : Bool) → (busy ≡ true → Latest t a j ss) → (lock ≡ false → busy ≡ true) → Latest t (cond (lock && not busy) line a) (cond lock i j) (shape lock busy t (suc i) e ss)
-    latest-own true true f g = latest-front t a i (raised t (suc i) e (current t (suc i) ss)) (without t ss) refl (current-first t (suc i) a j ss (f refl)) refl
-    latest-own true false f g = latest-front t line i (opened t (suc i) e) ss refl (sym at) refl
-    latest-own false true f g = latest-push t (suc i) a j e ss (f refl)
-    latest-own false false f g = absurd (false≢true (g refl))
+  -- thread t's section after its K at index i
+  pub latest-lock : (i t a line : ℕ) (e : E.Event ℤ) (ss : List (Section ℤ)) → line ≡ lineOf hd (suc i) → (busy : Bool) → (busy ≡ true → (j : ℕ) × Latest t a j ss)
+      → Latest t (cond busy a line) i (shape true busy t (suc i) e ss)
+  latest-lock i t a line e ss at true f = latest-front t a i (raised t (suc i) e (current t (suc i) ss)) (without t ss) refl (current-first t (suc i) a (f refl .0) ss (f refl .1)) refl
+  latest-lock i t a line e ss at false f = latest-front t line i (opened t (suc i) e) ss refl (sym at) refl
 
-    -- another thread's
-    pub latest-other : (lock busy : Bool) (u b c : ℕ) → (t ≡ u → ⊥) → Latest u b c ss → Latest u b c (shape lock busy t (suc i) e ss)
-    latest-other true true u b c o h = latest-behind u b c (raised t (suc i) e (current t (suc i) ss)) (without t ss) o (latest-without t u b c ss o h)
-    latest-other true false u b c o h = latest-behind u b c (opened t (suc i) e) ss o h
-    latest-other false true u b c o h = latest-push-other t u (suc i) b c e ss o h
-    latest-other false false u b c o h = h
+  -- another thread's section after an event of thread t
+  pub latest-other : (i t : ℕ) (e : E.Event ℤ) (ss : List (Section ℤ)) (lock busy : Bool) (u b c : ℕ) → (t ≡ u → ⊥) → Latest u b c ss → Latest u b c (shape lock busy t (suc i) e ss)
+  latest-other i t e ss true true u b c o h = latest-behind u b c (raised t (suc i) e (current t (suc i) ss)) (without t ss) o (latest-without t u b c ss o h)
+  latest-other i t e ss true false u b c o h = latest-behind u b c (opened t (suc i) e) ss o h
+  latest-other i t e ss false true u b c o h = latest-push-other t u (suc i) b c e ss o h
+  latest-other i t e ss false false u b c o h = h

@@ -6,9 +6,11 @@ pub mod Depths
 pub mod Late
 pub mod Rows
 pub mod Denying
+pub mod Ranks
 pub mod Buckets
 pub mod Shown
 pub mod Filling
+pub mod FillingTurn
 pub mod Listing
 pub mod Answering
 pub mod Serial

@@ -3,7 +3,7 @@ use Prim.Native.Nat.{ℕ, zero, suc, _<_, _≤_}
 use native.Mathlib.Decide.{ℕ-discrete, decLt}
 use native.Mathlib.Omega.{arith}
 use mathlib.Core.Path.{_≡_, refl, sym, _∙_, ap, ap₂, subst}
-use mathlib.Core.Bool.{cond}
+use mathlib.Core.Bool.{Bool, true, false, cond}
 use mathlib.Core.List.{List, [], _∷_, _++_, map, reverse, reverseAux, reverse-cons, append-nil}
 use lib.Dec.{eqb, leb}
 use lib.IntN.{ℤ}
@@ -11,6 +11,8 @@ use lib.ListN.{length, getD, take, drop, replicate}
 use borrow.Author.Tests.{eq-eqb, ne-eqb, le-leb, lt-leb}
 use Rattle.rules.specs.declared.Event.{Event}
 use Rattle.rules.specs.declared.Counts.{Counts}
+use Rattle.rules.specs.Events.{locks}
+use Rattle.rules.specs.Words.{count}
 use Rattle.rules.proofs.Bounds.{first-line-low}
 use Rattle.serial.specs.Lists.{All}
 use Rattle.serial.specs.Sections.{Section}
@@ -20,9 +22,10 @@ use Rattle.sections.specs.Entries.{entryCode}
 use Rattle.records.specs.Records.{eventAt, rowEvents}
 use Rattle.rules.specs.Memories.{from}
 use Rattle.ordering.specs.Answer.{entriesFor}
-use Rattle.ordering.specs.Computed.Parts.{Fits, past, bucket, Filled, unlessZero, nonzero, Put, Orders, Written}
-use Rattle.ordering.proofs.Rows.{past-length, past-all, row-few, known-past}
+use Rattle.ordering.specs.Computed.Parts.{Fits, past, bucket, rank, scratchAt, Filled, unlessZero, nonzero, Put, Orders, Written}
+use Rattle.ordering.proofs.Rows.{past-length, past-all, known-past, locks-few}
 use Rattle.ordering.proofs.Gathering.{non-more}
+use Rattle.ordering.proofs.Ranks.{rank-lock, rank-other, rank-upto}
 use Rattle.ordering.proofs.Buckets.{Below, bucket-above}
 use Rattle.ordering.proofs.Filling.{Placing, placing}
 
@@ -35,11 +38,6 @@ module _ (h : Counts) where
   picked ss zero = []
   picked ss (suc m) = picked ss m ++ unlessZero (bucket h ss (suc m))
 
-  gathered : (S : List ℕ) (ss : List (Section ℤ)) (n : ℕ) → n ≤ length S → ((p : ℕ) → p < n → getD S p 0 ≡ bucket h ss (suc p)) → nonzero (take n S) ≡ picked ss n
-  unfolding picked nonzero
-  gathered S ss zero l f = refl
-  gathered S ss (suc n) l f = non-more S n l ∙ ap₂ (λ xs x. xs ++ unlessZero x) (gathered S ss n (omega (arith, l)) (λ p h. f p (omega (arith, h)))) (f n (omega arith))
-
   no-zero : (s : Section ℤ) → unlessZero (number s) ≡ number s ∷ []
   unfolding unlessZero entryCode
   no-zero s = rw (ne-eqb (number s) 0 (λ e. omega (arith, e, first-line-low h)))
@@ -47,6 +45,21 @@ module _ (h : Counts) where
   zero-none : unlessZero 0 ≡ []
   unfolding unlessZero
   zero-none = refl
+
+  -- the numbers that are not 0 at the places of the K among the first n events
+  gathered : (ev : ℕ → Event) (S : List ℕ) (ss : List (Section ℤ)) (n : ℕ) → rank ev n ≤ length S → ((p : ℕ) → p < n → scratchAt ev S p ≡ bucket h ss (suc p)) → nonzero (take (rank ev n) S) ≡ picked ss n
+  unfolding picked nonzero scratchAt
+  gathered ev S ss zero l f = unfold rank past count in refl
+  gathered ev S ss (suc n) l f = by (locks (ev n)) refl (f n (omega arith)) (gathered ev S ss n (omega (arith, l, rank-upto ev n (suc n) (omega arith))) (λ p h. f p (omega (arith, h))))
+    where
+      by : (b : Bool) → locks (ev n) ≡ b → cond (locks (ev n)) (getD S (rank ev n) 0) 0 ≡ bucket h ss (suc n) → nonzero (take (rank ev n) S) ≡ picked ss n
+          → nonzero (take (rank ev (suc n)) S) ≡ picked ss n ++ unlessZero (bucket h ss (suc n))
+      by true w q before =
+          ap (λ k. nonzero (take k S)) (rank-lock ev n w) ∙ non-more S (rank ev n) (omega (arith, l, rank-lock ev n w))
+          ∙ ap₂ (λ xs x. xs ++ unlessZero x) before (sym (ap (λ b. cond b (getD S (rank ev n) 0) 0) w) ∙ q)
+      by false w q before =
+          ap (λ k. nonzero (take k S)) (rank-other ev n w) ∙ before ∙ sym (append-nil (picked ss n))
+          ∙ ap (λ ys. picked ss n ++ ys) (sym zero-none ∙ ap unlessZero (sym (ap (λ b. cond b (getD S (rank ev n) 0) 0) w) ∙ q))
 
   picked-none : (m : ℕ) → picked [] m ≡ []
   unfolding picked bucket
@@ -99,23 +112,23 @@ module _ (h : Counts) where
     unfolding entriesFor order rowEvents
     entries-are = turn-map (sections h (reverse (from ev 0 (length ws)))) [] ∙ ap (λ (es : List Event). reverse (map number (sections h es))) (sym (past-all ev (length ws)))
 
-    pub listed : Fits h ws xs → (S : List ℕ) → length ws ≤ length S → Filled h ws xs S → nonzero (take (length ws) S) ≡ entriesFor h (rowEvents h ws xs)
-    listed f S l F =
+    listed : Fits h ws xs → (S : List ℕ) (n : ℕ) → n ≤ length S → Filled h ws xs n S → nonzero (take n S) ≡ entriesFor h (rowEvents h ws xs)
+    listed f S n l F =
         let P : Placing (length ws) ss = subst (λ (n : ℕ). Placing n ss) (past-length ev (length ws)) (placing h (past ev (length ws)) (known-past h ws xs f (length ws) (omega arith))) in
-        gathered S ss (length ws) l (F .buckets) ∙ all-picked (length ws) ss (P .falling) (P .below) (P .above) ∙ sym entries-are
+        ap (λ k. nonzero (take k S)) (F .count) ∙ gathered ev S ss (length ws) (omega (arith, l, F .count)) (F .buckets) ∙ all-picked (length ws) ss (P .falling) (P .below) (P .above) ∙ sym entries-are
 
     -- ---- the order written out
 
-    module _ (list scratch : List ℕ) (o : Orders h ws xs list scratch) (S : List ℕ) (long : length S ≡ length scratch) (F : Filled h ws xs S) where
-      pub row-in : length ws ≤ length S
-      row-in = omega (arith, long, o .places, row-few h ws xs (o .fits))
+    module _ (list scratch : List ℕ) (o : Orders h ws xs list scratch) (S : List ℕ) (long : length S ≡ length scratch) (n : ℕ) (F : Filled h ws xs n S) where
+      pub part-in : n ≤ length S
+      part-in = omega (arith, long, F .count, o .places, locks-few h ws xs (o .fits) (o .ended))
 
-      pub gather-in : length (nonzero (take (length ws) S)) ≤ length list
-      gather-in = let e = ap length (listed (o .fits) S row-in F) in omega (arith, e, o .room)
+      pub gather-in : length (nonzero (take n S)) ≤ length list
+      gather-in = let e = ap length (listed (o .fits) S n part-in F) in omega (arith, e, o .room)
 
-      pub written : (c : ℕ) (list′ S′ : List ℕ) → Put (nonzero (take (length ws) S)) list 0 c list′ → S′ ≡ replicate (length S) 0
+      pub written : (c : ℕ) (list′ S′ : List ℕ) → Put (nonzero (take n S)) list 0 c list′ → S′ ≡ replicate (length S) 0
           → Written (entriesFor h (rowEvents h ws xs)) list scratch c list′ S′
       written c list′ S′ p z =
-          let x : nonzero (take (length ws) S) ≡ entriesFor h (rowEvents h ws xs) = listed (o .fits) S row-in F in
-          let n : c ≡ length (entriesFor h (rowEvents h ws xs)) = p .count ∙ (omega arith) ∙ ap length x in
-          record { count = n; lists = p .lists ∙ ap₂ (λ (ys : List ℕ) (k : ℕ). ys ++ drop k list) x n; zeros = z ∙ ap (λ (k : ℕ). replicate k 0) long }
+          let x : nonzero (take n S) ≡ entriesFor h (rowEvents h ws xs) = listed (o .fits) S n part-in F in
+          let e : c ≡ length (entriesFor h (rowEvents h ws xs)) = p .count ∙ (omega arith) ∙ ap length x in
+          record { count = e; lists = p .lists ∙ ap₂ (λ (ys : List ℕ) (k : ℕ). ys ++ drop k list) x e; zeros = z ∙ ap (λ (k : ℕ). replicate k 0) long }

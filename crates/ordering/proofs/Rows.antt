@@ -2,7 +2,7 @@
 use Prim.Native.Nat.{ℕ, zero, suc, _+_, _-_, _≤_, _<_}
 use native.Mathlib.Omega.{arith}
 use mathlib.Core.Path.{_≡_, refl, sym, ap, _∙_, subst}
-use mathlib.Core.Bool.{true}
+use mathlib.Core.Bool.{true, false}
 use mathlib.Core.List.{List, [], _∷_, map, reverse, reverseAux, reverse-reverse}
 use mathlib.Core.Option.{some}
 use lib.Dec.{T}
@@ -11,6 +11,8 @@ use lib.ListN.{length, getD, length-reverse}
 use Rattle.rules.specs.declared.Event.{Event}
 use Rattle.rules.specs.declared.Counts.{Counts}
 use Rattle.rules.specs.Limits.{full, lineAfter, declared}
+use Rattle.rules.specs.Events.{locks}
+use Rattle.rules.specs.Words.{count}
 use Rattle.rules.specs.Rules.{legal, accepted}
 use Rattle.rules.proofs.Bounds.{declared-bounds}
 use Rattle.rules.proofs.Laws.{few, legal-known, legal-before}
@@ -22,10 +24,11 @@ use Rattle.records.proofs.RowLaws.{Numbered, Small, row-lines, row-back, lines-
 use Rattle.rules.proofs.From.{from-step, from-end, length-from}
 use Rattle.serial.specs.Lists.{All}
 use Rattle.sections.specs.Demand3.{AcceptedTrace}
+use Rattle.sections.specs.Refusals.{unfinished}
 use Rattle.sections.proofs.Valid.{Declared, to-declared}
 use Rattle.sections.proofs.Ordered.{All-turn}
-use Rattle.sections.proofs.Demand3.{valid}
-use Rattle.ordering.specs.Computed.Parts.{Fits, past}
+use Rattle.sections.proofs.Demand3.{valid, locks-room}
+use Rattle.ordering.specs.Computed.Parts.{Fits, past, rank}
 use Rattle.ordering.proofs.Scanned.{Reads, reads}
 
 -- ---- the events before an index
@@ -91,6 +94,13 @@ module _ (h : Counts) (ws : List ℕ) (xs : List ℤ) (f : Fits h ws xs) where
   unfolding past
   known-past zero b = tt
   known-past (suc i) b = (to-declared h (ev i) (known-at i b), known-past i (omega arith))
+
+  -- where nothing is held at the end, the scratch that must be lent has a place for each K
+  pub locks-few : unfinished h (past ev (length ws)) ≡ false → rank ev (length ws) ≤ full .scratch
+  unfolding rank rowEvents
+  locks-few u =
+      let q : past ev (length ws) ≡ reverse es = past-all ev (length ws) in
+      omega (arith, ap (count locks) q, locks-room full h es (f .accepted) (sym (ap (unfinished h) q) ∙ u))
 
   module _ (i : ℕ) (b : i < length ws) where
     whose : ev i .thread ≡ threadIn (getD ws i 0)

@@ -19,20 +19,20 @@ use Rattle.records.specs.Records.{packed, valueIn, rowEvents}
 use Rattle.marking.specs.declared.Marking.{Marking}
 use Rattle.marking.specs.Marking.{markedOf, eventsIn, readIn, acceptedOf, refusedWith, markingOf, Marks}
 use Rattle.marking.proofs.Whole.{read-is, head-allowed, events-marked, events-numbered}
-use Rattle.serial.specs.Lists.{All}
+use Rattle.sections.specs.Denials.{fit}
 use Rattle.sections.specs.Demand3.{AcceptedTrace}
+use Rattle.sections.specs.Refusals.{denial}
 use Rattle.sections.specs.Order.{order}
-use Rattle.sections.specs.Entries.{entryIn}
 use Rattle.ordering.specs.declared.Ordering.{Ordering}
-use Rattle.ordering.specs.declared.Ordering.the-variants.{NoOrder}
+use Rattle.ordering.specs.declared.Ordering.the-variants.{Ordered, NoOrder}
 use Rattle.ordering.specs.declared.Outcome.{Outcome}
-use Rattle.ordering.specs.Answer.{answerFor, entriesFor, Given}
+use Rattle.ordering.specs.Answer.{guardOf, answerFor, entriesFor, Given}
 use Rattle.ordering.specs.Traces.{orderingOf, entriesOf, SerialTrace, OrdersTrace}
 use Rattle.ordering.specs.Computed.Parts.{Fits}
 use Rattle.state.proofs.Kept.{up-to-full}
 use Rattle.ordering.proofs.Rows.{packed-fits, packed-events}
-use Rattle.ordering.proofs.Answering.{untouched}
-use Rattle.ordering.proofs.Serial.{Small, small, demand-3-given}
+use Rattle.ordering.proofs.Answering.{untouched, answered-fit}
+use Rattle.ordering.proofs.Serial.{demand-3-given}
 
 -- ---- a trace that is accepted
 
@@ -53,12 +53,19 @@ module _ (s : List ℕ) (a : markedOf full s ≡ accepted) where
   unfolding orderingOf
   ordering-is = ap (λ (k : Marked). onMarked k (answerFor head guards events) NoOrder) a
 
-  -- where it has an order: how many entries, and that each is small and read back from its number
-  pub record Entries (c : ℕ) : Type 0 where
-    pub count : c ≡ length (entriesOf full s)
-    pub few : length (entriesOf full s) ≤ 1000
-    pub small : All Small (order (traceOf full s .head) (eventsIn full s))
-    pub back : map entryIn (entriesOf full s) ≡ order (traceOf full s .head) (eventsIn full s)
+-- a trace that has an order, with c sections
+pub record HasOrder (s : List ℕ) (c : ℕ) : Type 0 where
+  pub accepts : markedOf full s ≡ accepted
+  pub undenied : denial (traceOf full s .head) (guardOf (traceOf full s .guards .locks)) (eventsIn full s) ≡ fit
+  pub count : c ≡ length (order (traceOf full s .head) (eventsIn full s))
+
+pub has-order : (s : List ℕ) (c : ℕ) → orderingOf full s ≡ Ordered c → HasOrder s c
+unfolding orderingOf
+has-order s c q = by (markedOf full s) refl q
+  where
+    by : (k : Marked) → markedOf full s ≡ k → onMarked k (answerFor (traceOf full s .head) (traceOf full s .guards) (eventsIn full s)) NoOrder ≡ Ordered c → HasOrder s c
+    by accepted a q = let f = answered-fit (traceOf full s .head) (traceOf full s .guards) (eventsIn full s) c q in record { accepts = a; undenied = f .0; count = f .1 }
+    by (refused number line) a q = absurd (let z : _≡_ {A = ℕ} 0 1 = cc in omega arith)
 
 -- ---- what marking hands back
 

@@ -174,29 +174,31 @@ fn idle_or(depth: u32, x: u64, y: u64) -> u64
     if depth == 0 { y } else { x }
 }
 
-// The second pass: each section at the index of its last K, 0 elsewhere. It begins at a K before which its thread held nothing, and is written
-// down at the N after which it holds nothing. Other events are passed over.
-fn fill(h: Counts, what: &[u32], value: &[Value], scratch: &mut [u64])
+// The second pass. The scratch has a place for each K, in their order: each section stands at the place of its last K, 0 at the others. A section begins
+// at a K before which its thread held nothing, and is written down at the N after which it holds nothing. Other events are passed over. How many K.
+fn fill(h: Counts, what: &[u32], value: &[Value], scratch: &mut [u64]) -> usize
     requires { ⌜ Fits h (now what) (now value) ⌝ }
     requires { ⌜ unfinished h (past (eventAt h (now what) (now value)) (length (now what))) ≡ false ⌝ }
     requires { ⌜ full .scratch ≤ length (now scratch) ⌝ }
-    ensures { λ _. ⌜ Filled h (now (what .entry)) (now (value .entry)) (now (scratch .exit)) ⌝ }
+    ensures { λ r. ⌜ Filled h (now (what .entry)) (now (value .entry)) r (now (scratch .exit)) ⌝ }
 {
     let mut depths: [u32; 8] = [0; 8];
     let mut first: [u64; 8] = [0; 8];
     let mut top: [usize; 8] = [0; 8];
+    let mut n: usize = 0;
     let mut i: usize = 0;
     while i < what.len() {
         let w = what[i];
         let k = records::letter_in(w);
         let t = records::thread_in(w);
         let line = rules::line_after(h, i as u32) as u64;
-        scratch[i] = 0;
         if k == b'K' {
             let depth = depths[t];
             first[t] = idle_or(depth, first[t], line);
-            top[t] = i;
             depths[t] = level_after(depth, k);
+            scratch[n] = 0;
+            top[t] = n;
+            n += 1;
             i += 1;
         } else if k == b'N' {
             let depth = level_after(depths[t], k);
@@ -209,6 +211,7 @@ fn fill(h: Counts, what: &[u32], value: &[Value], scratch: &mut [u64])
             i += 1;
         }
     }
+    n
 }
 
 // x at place c, unless it is 0; the place after it.
@@ -252,8 +255,7 @@ fn give(h: Counts, what: &[u32], value: &[Value], list: &mut [u64], scratch: &mu
     requires { ⌜ Orders h (now what) (now value) (now list) (now scratch) ⌝ }
     ensures { λ r. ⌜ Written (entriesFor h (rowEvents h (now (what .entry)) (now (value .entry)))) (now (list .entry)) (now (scratch .entry)) r (now (list .exit)) (now (scratch .exit)) ⌝ }
 {
-    fill(h, what, value, scratch);
-    let n = what.len();
+    let n = fill(h, what, value, scratch);
     let c = gather(list, &scratch[..n]);
     clear(scratch);
     c

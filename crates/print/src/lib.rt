@@ -14,7 +14,7 @@ pub fn print_listing(s: &[u8]) -> usize
     let mut values: [Value; 2000] = [0; 2000];
     let mut out = [0u8; 32768];
     let mut list = [0u64; 1000];
-    let mut scratch = [0u64; 2000];
+    let mut scratch = [0u64; 1000];
     let r = report::mark_lent(
         s,
         2000,

@@ -3,4 +3,5 @@ pub mod Printed
 pub mod Reported
 pub mod Briefed
 pub mod Theorems
+pub mod Same
 pub mod Narrow

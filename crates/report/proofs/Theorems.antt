@@ -1,18 +1,24 @@
 -- What holds of a whole trace, for every sequence of bytes.
 use Prim.Native.Nat.{ℕ, _≤_, min}
-use mathlib.Core.Path.{_≡_}
+use native.Mathlib.Omega.{arith}
+use mathlib.Core.Path.{_≡_, ap}
 use mathlib.Core.Bool.{true, false}
-use mathlib.Core.List.{List}
+use mathlib.Core.List.{List, reverse, reverse-reverse}
 use lib.IntN.{ℤ}
 use lib.ListN.{length}
-use Rattle.rules.specs.Limits.{full}
+use borrow.Author.Tests.{le-ltb}
+use Rattle.rules.specs.Events.{locks}
+use Rattle.rules.specs.Limits.{full, lentShort, orderShort}
+use Rattle.rules.specs.Words.{count}
 use Rattle.rules.specs.Rules.{accepted}
 use Rattle.trace.specs.Trace.{traceOf}
-use Rattle.marking.specs.Marking.{markedOf, eventsIn}
-use Rattle.ordering.specs.Answer.{answerFor, entriesFor, Given}
+use Rattle.marking.specs.Marking.{markedOf, pastOf, eventsIn}
+use Rattle.sections.proofs.Demand3.{ended, locks-room, room}
+use Rattle.ordering.specs.declared.Ordering.the-variants.{Ordered}
+use Rattle.ordering.specs.Answer.{guardOf, answerFor, entriesFor, Given}
 use Rattle.ordering.specs.Traces.{orderingOf, entriesOf, SerialTrace}
 use Rattle.ordering.proofs.Serial.{demand-3-given}
-use Rattle.ordering.proofs.Traces.{accepted-trace}
+use Rattle.ordering.proofs.Traces.{accepted-trace, has-order}
 use Rattle.report.specs.declared.Report.{Report}
 use Rattle.report.specs.Report.{listingOf, briefOf, short, Reports, Fills}
 use Rattle.report.proofs.Printed as Printed
@@ -23,6 +29,28 @@ listing-room s = Printed.listing-room s
 
 pub brief-room : (s : List ℕ) → length (briefOf full s) ≤ 32768
 brief-room s = Printed.brief-room s
+
+-- An order has at most 1,000 entries,
+pub order-room : (s : List ℕ) (c : ℕ) → orderingOf full s ≡ Ordered c → c ≤ 1000
+order-room s c q =
+    let f = has-order s c q in
+    omega (arith, f .count, room full (traceOf full s .head) (guardOf (traceOf full s .guards .locks)) (eventsIn full s) (accepted-trace s (f .accepts)) (f .undenied))
+
+-- and a trace that has one at most 1,000 K, for each of which there is one place of the scratch.
+pub scratch-room : (s : List ℕ) (c : ℕ) → orderingOf full s ≡ Ordered c → count locks (pastOf full s) ≤ 1000
+unfolding eventsIn
+scratch-room s c q =
+    let f = has-order s c q in
+    let l = locks-room full (traceOf full s .head) (eventsIn full s) (accepted-trace s (f .accepts)) (ended (traceOf full s .head) (guardOf (traceOf full s .guards .locks)) (eventsIn full s) (f .undenied)) in
+    let e : count locks (reverse (eventsIn full s)) ≡ count locks (pastOf full s) = ap (count locks) (reverse-reverse (pastOf full s)) in
+    omega (arith, l, e)
+
+-- 1,000 places of the order list and 1,000 of the scratch, or more, are enough for every sequence of bytes: what `report::mark_lent` says is its order
+-- or its denial, its entries stand over the old order list, and the scratch is all zeros; without an order both are untouched.
+pub order-enough : (s : List ℕ) (places : ℕ) (out list scratch : List ℕ) (r : Report) (out′ list′ scratch′ : List ℕ) → Reports s places out list scratch r out′ list′ scratch′
+    → lentShort full places (length out) ≡ false → 1000 ≤ length list → 1000 ≤ length scratch → Given (orderingOf full s) (entriesOf full s) list scratch (r .ordering) list′ scratch′
+unfolding orderShort
+order-enough s places out list scratch r out′ list′ scratch′ c e x y = rw (e, le-ltb (length list) 1000 x, le-ltb (length scratch) 1000 y) at (c .orders)
 
 -- Demand 3, for every sequence of bytes that marking accepts, with guards, where enough is lent: what `report::mark_lent` says of its
 -- order, and the numbers that then stand in the lent order list, are what `Demand3` demands.

@@ -1,4 +1,4 @@
 pub mod Report
-pub mod Narrow
+pub mod Same
 -- what is only computed
 pub mod Computed

@@ -32,8 +32,8 @@ pub record Limits : Type 0 where
   pub width : Width
 
 -- `H t v l`: threads 1 to 8, variables 1 to 16, locks 0 to 8. 9. 2,000 events are already in. 1. Paper over 65,536 bytes. 7. Records under
--- 2,000 places, output under 32,768 bytes; where an order is wanted, order list under 1,000 places or scratch under 2,000. Document 02 (g): a value
--- outside 64 bits is 4.
+-- 2,000 places, output under 32,768 bytes; where an order is wanted, order list under 1,000 places or scratch under 1,000 (document 02 (k)).
+-- Document 02 (g): a value outside 64 bits is 4.
 abbrev pub full : Limits
 full = record {
   threads = 8;
@@ -45,8 +45,24 @@ full = record {
   records = 2000;
   output = 32768;
   entries = 1000;
-  scratch = 2000;
+  scratch = 1000;
   width = valueWidth;
+}
+
+-- the full limits with another scratch and another width of values
+abbrev pub fullWith : ℕ → Width → Limits
+fullWith k w = record {
+  threads = full .threads;
+  variables = full .variables;
+  locks = full .locks;
+  events = full .events;
+  excess = full .excess;
+  bytes = full .bytes;
+  records = full .records;
+  output = full .output;
+  entries = full .entries;
+  scratch = k;
+  width = w;
 }
 
 -- limits whose counts and events are nowhere above the full ones
@@ -81,6 +97,6 @@ declared h e = ltb (e .thread) (h .threads) && ltb (place (e .kind)) (cond (onLo
 unfoldable pub lentShort : Limits → ℕ → ℕ → Bool
 lentShort m records out = ltb records (m .records) || ltb out (m .output)
 
--- where an order is wanted, order list under 1,000 places or scratch under 2,000.
+-- where an order is wanted, order list under 1,000 places or, document 02 (k), scratch under 1,000.
 unfoldable pub orderShort : Limits → ℕ → ℕ → Bool
 orderShort m list scratch = ltb list (m .entries) || ltb scratch (m .scratch)

@@ -10,23 +10,11 @@ use lib.Signed.{mag}
 use mir.Syntax.{Width, w32}
 use Rattle.rules.specs.declared.Event.{Event}
 use Rattle.rules.specs.Events.{value}
-use Rattle.rules.specs.Limits.{Limits, full, limit}
+use Rattle.rules.specs.Limits.{Limits, full, fullWith, limit}
 
 -- the full limits with document 01's "a value outside 32 bits is 4"
 abbrev pub narrow : Limits
-narrow = record {
-  threads = full .threads;
-  variables = full .variables;
-  locks = full .locks;
-  events = full .events;
-  excess = full .excess;
-  bytes = full .bytes;
-  records = full .records;
-  output = full .output;
-  entries = full .entries;
-  scratch = full .scratch;
-  width = w32;
-}
+narrow = fullWith (full .scratch) w32
 
 -- x is from -limit to limit - 1; `mag` of n and of -1 - n is n
 abbrev pub fits : Width → ℤ → Bool

@@ -217,7 +217,7 @@ pub fn is_short(records: usize, out: usize) -> bool
 pub fn is_order_short(list: usize, scratch: usize) -> bool
     ensures { λ r. ⌜ r ≡ orderShort full list scratch ⌝ }
 {
-    (list < 1000) | (scratch < 2000)
+    (list < 1000) | (scratch < 1000)
 }
 
 // ---- Verdicts.

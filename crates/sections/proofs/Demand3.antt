@@ -12,14 +12,15 @@ use lib.ListN.{length, length-map, length-reverse}
 use Rattle.rules.specs.declared.Event.{Event}
 use Rattle.rules.specs.declared.Counts.{Counts}
 use Rattle.rules.specs.Limits.{Limits, full}
-use Rattle.rules.specs.Words.{main}
+use Rattle.rules.specs.Events.{locks}
+use Rattle.rules.specs.Words.{count, main}
 use Rattle.rules.specs.Rules.{mark, wordsOf, held, Accepted}
 use Rattle.rules.proofs.Laws.{accepted-legal, is-true, few}
 use Rattle.rules.proofs.Marking.{walk-accepts}
 use Rattle.serial.specs.Lists.{All}
 use Rattle.serial.proofs.Trace as Trace
 use Rattle.sections.specs.View.{view}
-use Rattle.sections.specs.Refusals.{denial}
+use Rattle.sections.specs.Refusals.{unfinished, denial}
 use Rattle.sections.specs.Order.{sections, order}
 use Rattle.sections.specs.Places.{holdsSome}
 use Rattle.sections.specs.Sequential.{serially, zeros, after, given, stated}
@@ -32,7 +33,7 @@ use Rattle.sections.proofs.Sequence.{serially-view, after-view, given-v
 use Rattle.sections.proofs.Listed.{listed}
 use Rattle.sections.proofs.Every.{every}
 use Rattle.sections.proofs.Denied.{Says, says, orderly-fit}
-use Rattle.sections.proofs.Few.{half}
+use Rattle.sections.proofs.Few.{section-locks, locks-half}
 
 -- where nothing is held at the end, no thread holds anything after the last event
 free-at-end : (h : Counts) (guard : ℕ → ℕ) (events : List Event) → Orderly h guard events → (t : ℕ) → holdsAfter h t events (length events) ≡ false
@@ -91,14 +92,23 @@ demand-3 m h guard events a = record {
     ends p v i = unfold zeros in
         (ap (λ f. f v) (sym (after-view ran (λ v. pos 0))) ∙ rw (← view-ran) (serial-order h guard events ok d p .1 v i))
 
--- the order has at most half as many entries as the trace has events: 1,000 places are enough for 2,000 events
+-- at the end of a trace with an order nothing is held or owed
+pub ended : (h : Counts) (guard : ℕ → ℕ) (events : List Event) → denial h guard events ≡ fit → unfinished h (reverse events) ≡ false
+unfolding denial orderly
+ended h guard events p = fit-from h guard [] events p tt .1
+
+-- such a trace has at most 1,000 K
+pub locks-room : (m : Limits) (h : Counts) (events : List Event) → AcceptedTrace m h events → unfinished h (reverse events) ≡ false → 2 * count locks (reverse events) ≤ full .events
+locks-room m h events a u = omega (
+  arith,
+  locks-half h (reverse events) (all-declared h (reverse events) (valid m h events a)) (valid m h events a) u,
+  few m h (reverse events) (a .limits .excess) (marked-accepted m h events a),
+  a .limits .events,
+)
+
+-- and its order at most 1,000 entries
 pub room : (m : Limits) (h : Counts) (guard : ℕ → ℕ) (events : List Event) → AcceptedTrace m h events → denial h guard events ≡ fit → 2 * length (order h events) ≤ full .events
-unfolding order denial orderly
+unfolding order
 room m h guard events a p =
     simp (length-map, length-reverse)
-    (omega (
-      arith,
-      half h (reverse events) (all-declared h (reverse events) (valid m h events a)) (valid m h events a) (fit-from h guard [] events p tt .1),
-      few m h (reverse events) (a .limits .excess) (marked-accepted m h events a),
-      a .limits .events,
-    ))
+    (omega (arith, section-locks h (reverse events) (all-declared h (reverse events) (valid m h events a)), locks-room m h events a (ended h guard events p)))

@@ -1,6 +1,6 @@
--- A trace that leaves no lock held has at most half as many sections as events: each section has a K of its own, and where no lock is held
--- at the end no thread has done more K than N on any lock (rules' proofs/Held.antt).
-use Prim.Native.Nat.{ℕ, zero, suc, _+_, _*_, _-_, _<_, _≤_}
+-- Each section has a K of its own. At most half of the events of a trace that leaves no lock held are K, for then no thread has done more K than N
+-- on any lock (rules' proofs/Held.antt).
+use Prim.Native.Nat.{ℕ, zero, suc, _+_, _*_, _<_, _≤_}
 use native.Mathlib.Decide.{ℕ-discrete, decLt}
 use native.Mathlib.Omega.{arith}
 use mathlib.Core.Path.{_≡_, refl, sym, ap}
@@ -54,10 +54,10 @@ without-less {X} t (s ∷ ss) = step (ℕ-discrete (s .owner) t) (without-less t
     step (yes p) r = omega arith
     step (no p) r = omega arith
 
-own-lock : (h : Counts) (es : List Event) → All (Declared h) es → length (sections h es) ≤ count locks es
+pub section-locks : (h : Counts) (es : List Event) → All (Declared h) es → length (sections h es) ≤ count locks es
 unfolding sections count locks is
-own-lock h [] d = omega arith
-own-lock h (e ∷ es) d = go (e .kind) (e .thread) (holdsSome h (e .thread) es) (sections h es) (own-lock h es (d .1)) busy
+section-locks h [] d = omega arith
+section-locks h (e ∷ es) d = go (e .kind) (e .thread) (holdsSome h (e .thread) es) (sections h es) (section-locks h es (d .1)) busy
   where
     busy : T (holdsSome h (e .thread) es) → Now (e .thread) (map view es) (sections h es)
     busy b = rw (sections-same h es (d .1)) (traced H.counted (map view es) .now (e .thread) (some-busy h (e .thread) es b))
@@ -224,5 +224,5 @@ apart (e ∷ es) = go (letter (e .kind)) (ℕ-discrete (letter (e .kind)) K) (ap
         second true r = omega (arith, r)
         second false r = omega (arith, r)
 
-pub half : (h : Counts) (es : List Event) → All (Declared h) es → Valid h es → unfinished h es ≡ false → 2 * length (sections h es) ≤ length es
-half h es d v u = omega (arith, own-lock h es d, apart es, pairs-all h es d v u)
+pub locks-half : (h : Counts) (es : List Event) → All (Declared h) es → Valid h es → unfinished h es ≡ false → 2 * count locks es ≤ length es
+locks-half h es d v u = omega (arith, apart es, pairs-all h es d v u)

@@ -17,6 +17,7 @@ fn main() {
         damaged: 100_000 * times,
         large: 300 * times,
         large_by_a: 300 * times,
+        many_k: 100 * times,
         aimed: 40 * times as usize,
         short: 5,
     };

@@ -6,13 +6,16 @@ use marker_a::{listing, paper, rules, Kind, Outcome, Verdict};
 use papers::generate::Rng;
 use papers::Value;
 use std::cell::{Cell, RefCell};
+use std::slice;
 
 /// Places that must be lent.
 const RECORDS: usize = 2_000;
 const OUT: usize = 32_768;
 const ORDER: usize = 1_000;
-const SCRATCH: usize = 2_000;
-/// At most so many more places are lent, and so many lie behind the lent ones.
+const SCRATCH: usize = 1_000;
+/// At most so many places of scratch are lent.
+const LONG_SCRATCH: usize = 3_000;
+/// At most so many more places are lent of the others, and so many or more lie behind the lent ones.
 const MORE: usize = 16;
 
 /// Memory with a pattern in it; a part of it is lent.
@@ -56,6 +59,12 @@ impl Lengths {
     /// So many more places than must be lent, of each.
     fn with(more: usize) -> Lengths {
         Lengths { what: RECORDS + more, values: RECORDS + more, out: OUT + more, order: ORDER + more, scratch: SCRATCH + more }
+    }
+
+    /// What a paper of so many bytes is lent: exactly the scratch that must be lent, few places more, and many more.
+    fn of(bytes: usize) -> [Lengths; 4] {
+        let n = Lengths::with(bytes % (MORE + 1));
+        [SCRATCH, n.scratch, 2 * SCRATCH, LONG_SCRATCH - bytes % (2 * SCRATCH)].map(|scratch| Lengths { scratch, ..n })
     }
 }
 
@@ -256,13 +265,14 @@ fn ensure(right: bool, what: impl FnOnce() -> String) -> Result<(), String> {
 impl Papers {
     pub fn new() -> Papers {
         let mut rng = Rng::new(0);
-        // no byte of a listing, no record, no entry and no zero is in a pattern; a value may be any number
+        // no byte of a listing, no record, no entry of the order list and no zero is in a pattern; the scratch has numbers that could be
+        // entries; a value may be any number
         let lent = Lent {
             what: Memory::new(RECORDS, || rng.next() as u32 | 1 << 31),
             values: Memory::new(RECORDS, || rng.next() as Value | 1 << 62),
             out: Memory::new(OUT, || rng.next() as u8 | 0x80),
             order: Memory::new(ORDER, || rng.next() | 1 << 63),
-            scratch: Memory::new(SCRATCH, || rng.next() | 1 << 63),
+            scratch: Memory::new(LONG_SCRATCH, || rng.next() >> 37 | 1),
         };
         Papers { lent: RefCell::new(lent), clean: Cell::new(true), orders: Cell::default() }
     }
@@ -279,10 +289,12 @@ impl Papers {
         if !self.clean.replace(false) {
             lent.renew();
         }
-        let n = Lengths::with(bytes.len() % (MORE + 1));
         let wanted = wanted(bytes, &b);
+        // all of the lengths where there is an order, otherwise one of them
+        let all = Lengths::of(bytes.len());
+        let lengths = if wanted.order.is_some() { &all[..] } else { slice::from_ref(&all[bytes.len() % all.len()]) };
         for marker in MARKERS {
-            by(marker, &mut lent, bytes, n, &b, &wanted).map_err(|e| format!("{marker:?}: {e}"))?;
+            by(marker, &mut lent, bytes, lengths, &b, &wanted).map_err(|e| format!("{marker:?}: {e}"))?;
         }
         if let Some(order) = &wanted.order {
             let uses = demand3(bytes, wanted.events, order).map_err(|e| format!("demand 3: {e}\n"))?;
@@ -308,23 +320,30 @@ impl Papers {
     }
 }
 
-/// One marker on one paper, with an order and where none is wanted. The lent memory has its pattern again afterwards.
-fn by(marker: Marker, lent: &mut Lent, bytes: &[u8], n: Lengths, listing: &str, wanted: &Wanted) -> Result<(), String> {
-    let marked = lent.mark(marker, bytes, n);
-    lent.told(marked, wanted.marked, listing, &wanted.records)?;
-    match &wanted.order {
-        None => ensure(lent.order.is(&[]) && lent.scratch.is(&[]), || "order list or scratch touched without an order".into())?,
-        Some(entries) => {
-            ensure(lent.order.is(entries), || format!("order list, wanted {entries:x?}"))?;
-            ensure(lent.scratch.is(&vec![0; n.scratch]), || "the scratch after an order".into())?;
-            lent.order.renew_front(entries.len());
-            lent.scratch.renew();
-        }
+/// One marker on one paper, with an order and each of these lengths, and where none is wanted. The lent memory has its pattern again
+/// afterwards.
+fn by(marker: Marker, lent: &mut Lent, bytes: &[u8], lengths: &[Lengths], listing: &str, wanted: &Wanted) -> Result<(), String> {
+    for &n in lengths {
+        ordered(marker, lent, bytes, n, listing, wanted).map_err(|e| format!("scratch of {}: {e}", n.scratch))?;
     }
     let memories = unordered(listing);
     let brief = Marked { written: memories.len(), sections: 0, denial: 0, denial_line: 0, ..wanted.marked };
-    let marked = lent.mark_unordered(marker, bytes, n);
+    let marked = lent.mark_unordered(marker, bytes, lengths[0]);
     lent.told(marked, brief, memories, &wanted.records).map_err(|e| format!("no order wanted: {e}"))
+}
+
+/// One marker on one paper where an order is wanted, with these lengths.
+fn ordered(marker: Marker, lent: &mut Lent, bytes: &[u8], n: Lengths, listing: &str, wanted: &Wanted) -> Result<(), String> {
+    let marked = lent.mark(marker, bytes, n);
+    lent.told(marked, wanted.marked, listing, &wanted.records)?;
+    let Some(entries) = &wanted.order else {
+        return ensure(lent.order.is(&[]) && lent.scratch.is(&[]), || "order list or scratch touched without an order".into());
+    };
+    ensure(lent.order.is(entries), || format!("order list, wanted {entries:x?}"))?;
+    ensure(lent.scratch.is(&vec![0; n.scratch]), || "the scratch after an order".into())?;
+    lent.order.renew_front(entries.len());
+    lent.scratch.renew();
+    Ok(())
 }
 
 impl Default for Papers {

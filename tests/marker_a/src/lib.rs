@@ -1,8 +1,9 @@
-//! A naive marker for the papers of document 01, with requests (a), (d) and (g) of document 02.
+//! A naive marker for the papers of document 01, with requests (a), (d), (g) and (k) of document 02.
 //!
 //! Every word of 01 is computed anew from the list of earlier events.
 //! The quoted sentences are 01's, for 23 those of 02 (a), for 16 at N also those of 02 (d), and for
-//! the width of values those of 02 (g).
+//! the width of values those of 02 (g). 02 (k) asks for "the same order" and changes only a limit
+//! of 7, which cannot arise here.
 
 pub mod listing;
 pub mod order;

@@ -39,6 +39,7 @@ const VARIABLES: usize = 16;
 const LOCKS: usize = 8;
 const EVENTS: usize = 2_000;
 const SECTIONS: usize = 1_000;
+const SCRATCH: usize = 1_000;
 const PAPER: usize = 65_536;
 const OUT: usize = 32_768;
 const FIRST_LINE: usize = 3;
@@ -58,7 +59,7 @@ pub fn mark(
     order: &mut [u64],
     scratch: &mut [u64],
 ) -> Marked {
-    if order.len() < SECTIONS || scratch.len() < EVENTS {
+    if order.len() < SECTIONS || scratch.len() < SCRATCH {
         return Marked { number: 7, ..Marked::default() };
     }
     into(paper, what, values, out, Some(Order { list: order, scratch }))

@@ -6,7 +6,7 @@ fn main() {
     let mut paper = Vec::new();
     std::io::stdin().read_to_end(&mut paper).expect("standard input");
     let (mut what, mut values, mut out) = ([0; 2_000], [0; 2_000], [0; 32_768]);
-    let (mut order, mut scratch) = ([0; 1_000], [0; 2_000]);
+    let (mut order, mut scratch) = ([0; 1_000], [0; 1_000]);
     let marked = marker_c::mark(&paper, &mut what, &mut values, &mut out, &mut order, &mut scratch);
     std::io::stdout().write_all(&out[..marked.written]).expect("standard output");
 }

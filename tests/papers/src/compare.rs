@@ -33,6 +33,8 @@ pub struct Comparison {
     pub answers: BTreeMap<String, usize>,
     /// how many papers have an order and an unlock over which an early store waits
     pub waiting: usize,
+    /// of how many papers `has_many_k` holds
+    pub many_k: usize,
 }
 
 const PRINTED_FAILURES: usize = 20;
@@ -40,6 +42,8 @@ const PRINTED_FAILURES: usize = 20;
 const IN_NO_PAPER: [&str; 2] = ["refused 15 L", "refused 16 L"];
 /// For so many random papers there must be at least one with an order and an unlock over which an early store waits.
 const WAITING_IN: usize = 200;
+/// For so many papers with many K there must be at least one of which `has_many_k` holds.
+const MANY_K_IN: usize = 4;
 const FEW: Counts = Counts { threads: 2, variables: 1, locks: 1 };
 
 /// The kind of a paper's listing: the refusal, with the letter where it is one of a row, or what became of the order.
@@ -87,6 +91,29 @@ fn waits(paper: &[u8]) -> bool {
     })
 }
 
+/// Whether a paper that has an order has more than 900 K, one of them on a lock that is held already, and sections that are not in order of
+/// their first K.
+fn has_many_k(paper: &[u8], listing: &str) -> bool {
+    let body = marker_a::paper::find(paper).expect("an accepted paper").body;
+    let mut depths: BTreeMap<u32, usize> = BTreeMap::new();
+    let (mut number, mut again) = (0, false);
+    for e in body.split(|&b| b == 10).filter_map(marker_a::paper::event) {
+        match e.kind {
+            Kind::K => {
+                let depth = depths.entry(e.target).or_default();
+                again |= *depth > 0;
+                *depth += 1;
+                number += 1;
+            }
+            Kind::N => *depths.entry(e.target).or_default() -= 1,
+            _ => {}
+        }
+    }
+    let sections = listing.lines().filter(|line| line.starts_with("section"));
+    let firsts = sections.map(|line| line.split(' ').nth(2).and_then(|n| n.parse::<usize>().ok()));
+    number > 900 && again && !firsts.is_sorted()
+}
+
 /// Bytes as text, a line to a line; a long one is cut.
 fn shown(paper: &[u8]) -> String {
     let mut text = paper.escape_ascii().to_string().replace("\\n", "\n");
@@ -99,7 +126,7 @@ fn shown(paper: &[u8]) -> String {
 
 impl Comparison {
     pub fn with(check: Check) -> Comparison {
-        Comparison { check, passed: 0, failed: 0, answers: BTreeMap::new(), waiting: 0 }
+        Comparison { check, passed: 0, failed: 0, answers: BTreeMap::new(), waiting: 0, many_k: 0 }
     }
 
     fn checked(&self, paper: &[u8], with_a: bool) -> Result<String, String> {
@@ -123,7 +150,10 @@ impl Comparison {
         let failure = match self.checked(paper, with_a) {
             Ok(listing) => {
                 let kind = kind(paper, &listing);
-                self.waiting += usize::from(kind.starts_with("ordered") && waits(paper));
+                if kind.starts_with("ordered") {
+                    self.waiting += usize::from(waits(paper));
+                    self.many_k += usize::from(has_many_k(paper, &listing));
+                }
                 let failure = IN_NO_PAPER.contains(&&kind[..]).then(|| format!("FAILED {name}: {kind}\n{}", shown(paper)));
                 *self.answers.entry(kind).or_insert(0) += 1;
                 failure
@@ -235,6 +265,8 @@ pub struct Size {
     /// papers near the limits, and on how many of them marker A is asked
     pub large: u64,
     pub large_by_a: u64,
+    /// papers of about 2,000 events with many K
+    pub many_k: u64,
     /// papers for each aim
     pub aimed: usize,
     /// the length up to which every trace is compared
@@ -256,7 +288,7 @@ pub fn run(check: Check, size: Size) -> (usize, usize) {
         println!("    {}", answers.join("; "));
         before = all;
     };
-    let Size { seed, random, damaged, large, large_by_a, aimed, short } = size;
+    let Size { seed, random, damaged, large, large_by_a, many_k, aimed, short } = size;
     part("known listings", &|c| c.known());
     part("every short trace", &|c| c.every_short_trace(short, [0, 1]));
     part("every short trace of values with the same low 32 bits", &|c| {
@@ -267,9 +299,17 @@ pub fn run(check: Check, size: Size) -> (usize, usize) {
     part("random papers", &|c| c.seeds("seed", generate::random_paper, seed, random, random));
     part("damaged papers", &|c| c.seeds("damaged seed", generate::damaged_paper, seed, damaged, damaged));
     part("large papers", &|c| c.seeds("large seed", generate::large_paper, seed, large, large_by_a));
-    let (found, wanted) = (comparison.waiting, random as usize / WAITING_IN);
-    println!("ordered, and an early store waits over an unlock: {found}");
-    comparison.count((found < wanted).then(|| format!("FAILED: these are fewer than {wanted}")));
+    part("papers with many K", &|c| {
+        c.many_k = 0;
+        c.seeds("many K, seed", generate::paper_with_many_k, seed, many_k, many_k)
+    });
+    for (what, found, wanted) in [
+        ("an early store waits over an unlock", comparison.waiting, random as usize / WAITING_IN),
+        ("more than 900 K, locks taken again, not by the first K", comparison.many_k, many_k as usize / MANY_K_IN),
+    ] {
+        println!("ordered, and {what}: {found}");
+        comparison.count((found < wanted).then(|| format!("FAILED: these are fewer than {wanted}")));
+    }
     let _ = std::panic::take_hook();
     (comparison.passed, comparison.failed)
 }

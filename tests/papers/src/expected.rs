@@ -1,8 +1,8 @@
-//! Papers with the listing that documents 01 and 02 (a), (d) and (g) give, or that follows from their words, worked out by hand. Those
-//! about the range of values are in `values`.
+//! Papers with the listing that documents 01 and 02 (a), (d), (g) and (k) give, or that follows from their words, worked out by hand.
+//! Those about the range of values are in `values`, those about the number of K in `locking`.
 
 use crate::generate::close;
-use crate::values;
+use crate::{locking, values};
 
 pub struct Expected {
     pub name: String,
@@ -724,10 +724,6 @@ pub fn papers() -> Vec<Expected> {
     add("2,001st line is no event".into(), two(assigns(2000) + ", X"), "refused 2003 4");
     add("2,001st event undeclared".into(), two(assigns(2000) + ", A 9 0 0"), "refused 2003 9");
     add("2,001st event bad".into(), two(assigns(2000) + ", U 1 1 0"), "refused 2003 9");
-    // 1,000 sections
-    let sections: Vec<String> = (0..1000).map(|i| format!("section 0 {} {}", 2 * i + 3, 2 * i + 4)).collect();
-    let listing = format!("accepted 2000, main 0 0, {}", sections.join(", "));
-    add("1,000 sections".into(), text("H 1 1 1", "G 0", &vec!["K 0 0, N 0 0"; 1000].join(", ")), &listing);
     // 65,536 bytes and more: one long field. The trailer has 8 bytes.
     let long = |size: usize, before: &str, after: &str| {
         let mut body = format!("H 1 1 1\nG -\n{before}").into_bytes();
@@ -771,6 +767,7 @@ pub fn papers() -> Vec<Expected> {
     add("byte 255 in an event".into(), close(b"H 1 1 1\nG -\nA 0 0 \xff\n".to_vec()), "refused 3 4");
     add("byte 128 behind an event".into(), close(b"H 1 1 1\nG -\nA 0 0 0\x80\n".to_vec()), "refused 3 4");
     add("byte 255 in the trailer".into(), b"H 1 1 1\nG -\nZ 12\xff\n".to_vec(), "refused 0 2");
+    list.extend(locking::papers());
     list.extend(values::papers());
     list
 }

@@ -470,15 +470,20 @@ pub fn long_of(rng: &mut Rng, pool: &[Value], length: usize, bad_percent: usize,
     }
     // most papers end with nothing held, owed or outstanding
     if orderly || rng.chance(80) {
-        for t in 0..counts.threads {
-            while state.busy(t) {
-                let Some(e) = open_event(rng, &state, &style, t, true) else { break };
-                assert_eq!(state.step(e), 0);
-                events.push(e);
-            }
-        }
+        settle(rng, &mut state, &style, &mut events);
     }
     (counts, guards, events)
+}
+
+/// Goes on, thread by thread, until nothing is held, owed or outstanding.
+fn settle(rng: &mut Rng, state: &mut State, style: &Style, events: &mut Vec<Event>) {
+    for t in 0..state.counts().threads {
+        while state.busy(t) {
+            let Some(e) = open_event(rng, state, style, t, true) else { break };
+            assert_eq!(state.step(e), 0);
+            events.push(e);
+        }
+    }
 }
 
 const FIELDS: [&[u8]; 38] = [
@@ -652,4 +657,39 @@ pub fn large_paper(seed: u64) -> Vec<u8> {
         events.push(any_event(&mut rng, counts, &[0, 1, 1 << 32]));
     }
     paper(counts, guards.as_deref(), &events)
+}
+
+/// A paper of about 2,000 events with many K, sections of several threads at once and locks taken again. Most have an order, and half of
+/// these have 1,000 K.
+pub fn paper_with_many_k(seed: u64) -> Vec<u8> {
+    let mut rng = Rng::new(seed ^ 0x3333_0000_0000_0000);
+    let counts = Counts { threads: rng.between(2, 8), variables: rng.between(1, 3), locks: rng.between(2, 8) };
+    let guards: Vec<usize> = (0..counts.variables).map(|_| rng.below(counts.locks)).collect();
+    // K and N alone; or reads, loads, uses and early stores too, but no A, which could not be stored after a K
+    let others = rng.below(2);
+    let (k, n) = rng.pick(&[(100, 100), (300, 100), (900, 100)]);
+    // U A L S R W K N P B
+    let weights = [4 * others, 0, 4 * others, 0, 2 * others, 300, k, n, others, 300];
+    let style = Style { weights, discipline: 100, stay: rng.pick(&[0, 50, 90]), values: vec![0, 1, 1 << 32] };
+    // in one of five papers thread 0 takes lock 0 again and again and keeps it: no order, and in most of them more than 1,000 K
+    let keeps = rng.chance(20);
+    let fit = |e: &Event| !keeps || e.thread > 0 || (e.letter, e.place) == (b'K', 0);
+    let mut state = State::new(counts, Some(&guards));
+    let mut events: Vec<Event> = Vec::new();
+    let (mut t, mut held) = (0, 0);
+    // room for an N for each time that a lock is held, and for the B and W that are due
+    while events.len() + if keeps { 0 } else { held + 50 * others } < 2_000 {
+        if !rng.chance(style.stay) {
+            t = rng.below(counts.threads);
+        }
+        if let Some(e) = open_event(&mut rng, &state, &style, t, false).filter(fit) {
+            assert_eq!(state.step(e), 0);
+            held = held + usize::from(e.letter == b'K') - usize::from(e.letter == b'N');
+            events.push(e);
+        }
+    }
+    if !keeps {
+        settle(&mut rng, &mut state, &style, &mut events);
+    }
+    paper(counts, Some(&guards), &events)
 }

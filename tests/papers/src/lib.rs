@@ -5,6 +5,7 @@ pub mod by_a;
 pub mod compare;
 pub mod expected;
 pub mod generate;
+pub mod locking;
 pub mod shrink;
 pub mod values;
 

@@ -27,7 +27,7 @@ array-borrow-prefix-scratch : tie.Need-array-borrow-prefix-scratch
 array-borrow-prefix-scratch c = search needs
 
 slice-aggregate-eventful-3 : tie.Need-slice-aggregate-eventful-3
-slice-aggregate-eventful-3 c = part-length (c .before .before .before .before .args .cells) 2000 77 (c .before .before .before .before .pre .1 .1 .1)
+slice-aggregate-eventful-3 c = part-length (c .before .before .before .before .args .cells) 1001 77 (c .before .before .before .before .pre .1 .1 .1)
 
 eventful-requires : tie.Need-eventful-requires
 eventful-requires c κs = search needs

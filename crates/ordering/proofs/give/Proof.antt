@@ -4,7 +4,7 @@ use lib.ListN.{length}
 use lib.Seq.{length-take-le}
 use denote.Ref.{now}
 use borrow.Author.Needs.{needs}
-use Rattle.ordering.proofs.Listing.{row-in, gather-in, written}
+use Rattle.ordering.proofs.Listing.{part-in, gather-in, written}
 use Rattle.ordering.proofs.give.Statement.{statement}
 use Rattle.ordering.proofs.give.Tie as tie
 
@@ -16,21 +16,21 @@ slice-reshare-prefix-gather c =
     let a = c .before .before .before .before .before .before .before .before .args in
     let S = c .before .before .before .fill .last .1 .1 .1 .0 in
     let z : length S ≡ length (now (a .scratch)) = search needs in
-    row-in (a .h) (now (a .what)) (now (a .value)) (now (a .list)) (now (a .scratch)) (c .before .before .before .before .before .before .before .before .pre) S z (c .before .before .before .fill .ensures)
+    part-in (a .h) (now (a .what)) (now (a .value)) (now (a .list)) (now (a .scratch)) (c .before .before .before .before .before .before .before .before .pre) S z (c .before .before .before .fill .result) (c .before .before .before .fill .ensures)
 
 slice-aggregate-gather : tie.Need-slice-aggregate-gather
 slice-aggregate-gather c =
     let a = c .before .before .before .before .before .before .before .before .before .args in
     let S = c .before .before .before .before .fill .last .1 .1 .1 .0 in
     let z : length S ≡ length (now (a .scratch)) = search needs in
-    sym (length-take-le (length (now (a .what))) S (row-in (a .h) (now (a .what)) (now (a .value)) (now (a .list)) (now (a .scratch)) (c .before .before .before .before .before .before .before .before .before .pre) S z (c .before .before .before .before .fill .ensures)))
+    sym (length-take-le (c .before .before .before .before .fill .result) S (part-in (a .h) (now (a .what)) (now (a .value)) (now (a .list)) (now (a .scratch)) (c .before .before .before .before .before .before .before .before .before .pre) S z (c .before .before .before .before .fill .result) (c .before .before .before .before .fill .ensures)))
 
 gather-requires : tie.Need-gather-requires
 gather-requires c κs =
     let a = c .before .before .before .before .before .before .before .before .before .args in
     let S = c .before .before .before .before .fill .last .1 .1 .1 .0 in
     let z : length S ≡ length (now (a .scratch)) = search needs in
-    gather-in (a .h) (now (a .what)) (now (a .value)) (now (a .list)) (now (a .scratch)) (c .before .before .before .before .before .before .before .before .before .pre) S z (c .before .before .before .before .fill .ensures)
+    gather-in (a .h) (now (a .what)) (now (a .value)) (now (a .list)) (now (a .scratch)) (c .before .before .before .before .before .before .before .before .before .pre) S z (c .before .before .before .before .fill .result) (c .before .before .before .before .fill .ensures)
 
 clear-requires : tie.Need-clear-requires
 clear-requires c κs = search needs
@@ -46,7 +46,7 @@ returns c =
     let a = c .before .before .before .before .before .before .before .before .before .before .before .before .before .before .before .before .args in
     let S = c .before .before .before .before .before .before .before .before .before .before .before .fill .last .1 .1 .1 .0 in
     let z : length S ≡ length (now (a .scratch)) = search needs in
-    written (a .h) (now (a .what)) (now (a .value)) (now (a .list)) (now (a .scratch)) (c .before .before .before .before .before .before .before .before .before .before .before .before .before .before .before .before .pre) S z (c .before .before .before .before .before .before .before .before .before .before .before .fill .ensures) (c .before .before .before .before .before .before .gather .result) (c .before .before .before .before .before .before .gather .last .0) (c .before .before .clear .last .0) (c .before .before .before .before .before .before .gather .ensures) (c .before .before .clear .ensures)
+    written (a .h) (now (a .what)) (now (a .value)) (now (a .list)) (now (a .scratch)) (c .before .before .before .before .before .before .before .before .before .before .before .before .before .before .before .before .pre) S z (c .before .before .before .before .before .before .before .before .before .before .before .fill .result) (c .before .before .before .before .before .before .before .before .before .before .before .fill .ensures) (c .before .before .before .before .before .before .gather .result) (c .before .before .before .before .before .before .gather .last .0) (c .before .before .clear .last .0) (c .before .before .before .before .before .before .gather .ensures) (c .before .before .clear .ensures)
 
 pub give-spec : {M : Type 1} → statement M
 give-spec =

@@ -11,8 +11,9 @@ use Rattle.rules.specs.declared.Event.{Event}
 use Rattle.rules.specs.declared.Counts.{Counts}
 use Rattle.rules.specs.declared.Verdict.{Verdict}
 use Rattle.rules.specs.declared.Verdict.the-variants.{Accepted, Refused}
-use Rattle.rules.specs.Events.{B, K, N, P, isLetter}
+use Rattle.rules.specs.Events.{B, K, N, P, isLetter, locks}
 use Rattle.rules.specs.Limits.{full}
+use Rattle.rules.specs.Words.{count}
 use Rattle.rules.specs.Rules.{some}
 use Rattle.decimal.specs.Text.{over}
 use Rattle.records.specs.Records.{letterIn, eventAt, rowEvents}
@@ -81,9 +82,18 @@ unfoldable pub bucket : Counts → List (Section ℤ) → ℕ → ℕ
 bucket h [] q = 0
 bucket h (s ∷ ss) q = cond (eqb (s .top) q) (entryCode (entry h s)) (bucket h ss q)
 
--- each place of the scratch up to the number of events has the section whose last K is there
-pub record Filled (h : Counts) (what : List ℕ) (value : List ℤ) (scratch : List ℕ) : Type 0 where
-  pub buckets : (p : ℕ) → p < length what → getD scratch p 0 ≡ bucket h (sections h (past (eventAt h what value) (length what))) (suc p)
+-- how many K there are before the event at index i
+unfoldable pub rank : (ℕ → Event) → ℕ → ℕ
+rank events i = count locks (past events i)
+
+-- what the scratch holds for the event at index p: the number at its rank for a K, 0 for another event
+unfoldable pub scratchAt : (ℕ → Event) → List ℕ → ℕ → ℕ
+scratchAt events scratch p = cond (locks (events p)) (getD scratch (rank events p) 0) 0
+
+-- n is the number of K, and for each event the scratch holds the number of the section whose last K it is, 0 where there is none
+pub record Filled (h : Counts) (what : List ℕ) (value : List ℤ) (n : ℕ) (scratch : List ℕ) : Type 0 where
+  pub count : n ≡ rank (eventAt h what value) (length what)
+  pub buckets : (p : ℕ) → p < length what → scratchAt (eventAt h what value) scratch p ≡ bucket h (sections h (past (eventAt h what value) (length what))) (suc p)
 
 -- ---- gathering
 

@@ -34,9 +34,9 @@ write-all-requires c κs = search needs
 returns : tie.Need-returns
 returns c =
     let m = c .before .before .before .before .before .mark-lent in
-    written-is (now (c .before .before .before .before .before .before .before .before .before .before .before .before .args .s)) 2000 (replicate 32768 0) (replicate 1000 0) (replicate 2000 0) (m .result) _ _ _ (m .ensures .reports)
-    (not-short 2000 (replicate 32768 0) (replicate 1000 0) (replicate 2000 0) (omega arith) (omega (arith, length-replicate {A = ℕ} 32768 0)) (omega (arith, length-replicate {A = ℕ} 1000 0))
-    (omega (arith, length-replicate {A = ℕ} 2000 0)))
+    written-is (now (c .before .before .before .before .before .before .before .before .before .before .before .before .args .s)) 2000 (replicate 32768 0) (replicate 1000 0) (replicate 1000 0) (m .result) _ _ _ (m .ensures .reports)
+    (not-short 2000 (replicate 32768 0) (replicate 1000 0) (replicate 1000 0) (omega arith) (omega (arith, length-replicate {A = ℕ} 32768 0)) (omega (arith, length-replicate {A = ℕ} 1000 0))
+    (omega (arith, length-replicate {A = ℕ} 1000 0)))
 
 pub print-listing-spec : {M : Type 1} → statement M
 print-listing-spec =

@@ -6,6 +6,7 @@ mod early_lists;
 mod early_stores;
 mod format;
 mod long_listings;
+mod long_orders;
 mod marking;
 mod old_papers;
 mod ordering;

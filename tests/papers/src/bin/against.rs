@@ -24,6 +24,6 @@ fn main() {
     let numbers: Vec<u64> = args.map(|a| a.parse().expect("a number")).collect();
     let arg = |i: usize, usual: u64| numbers.get(i).copied().unwrap_or(usual);
     let (random, large, short) = (arg(0, 2_000), arg(1, 50), arg(2, 2) as usize);
-    let size = Size { seed: 1, random, damaged: random / 2, large, large_by_a: large, aimed: 4, short };
+    let size = Size { seed: 1, random, damaged: random / 2, large, large_by_a: large, many_k: large, aimed: 4, short };
     close(run(against_a(move |paper| listing(&program, paper)), size));
 }
