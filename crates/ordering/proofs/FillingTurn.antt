@@ -197,22 +197,23 @@ module _ {h : Counts} {ws : List ℕ} {xs : List ℤ} {scratch depths first top 
     new-idle v q = getD-set-other depths t v z 0 (λ o. omega (arith, o, q, declared-thread)) ∙ F .idle v q
 
     -- a lock
-    pub filling-lock : eqb k K ≡ true → {a : ℕ} → a ≡ idleOr (getD depths t 0) (getD first t 0) (lineAfter h i) → Filling h ws xs (set scratch n 0) (set depths t z) (set first t a) (set top t n) (n + 1) (i + 1)
+    pub filling-lock : eqb k K ≡ true → {a : ℕ} → a ≡ idleOr (getD depths t 0) (getD first t 0) (lineAfter h i) → {y : ℕ} → y ≡ 0 → {m : ℕ} → m ≡ n + 1
+        → Filling h ws xs (set scratch n y) (set depths t z) (set first t a) (set top t n) m (i + 1)
     unfolding past levelAfter idleOr
-    filling-lock c {a} ea = rw (add-one i) (record {
+    filling-lock c {a} ea {y} ey em = rw (add-one i) (record {
       upto = u .more;
       depths-are = new-depths;
       idle = new-idle;
       first-long = length-set first t a ∙ F .first-long;
       top-long = length-set top t n ∙ F .top-long;
       firsts = λ v hv. new-first v hv (ℕ-discrete v t);
-      count = omega (arith, F .count, rank-lock ev i (r .locking ∙ c));
-      written = λ p q. zeroed (set scratch n 0) fresh p q ∙ sym (ap (λ ss. shown h after ss (suc p)) (shaped ∙ ap (λ x. shape x busy t (suc i) (view e) (sections h es)) c) ∙ lock-shown h (suc p) t (suc i) (view e) b after off busy refl held (sections h es));
+      count = omega (arith, em, F .count, rank-lock ev i (r .locking ∙ c));
+      written = λ p q. zeroed (set scratch n y) fresh p q ∙ sym (ap (λ ss. shown h after ss (suc p)) (shaped ∙ ap (λ x. shape x busy t (suc i) (view e) (sections h es)) c) ∙ lock-shown h (suc p) t (suc i) (view e) b after off busy refl held (sections h es));
       current = current-after (set first t a) (set top t n) (λ v o. (getD-set-other first t v a 0 o, getD-set-other top t v n 0 o)) mine;
     })
       where
-        fresh : (p : ℕ) → scratchAt ev (set scratch n 0) p ≡ cond (eqb (suc i) (suc p)) 0 (scratchAt ev scratch p)
-        fresh p = ap (λ j. scratchAt ev (set scratch j 0) p) (F .count) ∙ scratch-set ev scratch i 0 (r .locking ∙ c) (rank-in i (u .more) (r .locking ∙ c)) p
+        fresh : (p : ℕ) → scratchAt ev (set scratch n y) p ≡ cond (eqb (suc i) (suc p)) 0 (scratchAt ev scratch p)
+        fresh p = ap₂ (λ j x. scratchAt ev (set scratch j x) p) (F .count) ey ∙ scratch-set ev scratch i 0 (r .locking ∙ c) (rank-in i (u .more) (r .locking ∙ c)) p
 
         at-first : getD (set first t a) t 0 ≡ a
         at-first = getD-set-same first t a 0 (omega (arith, r .thread-low, F .first-long))

@@ -114,7 +114,7 @@ loop-less : tie.Need-loop-less Inv-loop μ-loop
 loop-less c = search needs
 
 loop-again : tie.Need-loop-again Inv-loop μ-loop
-loop-again c = (filling-lock (turn (c .before .before .before .before)) (c .level-after .ensures) (eq-eqb _ _ (c .before .before .if1 .taken)) (c .before .idle-or .ensures ∙ ap (idleOr _ _) (c .before .before .before .line-after .ensures)), length-set (c .before .before .before .before .before .before .before .before .loop .scratch) (c .before .before .before .before .before .before .before .before .loop .n) 0 ∙ c .before .before .before .before .before .before .before .before .loop .inv .1)
+loop-again c = (filling-lock (turn (c .before .before .before .before)) (c .level-after .ensures) (eq-eqb _ _ (c .before .before .if1 .taken)) (c .before .idle-or .ensures ∙ ap (idleOr _ _) (c .before .before .before .line-after .ensures)) (omega arith) (omega arith), length-set (c .before .before .before .before .before .before .before .before .loop .scratch) (c .before .before .before .before .before .before .before .before .loop .n) _ ∙ c .before .before .before .before .before .before .before .before .loop .inv .1)
 
 mul-level-after : tie.Need-mul-level-after Inv-loop μ-loop
 mul-level-after c = omega (arith, turn (c .before .before .before) .reads .thread-low)
