@@ -15,7 +15,7 @@ extern "C" {
 #define DABZHONI_ASSERT _Static_assert
 #endif
 
-/* How many threads (1 to 8), variables (1 to 16) and locks (0 to 8) are declared. */
+/* How many threads (1 to 8), variables (1 to 16) and locks (0 to 8) are declared; in the short course 1 to 2, 1 to 4 and 0 to 2. */
 struct dabzhoni_counts {
   size_t threads;
   size_t variables;
@@ -142,15 +142,29 @@ struct dabzhoni_marked dabzhoni_mark(const uint8_t *paper, size_t paper_len, uin
 struct dabzhoni_marked dabzhoni_mark_unordered(const uint8_t *paper, size_t paper_len, uint32_t *what, size_t what_len,
                                                int64_t *values, size_t values_len, uint8_t *out, size_t out_len);
 
-/* The state before the first event. The memory must be a state already, as zeros are: each bool in it is 0 or 1. Counts out of
-   range are kept, and each step is then refused by 8. The pointer is not null and is aligned to 8 bytes, and nothing else reads or
-   writes the state during the call. */
+/* The short course: at most 2 threads, 4 variables, 2 locks and 200 events. The two entries above have one each for its papers, lent the
+   same lengths. Refusal 25 is over these limits: at line 1, after 3 and before 6, where the head declares more; in place of 9 at line 203,
+   that of the 201st event. Any other trace is answered as above. */
+struct dabzhoni_marked dabzhoni_mark_short(const uint8_t *paper, size_t paper_len, uint32_t *what, size_t what_len, int64_t *values,
+                                           size_t values_len, uint8_t *out, size_t out_len, uint64_t *order, size_t order_len,
+                                           uint64_t *scratch, size_t scratch_len);
+
+struct dabzhoni_marked dabzhoni_mark_short_unordered(const uint8_t *paper, size_t paper_len, uint32_t *what, size_t what_len,
+                                                     int64_t *values, size_t values_len, uint8_t *out, size_t out_len);
+
+/* The state before the first event, in both courses. The memory must be a state already, as zeros are: each bool in it is 0 or 1.
+   Counts out of range are kept, and each step is then refused by 8. The pointer is not null and is aligned to 8 bytes, and nothing else
+   reads or writes the state during the call. */
 void dabzhoni_initial(struct dabzhoni_state *state, size_t threads, size_t variables, size_t locks);
 
 /* One event: its letter, thread, variable or lock, and value (not looked at for K and N). 8, 9, 5, then the letter's row, each with
    the events so far plus 3 as its line, and 0 for 8. A letter that is none of the ten is 4, before all others. A refusal leaves the
    state as it was. The pointer is not null and is aligned to 8 bytes, and nothing else reads or writes the state during the call. */
 struct dabzhoni_reply dabzhoni_step(struct dabzhoni_state *state, uint8_t letter, size_t thread, size_t place, int64_t value);
+
+/* The same for the short course: counts above 2, 4 and 2 or more than 200 events so far are 8 too, and 25, in place of 9, is that 200
+   events are already in. Any other state is answered and changed as above. */
+struct dabzhoni_reply dabzhoni_step_short(struct dabzhoni_state *state, uint8_t letter, size_t thread, size_t place, int64_t value);
 
 #ifdef __cplusplus
 }

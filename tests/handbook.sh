@@ -1,7 +1,9 @@
 #!/usr/bin/env bash
 # The papers of docs/PAPERS.md: each is marked by a program and compared, byte for byte, with the listing that follows it there.
 #   tests/handbook.sh PROGRAM [ARGUMENT..]    the program reads a paper on standard input and writes its listing
-# A number from 1 to 6 or 9 to 23 without a paper under its own heading is a failure. The last line is 'N passed, M failed'.
+# A short paper is one of the short course: the program gets --short as its last argument for it. The others are marked so too, and have the
+# same listing then or 25.
+# A number from 1 to 6 or 9 to 23, or 25, without a paper under its own heading is a failure. The last line is 'N passed, M failed'.
 set -u
 export LC_ALL=C
 if [ $# -eq 0 ]; then
@@ -13,15 +15,15 @@ work=$(mktemp -d) || exit 2
 trap 'rm -rf "$work"' EXIT
 touch "$work/faults" "$work/covered" "$work/pairs"
 
-# Writes the files N.paper and N.listing; in `pairs` each N with the paper's line in the document, in `covered` each number that is
-# met under its heading, in `faults` what has not the form of a pair.
+# Writes the files N.paper and N.listing; in `pairs` each N with the paper's line in the document and --short for a short paper, in `covered`
+# each number that is met under its heading, in `faults` what has not the form of a pair.
 awk -v work="$work" -v root="$root" '
 function fault(what) { print "docs/PAPERS.md:" NR ": " what > (work "/faults") }
 function begin() {
     if (waiting) fault("the paper before has no listing")
     n++; waiting = 1
     paper = work "/" n ".paper"; printf "" > paper
-    print n, NR > (work "/pairs")
+    print n, NR, (/^(```)?short / ? "--short" : "") > (work "/pairs")
 }
 # "paper made by": lines in backticks, each with or without a number of times before it, and the trailer
 function make(text,    items, count, i, times, line, body) {
@@ -47,11 +49,11 @@ out != "" {
     next
 }
 /^#/ { number = $1 == "###" && $2 ~ /^[0-9]+\.$/ ? $2 + 0 : "" }
-/^paper made by / { begin(); make(substr($0, 15)); close(paper) }
-/^paper in / { begin(); copy(substr($0, 10)); close(paper) }
+/^(short )?paper made by / { begin(); make(substr($0, index($0, " made by ") + 9)); close(paper) }
+/^(short )?paper in / { begin(); copy(substr($0, index($0, " in ") + 4)); close(paper) }
 /^```/ {
     listed = $0 == "```listing"
-    if ($0 == "```paper") { begin(); out = paper }
+    if ($0 ~ /^```(short )?paper$/) { begin(); out = paper }
     else if (!listed) out = "/dev/null"
     else {
         if (!waiting) fault("a listing without a paper")
@@ -66,9 +68,9 @@ END {
 passed=0
 failed=$(wc -l < "$work/faults")
 cat "$work/faults"
-while read -r n line; do
+while read -r n line short; do
     [ -f "$work/$n.listing" ] || continue
-    timeout 60 "$@" < "$work/$n.paper" > "$work/got" 2> "$work/said"
+    timeout 60 "$@" ${short:+"$short"} < "$work/$n.paper" > "$work/got" 2> "$work/said"
     if cmp -s "$work/$n.listing" "$work/got"; then
         passed=$((passed + 1))
     else
@@ -77,8 +79,17 @@ while read -r n line; do
         diff "$work/$n.listing" "$work/got" | sed -n '1,20p'
         sed -n '1,5p' "$work/said"
     fi
+    # In the short course a paper of the full one has the same listing, or is over its limits.
+    [ -z "$short" ] || continue
+    timeout 60 "$@" --short < "$work/$n.paper" > "$work/got" 2> "$work/said"
+    if cmp -s "$work/$n.listing" "$work/got" || grep -qxE 'refused (1|203) 25' "$work/got"; then
+        passed=$((passed + 1))
+    else
+        failed=$((failed + 1))
+        echo "docs/PAPERS.md:$line: the listing in the short course differs"
+    fi
 done < "$work/pairs"
-for number in {1..6} {9..23}; do
+for number in {1..6} {9..23} 25; do
     if ! grep -qx "$number" "$work/covered"; then
         failed=$((failed + 1))
         echo "docs/PAPERS.md: no paper under heading $number is answered with $number"

@@ -17,7 +17,9 @@ mkdir -p target/c_program
 tests/library &&
     cc -std=c11 -O1 -Wall -Wextra -Werror -Iinclude -o $stack tests/c_program/stack.c target/staticlib/libc_api.a -pthread &&
     cargo build --release --offline --quiet --manifest-path tests/marker_a/Cargo.toml || exit 2
-[ -x target/bin/mark ] || rt check mark > /dev/null || exit 2
+for program in mark mark_short; do
+    [ -x target/bin/$program ] || rt check $program > /dev/null || exit 2
+done
 
 # ---- the papers
 
@@ -69,6 +71,20 @@ awk 'BEGIN {
 # an order that is denied at the trailer
 awk 'BEGIN { print "H 8 1 8\nG 0"; for (i = 0; i < 2000; i++) print "K", i % 8, i % 8 }' | closed | paper locks-held-at-the-end
 
+# within the limits of the short course: 200 events and 201, 88 sections and 8 copies of the longest values, an order that is denied
+awk 'BEGIN { print "H 2 4 2\nG -"; for (i = 0; i < 200; i++) print "A", i % 2, i % 4, "-92233720368547" (75808 - i) }' |
+    closed | paper short-200-events
+awk 'BEGIN { print "H 2 4 2\nG -"; for (i = 0; i < 201; i++) print "K", 0, i % 2 }' | closed | paper short-201-events
+awk 'BEGIN {
+    print "H 2 4 2\nG 0 0 0 0"; for (i = 0; i < 86; i++) print "K 0 0\nN 0 0"
+    for (t = 0; t < 2; t++) {
+        print "K", t, 0
+        for (v = 0; v < 4; v++) { x = "-92233720368547" (75808 - 4 * t - v); print "A", t, v, x; print "S", t, v, x; print "W", t, v, x }
+        print "N", t, 0
+    }
+}' | closed | paper short-long-listing
+awk 'BEGIN { print "H 2 4 2\nG 0 0 0 0"; for (i = 0; i < 200; i++) print "K", i % 2, i % 2 }' | closed | paper short-locks-held-at-the-end
+
 # ---- who answers what
 
 # check NAME PAPER WANTED: the command's answer stands in $work/got, its status in $status
@@ -94,21 +110,31 @@ entry() {
 on() { (ulimit -c 0; ulimit -s "$1" && exec "$2"); }
 
 touch "$work/needs"
-for p in "$work"/*.paper; do
-    $A < "$p" > "$work/a"
-    sed '/^section /d;/^unordered /d' "$work/a" > "$work/a-unordered"
-    on "$KB" target/bin/mark < "$p" > "$work/got" 2> /dev/null
-    status=$?
-    check mark "$(basename "$p" .paper)" "$work/a"
-    entry mark "$p" "$work/a"
-    entry mark_unordered "$p" "$work/a-unordered"
-done
+# papers NAME [FLAG]: a program and its entries on every paper, against marker A with this flag
+papers() {
+    for p in "$work"/*.paper; do
+        $A ${2:+"$2"} < "$p" > "$work/a"
+        sed '/^section /d;/^unordered /d' "$work/a" > "$work/a-unordered"
+        on "$KB" "target/bin/$1" < "$p" > "$work/got" 2> /dev/null
+        status=$?
+        check "$1" "$(basename "$p" .paper)" "$work/a"
+        entry "$1" "$p" "$work/a"
+        entry "${1}_unordered" "$p" "$work/a-unordered"
+    done
+}
+papers mark
+papers mark_short --short
 for name in 2000-events 2001-events last-event-refused long-listing locks-held-at-the-end; do
     $A < "$work/$name.paper" | head -n 1 > "$work/a"
     entry step "$work/$name.paper" "$work/a"
 done
+for name in short-200-events short-201-events short-long-listing short-locks-held-at-the-end; do
+    $A --short < "$work/$name.paper" | head -n 1 > "$work/a"
+    entry step_short "$work/$name.paper" "$work/a"
+done
 for kind in 1 2 3 4 5 6 7 8 9 10; do echo 8 0; done > "$work/a"
 entry out_of_range /dev/null "$work/a"
+entry out_of_range_short /dev/null "$work/a"
 # every other program that has an output to be held to
 for stdout in crates/*/stdout; do
     program=$(basename "$(dirname "$stdout")")
@@ -124,16 +150,18 @@ done
 
 echo "bytes of stack touched at most:"
 sort "$work/needs" | awk '$2 > most[$1] { most[$1] = $2 } END { for (e in most) print "    " e ": " most[e] }' | sort
-# the least stack on which `mark` answers a paper
+# least PROGRAM PAPER WANTED: the least stack on which a program answers a paper
 least() {
     local low=16 high=$((2 * KB)) middle
     while [ $((high - low)) -gt 4 ]; do
         middle=$(((low + high) / 2))
-        if on "$middle" target/bin/mark < "$1" 2> /dev/null | cmp -s - "$2"; then high=$middle; else low=$middle; fi
+        if on "$middle" "target/bin/$1" < "$2" 2> /dev/null | cmp -s - "$3"; then high=$middle; else low=$middle; fi
     done
     echo $high
 }
 $A < "$work/long-listing.paper" > "$work/a"
-echo "    mark, the whole program: $(least "$work/long-listing.paper" "$work/a") KB (ulimit -s)"
+$A --short < "$work/short-long-listing.paper" > "$work/a-short"
+echo "    mark, the whole program: $(least mark "$work/long-listing.paper" "$work/a") KB (ulimit -s)"
+echo "    mark_short, the whole program: $(least mark_short "$work/short-long-listing.paper" "$work/a-short") KB (ulimit -s)"
 echo "$passed passed, $failed failed"
 [ "$failed" -eq 0 ] && [ "$passed" -gt 0 ]

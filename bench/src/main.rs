@@ -4,7 +4,7 @@
 use bench::counter::Counter;
 use bench::markers::{Lent, Marker, MARKERS};
 use bench::mixes::{self, Paper};
-use papers::Counts;
+use papers::{Counts, Course, COURSES};
 use std::fs::File;
 use std::process::{Command, Stdio};
 use std::time::Instant;
@@ -15,20 +15,25 @@ const EVENTS: usize = 40_000;
 /// What a paper costs besides its events, in events, so that rounds of short papers take no longer.
 const PAPER: usize = 75;
 
-/// Nanoseconds for all of the papers, of each marker.
+/// Nanoseconds for all of the papers, of each marker in the full course.
 type Times = [f64; 3];
 
 /// The least time for all the papers.
 fn times(papers: &[Paper]) -> Times {
+    least(papers, MARKERS.map(|marker| (marker, Course::Full)))
+}
+
+/// The least time for all the papers, of each of these markers in a course.
+fn least<const N: usize>(papers: &[Paper], entries: [(Marker, Course); N]) -> [f64; N] {
     assert!(papers.iter().all(mixes::is_accepted));
     let repeats = EVENTS.div_ceil(events(papers) + PAPER * papers.len());
     let mut lent = Lent::default();
-    let mut least = [f64::MAX; 3];
+    let mut least = [f64::MAX; N];
     for _ in 0..ROUNDS {
-        for (marker, least) in MARKERS.into_iter().zip(&mut least) {
+        for ((marker, course), least) in entries.into_iter().zip(&mut least) {
             let start = Instant::now();
             for _ in 0..repeats {
-                papers.iter().for_each(|p| marker.mark(p, &mut lent));
+                papers.iter().for_each(|p| marker.mark(course, p, &mut lent));
             }
             *least = least.min(start.elapsed().as_nanos() as f64 / repeats as f64);
         }
@@ -97,6 +102,21 @@ fn by_order() {
     }
 }
 
+/// The same papers through the entries of both courses.
+fn by_course() {
+    let columns = ["2 threads, 4 variables, 2 locks, 200 events, ns an event", "proved, full", "short", "short / full"];
+    head(&[&columns[..], &["B, full", "short", "short / full", "C, full", "short", "short / full"]].concat());
+    for (name, orderly) in [("without an order", false), ("with an order", true)] {
+        let papers = mixes::at_short_limits(25, orderly);
+        let part = events(&papers) as f64;
+        // Another marker has its turn before each, so that no entry goes over papers that its marker has just marked.
+        let [full, short] = COURSES.map(|course| MARKERS.map(|marker| (marker, course)));
+        let all = least(&papers, [full[0], full[1], full[2], short[0], short[1], short[2]]);
+        let cells = all[..3].iter().zip(&all[3..]).map(|(f, s)| format!("{:.1} | {:.1} | {:.2}", f / part, s / part, s / f));
+        println!("| {name} | {} |", cells.collect::<Vec<String>>().join(" | "));
+    }
+}
+
 /// Instructions, where the machine counts them.
 fn by_instructions() {
     let Some(counter) = Counter::instructions() else {
@@ -107,7 +127,7 @@ fn by_instructions() {
         let paper = mixes::regular(n);
         let mut lent = Lent::default();
         let counts = MARKERS.map(|marker: Marker| {
-            let least = (0..ROUNDS).map(|_| counter.count(|| marker.mark(&paper, &mut lent))).min();
+            let least = (0..ROUNDS).map(|_| counter.count(|| marker.mark(Course::Full, &paper, &mut lent))).min();
             least.unwrap_or(0) as f64
         });
         println!("| {n} events | {} |", cells(counts, n as f64));
@@ -147,6 +167,7 @@ fn main() {
     by_mix();
     by_length();
     by_order();
+    by_course();
     by_instructions();
     by_process(&programs);
 }

@@ -1,7 +1,8 @@
 //! The markers that are timed, each a whole job: read, mark, records, order, listing.
 
 use comparison::c_api;
-use papers::Value;
+use comparison::whole::by_c;
+use papers::{Course, Value};
 use std::hint::black_box;
 
 /// Memory to mark papers into. It is not cleared between papers.
@@ -35,14 +36,14 @@ pub enum Marker {
 pub const MARKERS: [Marker; 3] = [Marker::Proved, Marker::B, Marker::C];
 
 impl Marker {
-    /// Marks a paper. B makes the listing alone, on the heap.
+    /// Marks a paper in a course. B makes the listing alone, on the heap.
     #[inline(always)]
-    pub fn mark(self, paper: &[u8], lent: &mut Lent) {
+    pub fn mark(self, course: Course, paper: &[u8], lent: &mut Lent) {
         let Lent { what, values, out, order, scratch } = lent;
         match self {
-            Marker::Proved => _ = black_box(c_api::mark(paper, what, values, out, order, scratch)),
-            Marker::B => _ = black_box(marker_b::mark(paper)),
-            Marker::C => _ = black_box(marker_c::mark(paper, what, values, out, order, scratch)),
+            Marker::Proved => _ = black_box(c_api::mark(course, paper, what, values, out, order, scratch)),
+            Marker::B => _ = black_box(marker_b::mark(course, paper)),
+            Marker::C => _ = black_box(marker_c::mark(by_c(course), paper, what, values, out, order, scratch)),
         }
     }
 }

@@ -1,8 +1,8 @@
 //! The papers. All are accepted.
 
 use papers::generate::{self, Rng};
-use papers::{Counts, Value};
-use std::iter::{once, repeat_n};
+use papers::{Counts, Course, Value};
+use std::iter::{once, repeat_n, repeat_with};
 
 pub type Paper = Vec<u8>;
 
@@ -42,12 +42,26 @@ pub fn ordered(length: usize, number: usize, fit: impl Fn(Counts) -> bool) -> Ve
         let (counts, guards, events) = long(seed, length - length / 10);
         generate::paper(counts, guards.as_deref(), &events)
     };
-    let enough = |p: &Paper| (length - length / 10..=length).contains(&events(p)) && marker_b::mark(p).contains("\nsection ");
+    let enough = |p: &Paper| {
+        (length - length / 10..=length).contains(&events(p)) && marker_b::mark(Course::Full, p).contains("\nsection ")
+    };
     (1..).filter(fits).map(made).filter(enough).take(number).collect()
 }
 
+/// So many papers of 200 events at the limits of the short course, with values of 32 bits; all or none have an order.
+pub fn at_short_limits(number: usize, orderly: bool) -> Vec<Paper> {
+    let (counts, length) = (Course::Short.counts(), Course::Short.events() as usize);
+    let mut rng = Rng::new(7);
+    let made = || {
+        let (counts, guards, events) = generate::of_length(&mut rng, counts, OF_32_BITS, length, orderly);
+        generate::paper(counts, guards.as_deref(), &events)
+    };
+    let fit = |p: &Paper| events(p) == length && marker_b::mark(Course::Short, p).contains("\nsection ") == orderly;
+    repeat_with(made).filter(fit).take(number).collect()
+}
+
 pub fn is_accepted(p: &Paper) -> bool {
-    marker_b::mark(p).starts_with("accepted")
+    marker_b::mark(Course::Full, p).starts_with("accepted")
 }
 
 /// How many events a paper has.

@@ -1,4 +1,4 @@
-/* A caller of the C interface: steps over a state that it keeps, and whole papers into memory that it lends. */
+/* A caller of the C interface: steps over a state that it keeps, and whole papers into memory that it lends; in both courses. */
 #include "dabzhoni.h"
 
 #include <inttypes.h>
@@ -7,12 +7,33 @@
 
 static int passed, failed;
 
+typedef struct dabzhoni_marked mark_entry(const uint8_t *, size_t, uint32_t *, size_t, int64_t *, size_t, uint8_t *, size_t, uint64_t *,
+                                          size_t, uint64_t *, size_t);
+typedef struct dabzhoni_marked unordered_entry(const uint8_t *, size_t, uint32_t *, size_t, int64_t *, size_t, uint8_t *, size_t);
+typedef struct dabzhoni_reply step_entry(struct dabzhoni_state *, uint8_t, size_t, size_t, int64_t);
+
+/* A course: its entries, its limits, and the refusal of more events. */
+struct course {
+  const char *name;
+  mark_entry *mark;
+  unordered_entry *mark_unordered;
+  step_entry *step;
+  size_t threads, variables, locks;
+  uint32_t events;
+  size_t over;
+};
+
+static const struct course FULL = {"full course", dabzhoni_mark, dabzhoni_mark_unordered, dabzhoni_step, 8, 16, 8, 2000, 9};
+static const struct course SHORT = {
+    "short course", dabzhoni_mark_short, dabzhoni_mark_short_unordered, dabzhoni_step_short, 2, 4, 2, 200, 25};
+static const struct course *course;
+
 static void expect(const char *what, bool ok) {
   ok ? passed++ : failed++;
-  if (!ok) printf("%s: FAILED\n", what);
+  if (!ok) printf("%s, %s: FAILED\n", course->name, what);
 }
 
-/* ---- steps: the short traces of document 01, traces of 02 (a), (d) and (g), refusals 4, 5, 8 and 9, states that no events reach */
+/* ---- steps: the short traces of document 01, traces of 02 (a), (d) and (g), refusals 4, 5, 8, 9 and 25, states that no events reach */
 
 static struct dabzhoni_state state;
 
@@ -24,7 +45,7 @@ static struct dabzhoni_reply event(const char *text) {
   int64_t value = 0;
   sscanf(text, "%c %zu %zu %" SCNd64, &letter, &thread, &place, &value);
   memcpy(&before, &state, sizeof state);
-  struct dabzhoni_reply r = dabzhoni_step(&state, (uint8_t)letter, thread, place, value);
+  struct dabzhoni_reply r = course->step(&state, (uint8_t)letter, thread, place, value);
   bool same = memcmp(&before, &state, sizeof state) == 0;
   expect(text, r.number == 0 ? state.events == before.events + 1 : same);
   return r;
@@ -137,17 +158,27 @@ static void steps(void) {
   reply("thread", "A 2 0 0", 5, 3);
   reply("variable", "A 0 2 0", 5, 3);
   reply("lock", "K 0 2", 5, 3);
-  for (int i = 0; i < 2000; i++) dabzhoni_step(&state, 'A', 1, 1, i);
-  expect("2,000 events", state.events == 2000);
-  reply("one event more", "A 0 0 0", 9, 2003);
-  state.events = 2001;
+  for (uint32_t i = 0; i < course->events; i++) course->step(&state, 'A', 1, 1, i);
+  expect("as many events as there may be", state.events == course->events);
+  reply("one event more", "A 0 0 0", course->over, course->events + 3);
+  reply("one undeclared event more", "A 2 0 0", course->over, course->events + 3);
+  reply("one bad event more", "U 0 0 0", course->over, course->events + 3);
+  state.events = course->events + 1;
   reply("events out of range", "A 0 0 0", 8, 0);
-  reply("no letter, state out of range", "z 0 0 0", 4, 2004);
-  dabzhoni_initial(&state, 9, 2, 2);
-  reply("counts out of range", "A 0 0 0", 8, 0);
+  reply("no letter, state out of range", "z 0 0 0", 4, course->events + 4);
+  dabzhoni_initial(&state, course->threads, course->variables, course->locks);
+  reply("the greatest counts", "A 0 0 0", 0, 0);
+  dabzhoni_initial(&state, course->threads + 1, 2, 2);
+  reply("threads out of range", "A 0 0 0", 8, 0);
+  dabzhoni_initial(&state, 2, course->variables + 1, 2);
+  reply("variables out of range", "A 0 0 0", 8, 0);
+  dabzhoni_initial(&state, 2, 2, course->locks + 1);
+  reply("locks out of range", "A 0 0 0", 8, 0);
   dabzhoni_initial(&state, 2, 2, 2);
   state.holds[0].depth = 1;
   reply("depth without holder", "A 0 0 0", 8, 0);
+  state.events = course->events;
+  reply("depth without holder, and no event more", "A 0 0 0", 8, 0);
 
   /* states that no events reach: a read is outstanding, and beside it a fresh assign, a store, a later write, eight of either */
   trace("R 0 0 0", 0);
@@ -204,10 +235,11 @@ static bool untouched(const void *p, const void *end) {
   return at == end;
 }
 
-/* A paper, what is said of it, and its listing: `memories` up to the copies, or the refusal; `ordering` the lines after these. */
+/* A paper, what is said of it, and its listing: `memories` up to the copies, or the refusal; `ordering` the lines after these. In the short
+   course it is refused with 25 at line `over`, where that is given. */
 struct paper {
   const char *name, *text, *memories, *ordering;
-  size_t number, line, sections, denial, denial_line;
+  size_t number, line, sections, denial, denial_line, over;
   uint64_t entries[2];
 };
 
@@ -230,7 +262,18 @@ static const struct paper PAPERS[] = {
      .ordering = "section 0 3 9\n",
      .sections = 1,
      .entries = {9 << 12 | 3}},
-    {.name = "an empty order", .text = "H 8 1 8\nG 7\nZ 12\n", .memories = "accepted 0\nmain 0 0\n", .ordering = ""},
+    {.name = "an empty order", .text = "H 2 1 2\nG 1\nZ 12\n", .memories = "accepted 0\nmain 0 0\n", .ordering = ""},
+    {.name = "25 at the head", .text = "H 8 1 8\nG 7\nZ 12\n", .memories = "accepted 0\nmain 0 0\n", .ordering = "", .over = 1},
+    {.name = "25 for threads", .text = "H 3 1 0\nG -\nZ 12\n", .memories = "accepted 0\nmain 0 0\n", .over = 1},
+    {.name = "25 for variables",
+     .text = "H 1 5 0\nG -\nZ 12\n",
+     .memories = "accepted 0\nmain 0 0\nmain 1 0\nmain 2 0\nmain 3 0\nmain 4 0\n",
+     .over = 1},
+    {.name = "25 for locks", .text = "H 1 1 3\nG -\nZ 12\n", .memories = "accepted 0\nmain 0 0\n", .over = 1},
+    {.name = "25 before 6", .text = "H 3 1 0\nG 0\nZ 12\n", .memories = "refused 2 6\n", .number = 6, .line = 2, .over = 1},
+    {.name = "25 before 17", .text = "H 3 1 0\nG -\nU 0 0 0\nZ 20\n", .memories = "refused 3 17\n", .number = 17, .line = 3, .over = 1},
+    {.name = "3 before 25", .text = "H 3 1 9\nG -\nZ 12\n", .memories = "refused 1 3\n", .number = 3, .line = 1},
+    {.name = "2 before 25", .text = "H 3 1 0\nG -\nZ 11\n", .memories = "refused 0 2\n", .number = 2},
     {.name = "no guards",
      .text = "H 2 2 2\nG -\nA 1 1 -2147483648\nA 0 0 2147483647\nZ 47\n",
      .memories = "accepted 2\nmain 0 0\nmain 1 0\ncopy 0 0 2147483647\ncopy 1 1 -2147483648\n"},
@@ -318,7 +361,15 @@ static void said(const char *name, struct dabzhoni_marked m, struct dabzhoni_mar
   expect(name, !memcmp(&m, &w, sizeof m));
 }
 
-static void mark(const struct paper *p) {
+/* What is said of a paper in the course. */
+static struct paper in_course(struct paper p) {
+  if (course == &FULL || !p.over) return p;
+  return (struct paper){
+      .name = p.name, .text = p.text, .memories = p.over == 1 ? "refused 1 25\n" : "refused 203 25\n", .number = 25, .line = p.over};
+}
+
+static void mark(const struct paper *full) {
+  const struct paper told = in_course(*full), *p = &told;
   static const size_t SCRATCHES[] = {SCRATCH, SCRATCH + 1, LONG_SCRATCH};
   const uint8_t *bytes = (const uint8_t *)p->text;
   size_t length = strlen(p->text), events = 0;
@@ -329,7 +380,7 @@ static void mark(const struct paper *p) {
   for (size_t k = 0; k < sizeof SCRATCHES / sizeof *SCRATCHES; k++) {
     size_t lent = SCRATCHES[k];
     fill();
-    said(p->name, dabzhoni_mark(bytes, length, what, RECORDS, values, RECORDS, out, OUT, order, ORDER, scratch, lent), w);
+    said(p->name, course->mark(bytes, length, what, RECORDS, values, RECORDS, out, OUT, order, ORDER, scratch, lent), w);
     part(p, "records", recorded(p->text, events));
     part(p, "listing", listed(p->memories, ordering));
     bool entries = true, zeros = true;
@@ -343,23 +394,23 @@ static void mark(const struct paper *p) {
 
   fill();
   w = (struct dabzhoni_marked){.number = p->number, .line = p->line, .events = events, .written = strlen(p->memories)};
-  said(p->name, dabzhoni_mark_unordered(bytes, length, what, RECORDS, values, RECORDS, out, OUT), w);
+  said(p->name, course->mark_unordered(bytes, length, what, RECORDS, values, RECORDS, out, OUT), w);
   part(p, "records, no order wanted", recorded(p->text, events));
   part(p, "listing, no order wanted", listed(p->memories, ""));
 }
 
 /* Each buffer one place too short, and empty: 7, and nothing is touched. */
 static void lent_too_little(const struct paper *p) {
-  static const size_t FULL[5] = {RECORDS, RECORDS, OUT, ORDER, SCRATCH};
+  static const size_t ENOUGH[5] = {RECORDS, RECORDS, OUT, ORDER, SCRATCH};
   const uint8_t *bytes = (const uint8_t *)p->text;
   const struct dabzhoni_marked seven = {.number = 7};
   size_t length = strlen(p->text), n[5];
   fill();
   for (int i = 0; i < 10; i++) {
-    memcpy(n, FULL, sizeof n);
+    memcpy(n, ENOUGH, sizeof n);
     n[i / 2] = i % 2 ? 0 : n[i / 2] - 1;
-    said("7", dabzhoni_mark(bytes, length, what, n[0], values, n[1], out, n[2], order, n[3], scratch, n[4]), seven);
-    if (i < 6) said("7, no order wanted", dabzhoni_mark_unordered(bytes, length, what, n[0], values, n[1], out, n[2]), seven);
+    said("7", course->mark(bytes, length, what, n[0], values, n[1], out, n[2], order, n[3], scratch, n[4]), seven);
+    if (i < 6) said("7, no order wanted", course->mark_unordered(bytes, length, what, n[0], values, n[1], out, n[2]), seven);
   }
   expect("nothing touched after 7", recorded(p->text, 0) && listed("", "") && untouched(order, order + ORDER + 1) &&
                                         untouched(scratch, scratch + LONG_SCRATCH + 1));
@@ -393,10 +444,40 @@ static void thousand_locks(void) {
                        .memories = "accepted 2000\nmain 0 0\n",
                        .ordering = "section 1 503 1501\nsection 0 3 2002\n",
                        .sections = 2,
-                       .entries = {1 << 24 | 1501 << 12 | 503, 2002 << 12 | 3}});
+                       .entries = {1 << 24 | 1501 << 12 | 503, 2002 << 12 | 3},
+                       .over = 203});
 }
 
-int main(void) {
+/* One section of 200 events, and this line behind them. */
+static void two_hundred(const char *line, struct paper p) {
+  static char text[1300];
+  char *end = add(text, 1, "H 2 4 2\nG 0 0 0 0");
+  end = add(end, 100, "K 1 0");
+  end = add(end, 100, "N 1 0");
+  end = add(end, *line ? 1 : 0, line);
+  sprintf(end, "Z %d\n", (int)(end - text));
+  p.text = text;
+  mark(&p);
+}
+
+static void about_two_hundred(void) {
+  static const char MAIN[] = "main 0 0\nmain 1 0\nmain 2 0\nmain 3 0\n";
+  static char accepted[100];
+  struct paper p = {.memories = accepted, .ordering = "section 1 3 202\n", .sections = 1, .entries = {1 << 24 | 202 << 12 | 3}};
+  sprintf(accepted, "accepted 200\n%s", MAIN);
+  p.name = "200 events";
+  two_hundred("", p);
+  sprintf(accepted, "accepted 201\n%s", MAIN);
+  p.name = "201 events";
+  p.over = 203;
+  two_hundred("R 0 0 0", p);
+  two_hundred("X", (struct paper){.name = "4 at line 203", .memories = "refused 203 4\n", .number = 4, .line = 203});
+  two_hundred("A 2 0 0", (struct paper){.name = "25 before 5", .memories = "refused 203 5\n", .number = 5, .line = 203, .over = 203});
+  two_hundred("N 1 0", (struct paper){.name = "25 before 12", .memories = "refused 203 12\n", .number = 12, .line = 203, .over = 203});
+}
+
+static void all(const struct course *c) {
+  course = c;
   steps();
   wide_values();
   wide_positions();
@@ -406,6 +487,12 @@ int main(void) {
   }
   too_long();
   thousand_locks();
+  about_two_hundred();
+}
+
+int main(void) {
+  all(&FULL);
+  all(&SHORT);
   printf("%d passed, %d failed\n", passed, failed);
   return failed != 0;
 }

@@ -1,8 +1,10 @@
 /* Runs one entry of the C interface on a thread with a stack of SIZE KB, on the paper that it reads from standard input, and writes the answer:
-     stack mark SIZE          the listing
+     stack mark SIZE                   the listing
      stack mark_unordered SIZE
-     stack step SIZE          `accepted n` or `refused line number`: the paper's events one by one, each of the form of an event
-     stack out_of_range SIZE  number and line of a step of each kind from a state that refusal 8 refuses
+     stack step SIZE                   `accepted n` or `refused line number`: the paper's events one by one, each of the form of an event
+     stack out_of_range SIZE           number and line of a step of each kind from a state that refusal 8 refuses
+     stack mark_short SIZE, stack mark_short_unordered SIZE, stack step_short SIZE, stack out_of_range_short SIZE
+                                       the same in the short course
    and to standard error the entry's name and how many bytes of stack it touched, those of a thread that does nothing left aside. A guard
    page lies below the stack: an entry that needs more ends the program with signal 11. */
 #define _GNU_SOURCE
@@ -23,6 +25,7 @@ static uint32_t what[2000];
 static int64_t values[2000];
 static uint8_t out[32768];
 static uint64_t order[1000], scratch[1000];
+static bool short_course;
 static struct dabzhoni_marked marked;
 
 static struct dabzhoni_state state;
@@ -38,12 +41,14 @@ static struct dabzhoni_reply reply;
 static void *nothing(void *p) { return p; }
 
 static void *mark(void *p) {
-  marked = dabzhoni_mark(paper, length, what, 2000, values, 2000, out, sizeof out, order, 1000, scratch, 1000);
+  marked = (short_course ? dabzhoni_mark_short : dabzhoni_mark)(paper, length, what, 2000, values, 2000, out, sizeof out, order, 1000,
+                                                                scratch, 1000);
   return p;
 }
 
 static void *mark_unordered(void *p) {
-  marked = dabzhoni_mark_unordered(paper, length, what, 2000, values, 2000, out, sizeof out);
+  marked = (short_course ? dabzhoni_mark_short_unordered : dabzhoni_mark_unordered)(paper, length, what, 2000, values, 2000, out,
+                                                                                    sizeof out);
   return p;
 }
 
@@ -56,7 +61,7 @@ static void *initial(void *p) {
 static void *steps(void *p) {
   for (taken = 0; taken < events; taken++) {
     const struct event *e = &list[taken];
-    reply = dabzhoni_step(&state, (uint8_t)e->letter, e->thread, e->place, e->value);
+    reply = (short_course ? dabzhoni_step_short : dabzhoni_step)(&state, (uint8_t)e->letter, e->thread, e->place, e->value);
     if (reply.number) break;
   }
   return p;
@@ -97,18 +102,24 @@ static void read_events(void) {
   }
 }
 
+/* Whether the entry is this one, of either course. */
+static bool is(const char *entry, const char *full, const char *of_short) {
+  short_course = !strcmp(entry, of_short);
+  return short_course || !strcmp(entry, full);
+}
+
 int main(int count, char **args) {
   const char *entry = count > 2 ? args[1] : "";
   size_t size = count > 2 ? strtoul(args[2], NULL, 10) * 1024 : 0;
   if (size < 16384) return 2;
   length = fread(paper, 1, MOST, stdin);
-  if (!strcmp(entry, "mark")) {
+  if (is(entry, "mark", "mark_short")) {
     need(entry, mark, size);
     fwrite(out, 1, marked.written, stdout);
-  } else if (!strcmp(entry, "mark_unordered")) {
+  } else if (is(entry, "mark_unordered", "mark_short_unordered")) {
     need(entry, mark_unordered, size);
     fwrite(out, 1, marked.written, stdout);
-  } else if (!strcmp(entry, "step")) {
+  } else if (is(entry, "step", "step_short")) {
     read_events();
     need("initial", initial, size);
     need(entry, steps, size);
@@ -117,13 +128,17 @@ int main(int count, char **args) {
     } else {
       printf("accepted %zu\n", taken);
     }
-  } else if (!strcmp(entry, "out_of_range")) {
-    dabzhoni_initial(&state, 8, 16, 8);
+  } else if (is(entry, "out_of_range", "out_of_range_short")) {
+    if (short_course) {
+      dabzhoni_initial(&state, 2, 4, 2);
+    } else {
+      dabzhoni_initial(&state, 8, 16, 8);
+    }
     state.holds[7].depth = 1;
     events = 1;
     for (const char *k = "UALSRWKNPB"; *k; k++) {
       list[0].letter = *k;
-      need("step", steps, size);
+      need(short_course ? "step_short" : "step", steps, size);
       printf("%zu %zu\n", reply.number, reply.line);
     }
   } else {

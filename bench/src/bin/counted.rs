@@ -3,11 +3,12 @@
 
 use bench::markers::{Lent, Marker};
 use bench::mixes;
+use papers::Course;
 
 #[no_mangle]
 #[inline(never)]
 pub fn counted(marker: Marker, paper: &[u8], lent: &mut Lent) {
-    marker.mark(paper, lent);
+    marker.mark(Course::Full, paper, lent);
 }
 
 fn main() {
@@ -22,6 +23,6 @@ fn main() {
     let events = events.parse().expect("a number");
     let paper = mixes::regular(events);
     let mut lent = Lent::default();
-    marker.mark(&paper, &mut lent);
+    marker.mark(Course::Full, &paper, &mut lent);
     counted(marker, &paper, &mut lent);
 }

@@ -6,25 +6,25 @@ use Rattle.rules.specs.declared.Kind.{Kind}
 use Rattle.rules.specs.declared.Named.{Named}
 use Rattle.rules.specs.declared.Named.the-variants.{Nothing, Of}
 use Rattle.rules.specs.Events.{kindOf}
-use Rattle.rules.specs.Limits.{full, lineAfter}
+use Rattle.rules.specs.Limits.{Limits, lineAfter}
 use Rattle.state.specs.declared.State.{State}
 use Rattle.machine.specs.declared.Answer.{Answer}
 use Rattle.machine.specs.Stepped.{stepped}
 use Rattle.c_api.specs.declared.Reply.{Reply}
 use Rattle.c_api.specs.Replies.{replyOf, answered, onNamed, stepReply}
 
-module _ (s : State) (k t p : ℕ) (x y : ℤ) (same : y ≡ x) (n : Named) (named : n ≡ kindOf k p y) (line : ℕ) (at : line ≡ lineAfter (s .counts) (s .events)) where
-  at-name : onNamed s t n ≡ stepReply s k t p x
+module _ (m : Limits) (s : State) (k t p : ℕ) (x y : ℤ) (same : y ≡ x) (n : Named) (named : n ≡ kindOf k p y) (line : ℕ) (at : line ≡ lineAfter (s .counts) (s .events)) where
+  at-name : onNamed m s t n ≡ stepReply m s k t p x
   unfolding stepReply
-  at-name = ap (onNamed s t) (named ∙ ap (kindOf k p) same)
+  at-name = ap (onNamed m s t) (named ∙ ap (kindOf k p) same)
 
   -- a letter that is none of the ten
-  pub none-named : n ≡ Nothing → record { reply = record { number = 4; line = line }; state = s } ≡ stepReply s k t p x
-  none-named e = ap (λ (l : ℕ). record { reply = record { number = 4; line = l }; state = s }) at ∙ ap (onNamed s t) (sym e) ∙ at-name
+  pub none-named : n ≡ Nothing → record { reply = record { number = 4; line = line }; state = s } ≡ stepReply m s k t p x
+  none-named e = ap (λ (l : ℕ). record { reply = record { number = 4; line = l }; state = s }) at ∙ ap (onNamed m s t) (sym e) ∙ at-name
 
   -- a letter's step
-  pub one-named : (q : Kind) (a : Answer) (r : Reply) → n ≡ Of q → a ≡ stepped full s (record { thread = t; line = line; kind = q }) → r ≡ replyOf (a .verdict)
-      → record { reply = r; state = a .state } ≡ stepReply s k t p x
+  pub one-named : (q : Kind) (a : Answer) (r : Reply) → n ≡ Of q → a ≡ stepped m s (record { thread = t; line = line; kind = q }) → r ≡ replyOf (a .verdict)
+      → record { reply = r; state = a .state } ≡ stepReply m s k t p x
   one-named q a r e f g =
       ap (λ (z : Reply). record { reply = z; state = a .state }) g
-      ∙ ap answered (f ∙ ap (λ (l : ℕ). stepped full s (record { thread = t; line = l; kind = q })) at) ∙ ap (onNamed s t) (sym e) ∙ at-name
+      ∙ ap answered (f ∙ ap (λ (l : ℕ). stepped m s (record { thread = t; line = l; kind = q })) at) ∙ ap (onNamed m s t) (sym e) ∙ at-name

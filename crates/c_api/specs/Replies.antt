@@ -7,7 +7,7 @@ use Rattle.rules.specs.declared.Verdict.{Verdict}
 use Rattle.rules.specs.declared.Named.{Named}
 use Rattle.rules.specs.declared.Named.the-variants.{Nothing, Of}
 use Rattle.rules.specs.Events.{kindOf}
-use Rattle.rules.specs.Limits.{full, lineAfter}
+use Rattle.rules.specs.Limits.{Limits, lineAfter}
 use Rattle.rules.specs.Rules.{told, numberIn, lineIn}
 use Rattle.state.specs.declared.State.{State}
 use Rattle.machine.specs.declared.Answer.{Answer}
@@ -31,13 +31,13 @@ abbrev pub answered : Answer → StepReply
 answered a = record { reply = replyOf (a .verdict); state = a .state }
 
 -- 4. Line is no event of the form above: a letter that is none of the ten, and the state stays as it was
-abbrev pub onNamed : State → ℕ → Named → StepReply
-onNamed s t Nothing = record { reply = record { number = 4; line = lineAfter (s .counts) (s .events) }; state = s }
-onNamed s t (Of k) = answered (stepped full s (record { thread = t; line = lineAfter (s .counts) (s .events); kind = k }))
+abbrev pub onNamed : Limits → State → ℕ → Named → StepReply
+onNamed m s t Nothing = record { reply = record { number = 4; line = lineAfter (s .counts) (s .events) }; state = s }
+onNamed m s t (Of k) = answered (stepped m s (record { thread = t; line = lineAfter (s .counts) (s .events); kind = k }))
 
 -- one step: letter, thread, variable or lock, value
-unfoldable pub stepReply : State → ℕ → ℕ → ℕ → ℤ → StepReply
-stepReply s k t p x = onNamed s t (kindOf k p x)
+unfoldable pub stepReply : Limits → State → ℕ → ℕ → ℕ → ℤ → StepReply
+stepReply m s k t p x = onNamed m s t (kindOf k p x)
 
 -- ---- a whole trace
 
@@ -55,13 +55,13 @@ unfoldable pub markReply : Report → MarkReply
 markReply r = withOrder r (replyOf (r .verdict)) (orderReply (r .ordering))
 
 -- where an order is wanted: the numbers of the report, and what the lent memory holds
-pub record MarkReplies (s whats : List ℕ) (values : List ℤ) (out list scratch : List ℕ) (r : MarkReply) (whats′ : List ℕ) (values′ : List ℤ) (out′ list′ scratch′ : List ℕ) : Type 0 where
+pub record MarkReplies (m : Limits) (s whats : List ℕ) (values : List ℤ) (out list scratch : List ℕ) (r : MarkReply) (whats′ : List ℕ) (values′ : List ℤ) (out′ list′ scratch′ : List ℕ) : Type 0 where
   pub report : Report
-  pub fills : Fills s whats values out list scratch report whats′ values′ out′ list′ scratch′
+  pub fills : Fills m s whats values out list scratch report whats′ values′ out′ list′ scratch′
   pub says : r ≡ markReply report
 
 -- where no order is wanted
-pub record BriefReplies (s whats : List ℕ) (values : List ℤ) (out : List ℕ) (r : MarkReply) (whats′ : List ℕ) (values′ : List ℤ) (out′ : List ℕ) : Type 0 where
+pub record BriefReplies (m : Limits) (s whats : List ℕ) (values : List ℤ) (out : List ℕ) (r : MarkReply) (whats′ : List ℕ) (values′ : List ℤ) (out′ : List ℕ) : Type 0 where
   pub report : Report
-  pub briefs : Briefs s whats values out report whats′ values′ out′
+  pub briefs : Briefs m s whats values out report whats′ values′ out′
   pub says : r ≡ markReply report

@@ -1,11 +1,13 @@
 // What a program in C calls: a whole trace, marked into lent memory, and one step over a state that it keeps. Events and answers are
 // plain numbers. include/dabzhoni.h declares these functions and the layout of the state.
 ghost use mathlib.Core.Path.{_≡_};
+ghost use Rattle.rules.specs.Limits.{full, short, limitsOf};
 ghost use Rattle.state.specs.State.{start};
 ghost use Rattle.c_api.specs.Replies.{replyOf, stepReply, orderReply, markReply, MarkReplies, BriefReplies};
 use ordering::Ordering;
 use report::Report;
 use rules::Counts;
+use rules::Course;
 use rules::Event;
 use rules::Named;
 use rules::Value;
@@ -39,8 +41,15 @@ pub struct StepReply {
 }
 
 // One step, by value.
-pub fn step_numbers(s: State, letter: u8, thread: usize, place: usize, value: Value) -> StepReply
-    ensures { λ r. ⌜ r ≡ stepReply s letter thread place value ⌝ }
+pub fn step_numbers(
+    course: Course,
+    s: State,
+    letter: u8,
+    thread: usize,
+    place: usize,
+    value: Value,
+) -> StepReply
+    ensures { λ r. ⌜ r ≡ stepReply (limitsOf course) s letter thread place value ⌝ }
 {
     let h = s.counts;
     let line = rules::line_after(h, s.events);
@@ -62,7 +71,7 @@ pub fn step_numbers(s: State, letter: u8, thread: usize, place: usize, value: Va
                 line: line,
                 kind: kind,
             };
-            let a = machine::step(s, e);
+            let a = machine::step(course, s, e);
             let v = a.verdict;
             let next = a.state;
             let reply = reply_of(v);
@@ -87,7 +96,7 @@ pub extern "C" fn dabzhoni_initial(s: &mut State, threads: usize, variables: usi
     *s = state::initial(h);
 }
 
-// One step over the state that the caller keeps, changed in place.
+// One step over the state that the caller keeps, changed in place, in the full course.
 #[no_mangle]
 pub extern "C" fn dabzhoni_step(
     s: &mut State,
@@ -96,9 +105,25 @@ pub extern "C" fn dabzhoni_step(
     place: usize,
     value: Value,
 ) -> Reply
-    ensures { λ r. ⌜ record { reply = r; state = now (s .exit) } ≡ stepReply (now (s .entry)) letter thread place value ⌝ }
+    ensures { λ r. ⌜ record { reply = r; state = now (s .exit) } ≡ stepReply full (now (s .entry)) letter thread place value ⌝ }
 {
-    let a = step_numbers(*s, letter, thread, place, value);
+    let a = step_numbers(Course::Full, *s, letter, thread, place, value);
+    *s = a.state;
+    a.reply
+}
+
+// The same in the short course.
+#[no_mangle]
+pub extern "C" fn dabzhoni_step_short(
+    s: &mut State,
+    letter: u8,
+    thread: usize,
+    place: usize,
+    value: Value,
+) -> Reply
+    ensures { λ r. ⌜ record { reply = r; state = now (s .exit) } ≡ stepReply short (now (s .entry)) letter thread place value ⌝ }
+{
+    let a = step_numbers(Course::Short, *s, letter, thread, place, value);
     *s = a.state;
     a.reply
 }
@@ -176,9 +201,9 @@ pub extern "C" fn dabzhoni_mark(
     order: &mut [u64],
     scratch: &mut [u64],
 ) -> MarkReply
-    ensures { λ r. ⌜ MarkReplies (now (paper .entry)) (now (what .entry)) (now (values .entry)) (now (out .entry)) (now (order .entry)) (now (scratch .entry)) r (now (what .exit)) (now (values .exit)) (now (out .exit)) (now (order .exit)) (now (scratch .exit)) ⌝ }
+    ensures { λ r. ⌜ MarkReplies full (now (paper .entry)) (now (what .entry)) (now (values .entry)) (now (out .entry)) (now (order .entry)) (now (scratch .entry)) r (now (what .exit)) (now (values .exit)) (now (out .exit)) (now (order .exit)) (now (scratch .exit)) ⌝ }
 {
-    let r = report::mark_trace(paper, what, values, out, order, scratch);
+    let r = report::mark_trace(Course::Full, paper, what, values, out, order, scratch);
     mark_reply(r)
 }
 
@@ -190,8 +215,40 @@ pub extern "C" fn dabzhoni_mark_unordered(
     values: &mut [Value],
     out: &mut [u8],
 ) -> MarkReply
-    ensures { λ r. ⌜ BriefReplies (now (paper .entry)) (now (what .entry)) (now (values .entry)) (now (out .entry)) r (now (what .exit)) (now (values .exit)) (now (out .exit)) ⌝ }
+    ensures { λ r. ⌜ BriefReplies full (now (paper .entry)) (now (what .entry)) (now (values .entry)) (now (out .entry)) r (now (what .exit)) (now (values .exit)) (now (out .exit)) ⌝ }
 {
-    let r = report::mark_unordered(paper, what, values, out);
+    let r = report::mark_unordered(Course::Full, paper, what, values, out);
+    mark_reply(r)
+}
+
+// ---- A whole trace of the short course.
+
+// Marks it, with its records, its order and its listing.
+#[no_mangle]
+pub extern "C" fn dabzhoni_mark_short(
+    paper: &[u8],
+    what: &mut [u32],
+    values: &mut [Value],
+    out: &mut [u8],
+    order: &mut [u64],
+    scratch: &mut [u64],
+) -> MarkReply
+    ensures { λ r. ⌜ MarkReplies short (now (paper .entry)) (now (what .entry)) (now (values .entry)) (now (out .entry)) (now (order .entry)) (now (scratch .entry)) r (now (what .exit)) (now (values .exit)) (now (out .exit)) (now (order .exit)) (now (scratch .exit)) ⌝ }
+{
+    let r = report::mark_trace(Course::Short, paper, what, values, out, order, scratch);
+    mark_reply(r)
+}
+
+// The same where no order is wanted.
+#[no_mangle]
+pub extern "C" fn dabzhoni_mark_short_unordered(
+    paper: &[u8],
+    what: &mut [u32],
+    values: &mut [Value],
+    out: &mut [u8],
+) -> MarkReply
+    ensures { λ r. ⌜ BriefReplies short (now (paper .entry)) (now (what .entry)) (now (values .entry)) (now (out .entry)) r (now (what .exit)) (now (values .exit)) (now (out .exit)) ⌝ }
+{
+    let r = report::mark_unordered(Course::Short, paper, what, values, out);
     mark_reply(r)
 }

@@ -10,9 +10,11 @@ use lib.ListN.{length, replicate, length-map, length-append, List·getD-append}
 use borrow.Author.Tests.{ltb-false}
 use Rattle.rules.specs.declared.Event.{Event}
 use Rattle.rules.specs.declared.Counts.{Counts}
-use Rattle.rules.specs.Limits.{full, lentShort, lineAfter}
+use Rattle.rules.specs.declared.Course.{Course}
+use Rattle.rules.specs.Limits.{Limits, UpToFull, limitsOf, lentShort, lineAfter}
 use Rattle.rules.specs.Rules.{Marked, accepted, refused, onMarked}
 use Rattle.rules.specs.Memories.{from}
+use Rattle.rules.proofs.Bounds.{up-to-full}
 use Rattle.rules.proofs.From.{from-same}
 use Rattle.decimal.specs.Text.{over}
 use Rattle.records.specs.Records.{packed, valueIn, unpacked, eventAt, rowEvents}
@@ -22,7 +24,7 @@ use Rattle.marking.specs.Marking.{markedOf, eventsIn, readIn}
 use Rattle.marking.proofs.Whole.{read-is, events-few, events-numbered, events-declared}
 use Rattle.ordering.specs.Traces.{orderingOf}
 use Rattle.report.specs.declared.Report.{Report}
-use Rattle.report.specs.Report.{short, shortReport, reportOf, countOf, listingOf, recordsAfter}
+use Rattle.report.specs.Report.{tooLittle, tooLittleReport, reportOf, countOf, listingOf, recordsAfter}
 use Rattle.event_rows.specs.declared.Kept.{Kept}
 use Rattle.event_rows.specs.EventRows.{fitting, filled, FillsEvents}
 use Rattle.event_rows.specs.Computed.Kept.{Keeps}
@@ -61,30 +63,36 @@ neither : (a b : Bool) → (a || b) ≡ false → a ≡ false
 neither false b q = refl
 neither true b q = q
 
-module _ (s : List ℕ) (records : List Event) (out list scratch : List ℕ) where
+module _ (course : Course) (s : List ℕ) (records : List Event) (out list scratch : List ℕ) where
+  abbrev m : Limits
+  m = limitsOf course
+
+  u : UpToFull m
+  u = up-to-full course
+
   abbrev lent : Bool
-  lent = short full (length records) out list scratch
+  lent = tooLittle m (length records) out list scratch
 
   many : lent ≡ false → 2000 ≤ length records
   unfolding lentShort
-  many q = ltb-false (length records) 2000 (neither (ltb (length records) 2000) _ (neither (lentShort full (length records) (length out)) _ q))
+  many q = ltb-false (length records) 2000 (neither (ltb (length records) 2000) _ (neither (lentShort m (length records) (length out)) _ q))
 
-  filled-marked : lent ≡ false → (m : Marked) → markedOf full s ≡ m → (ws : List ℕ) (xs : List ℤ) → ws ≡ over (map packed (readIn full s)) (replicate 2000 0) → xs ≡ over (map valueIn (readIn full s)) (replicate 2000 (pos 0))
-      → filled (traceOf full s .head) ws xs (onMarked m (length (eventsIn full s)) 0) records ≡ onMarked m (over (eventsIn full s) records) records
-  filled-marked q (refused number line) a ws xs e f = filled-none (traceOf full s .head) ws xs records
-  filled-marked q accepted a ws xs e f = rw (e, f, read-is s a) (filled-all (traceOf full s .head) (eventsIn full s) (events-numbered s) (events-declared s) _ _ records (events-few s) (omega (arith, events-few s, many q)))
+  filled-marked : lent ≡ false → (w : Marked) → markedOf m s ≡ w → (ws : List ℕ) (xs : List ℤ) → ws ≡ over (map packed (readIn m s)) (replicate 2000 0) → xs ≡ over (map valueIn (readIn m s)) (replicate 2000 (pos 0))
+      → filled (traceOf m s .head) ws xs (onMarked w (length (eventsIn m s)) 0) records ≡ onMarked w (over (eventsIn m s) records) records
+  filled-marked q (refused number line) a ws xs e f = filled-none (traceOf m s .head) ws xs records
+  filled-marked q accepted a ws xs e f = rw (e, f, read-is m u s a) (filled-all (traceOf m s .head) (eventsIn m s) (events-numbered m s) (events-declared m u s) _ _ records (events-few m u s) (omega (arith, events-few m u s, many q)))
 
   filled-lent : (b : Bool) → lent ≡ b → (r : Report) (ws : List ℕ) (xs : List ℤ)
-      → r ≡ cond b shortReport (reportOf full s (orderingOf full s) (listingOf full s))
-      → ws ≡ cond b (replicate 2000 0) (over (map packed (readIn full s)) (replicate 2000 0)) → xs ≡ cond b (replicate 2000 (pos 0)) (over (map valueIn (readIn full s)) (replicate 2000 (pos 0)))
-      → filled (traceOf full s .head) ws xs (r .events) records ≡ cond b records (recordsAfter full s (eventsIn full s) records)
+      → r ≡ cond b tooLittleReport (reportOf m s (orderingOf m s) (listingOf m s))
+      → ws ≡ cond b (replicate 2000 0) (over (map packed (readIn m s)) (replicate 2000 0)) → xs ≡ cond b (replicate 2000 (pos 0)) (over (map valueIn (readIn m s)) (replicate 2000 (pos 0)))
+      → filled (traceOf m s .head) ws xs (r .events) records ≡ cond b records (recordsAfter m s (eventsIn m s) records)
   unfolding reportOf countOf recordsAfter
-  filled-lent true q r ws xs c e f = ap (λ (x : Report). filled (traceOf full s .head) ws xs (x .events) records) c ∙ filled-none (traceOf full s .head) ws xs records
-  filled-lent false q r ws xs c e f = ap (λ (x : Report). filled (traceOf full s .head) ws xs (x .events) records) c ∙ filled-marked q (markedOf full s) refl ws xs e f
+  filled-lent true q r ws xs c e f = ap (λ (x : Report). filled (traceOf m s .head) ws xs (x .events) records) c ∙ filled-none (traceOf m s .head) ws xs records
+  filled-lent false q r ws xs c e f = ap (λ (x : Report). filled (traceOf m s .head) ws xs (x .events) records) c ∙ filled-marked q (markedOf m s) refl ws xs e f
 
   -- the contract, from those of the two calls
-  pub fills-events : (k : Kept) (out′ list′ scratch′ : List ℕ) → Keeps s (length records) out list scratch k out′ list′ scratch′
-      → (records′ : List Event) → records′ ≡ filled (k .head) (k .what) (k .value) (k .report .events) records → FillsEvents s records out list scratch (k .report) records′ out′ list′ scratch′
+  pub fills-events : (k : Kept) (out′ list′ scratch′ : List ℕ) → Keeps m s (length records) out list scratch k out′ list′ scratch′
+      → (records′ : List Event) → records′ ≡ filled (k .head) (k .what) (k .value) (k .report .events) records → FillsEvents m s records out list scratch (k .report) records′ out′ list′ scratch′
   fills-events k out′ list′ scratch′ c records′ e = record {
     reports = c .lends .reports;
     fills = e ∙ ap (λ (h : Counts). filled h (k .what) (k .value) (k .report .events) records) (c .heads)

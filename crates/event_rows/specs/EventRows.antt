@@ -7,13 +7,13 @@ use lib.IntN.{ℤ}
 use lib.ListN.{length}
 use Rattle.rules.specs.declared.Event.{Event}
 use Rattle.rules.specs.declared.Counts.{Counts}
-use Rattle.rules.specs.Limits.{full}
+use Rattle.rules.specs.Limits.{Limits}
 use Rattle.rules.specs.Memories.{from}
 use Rattle.decimal.specs.Text.{over}
 use Rattle.records.specs.Records.{eventAt}
 use Rattle.marking.specs.Marking.{eventsIn}
 use Rattle.report.specs.declared.Report.{Report}
-use Rattle.report.specs.Report.{short, recordsAfter, Reports}
+use Rattle.report.specs.Report.{tooLittle, recordsAfter, Reports}
 
 -- how many events are written: as many as asked for, never more than a row has places, and never more than 2,000, the most that a trace has
 unfoldable pub fitting : ℕ → List Event → List ℕ → List ℤ → ℕ
@@ -25,6 +25,6 @@ filled h ws xs n records = over (from (eventAt h ws xs) 0 (fitting n records ws 
 
 -- A whole trace with its events. One record for each event line; places past the events stay untouched, and all of them after a refusal.
 -- 7 before all: after it nothing lent is touched.
-pub record FillsEvents (s : List ℕ) (records : List Event) (out list scratch : List ℕ) (r : Report) (records′ : List Event) (out′ list′ scratch′ : List ℕ) : Type 0 where
-  pub reports : Reports s (length records) out list scratch r out′ list′ scratch′
-  pub fills : records′ ≡ cond (short full (length records) out list scratch) records (recordsAfter full s (eventsIn full s) records)
+pub record FillsEvents (m : Limits) (s : List ℕ) (records : List Event) (out list scratch : List ℕ) (r : Report) (records′ : List Event) (out′ list′ scratch′ : List ℕ) : Type 0 where
+  pub reports : Reports m s (length records) out list scratch r out′ list′ scratch′
+  pub fills : records′ ≡ cond (tooLittle m (length records) out list scratch) records (recordsAfter m s (eventsIn m s) records)

@@ -3,23 +3,24 @@
 ghost use mathlib.Core.Path.{_≡_};
 ghost use Prim.Native.Nat.{_<_, min};
 ghost use lib.ListN.{length};
-ghost use Rattle.rules.specs.Limits.{full};
+ghost use Rattle.rules.specs.Limits.{limitsOf};
 ghost use Rattle.machine.specs.Stepped.{stepped};
 ghost use Rattle.records.specs.Records.{eventAt};
 ghost use Rattle.event_rows.specs.EventRows.{filled, FillsEvents};
 ghost use Rattle.event_rows.specs.Computed.Kept.{Keeps};
 use report::Report;
 use rules::Counts;
+use rules::Course;
 use rules::Event;
 use rules::Value;
 use rules::Verdict;
 use state::State;
 
 // One step over a state that the caller keeps, changed in place.
-pub fn step_in_place(s: &mut State, e: Event) -> Verdict
-    ensures { λ r. ⌜ record { verdict = r; state = now (s .exit) } ≡ stepped full (now (s .entry)) e ⌝ }
+pub fn step_in_place(course: Course, s: &mut State, e: Event) -> Verdict
+    ensures { λ r. ⌜ record { verdict = r; state = now (s .exit) } ≡ stepped (limitsOf course) (now (s .entry)) e ⌝ }
 {
-    let a = machine::step(*s, e);
+    let a = machine::step(course, *s, e);
     *s = a.state;
     a.verdict
 }
@@ -67,18 +68,28 @@ struct Kept {
 
 // Marks a whole trace, with its order and its listing, where so many places are lent for its records. 7 before all.
 fn mark_kept(
+    course: Course,
     bytes: &[u8],
     places: usize,
     out: &mut [u8],
     list: &mut [u64],
     scratch: &mut [u64],
 ) -> Kept
-    ensures { λ r. ⌜ Keeps (now (bytes .entry)) places (now (out .entry)) (now (list .entry)) (now (scratch .entry)) r (now (out .exit)) (now (list .exit)) (now (scratch .exit)) ⌝ }
+    ensures { λ r. ⌜ Keeps (limitsOf course) (now (bytes .entry)) places (now (out .entry)) (now (list .entry)) (now (scratch .entry)) r (now (out .exit)) (now (list .exit)) (now (scratch .exit)) ⌝ }
 {
-    let found = trace::find(bytes);
+    let found = trace::find(course, bytes);
     let mut what: [u32; 2000] = [0; 2000];
     let mut value: [Value; 2000] = [0; 2000];
-    let report = report::mark_lent(bytes, places, &mut what, &mut value, out, list, scratch);
+    let report = report::mark_lent(
+        course,
+        bytes,
+        places,
+        &mut what,
+        &mut value,
+        out,
+        list,
+        scratch,
+    );
     let head = found.head;
     Kept {
         report: report,
@@ -90,16 +101,17 @@ fn mark_kept(
 
 // Marks a whole trace, with its events, its order and its listing. 7 before all.
 pub fn mark_events(
+    course: Course,
     bytes: &[u8],
     records: &mut [Event],
     out: &mut [u8],
     list: &mut [u64],
     scratch: &mut [u64],
 ) -> Report
-    ensures { λ r. ⌜ FillsEvents (now (bytes .entry)) (now (records .entry)) (now (out .entry)) (now (list .entry)) (now (scratch .entry)) r (now (records .exit)) (now (out .exit)) (now (list .exit)) (now (scratch .exit)) ⌝ }
+    ensures { λ r. ⌜ FillsEvents (limitsOf course) (now (bytes .entry)) (now (records .entry)) (now (out .entry)) (now (list .entry)) (now (scratch .entry)) r (now (records .exit)) (now (out .exit)) (now (list .exit)) (now (scratch .exit)) ⌝ }
 {
     let places = records.len();
-    let kept = mark_kept(bytes, places, out, list, scratch);
+    let kept = mark_kept(course, bytes, places, out, list, scratch);
     let what = kept.what;
     let value = kept.value;
     fill_records(records, kept.head, &what, &value, kept.report.events);

@@ -11,11 +11,13 @@ use borrow.Author.Tests.{le-leb, lt-leb}
 use borrow.Table.Elements.{map-app}
 use Rattle.rules.specs.declared.Event.{Event}
 use Rattle.rules.specs.declared.Counts.{Counts}
+use Rattle.rules.specs.declared.Course.{Course}
 use Rattle.rules.specs.declared.Verdict.{Verdict}
 use Rattle.rules.specs.declared.Verdict.the-variants.{Accepted, Refused}
-use Rattle.rules.specs.Limits.{full, firstLine, lineAfter, valueWidth}
+use Rattle.rules.specs.Limits.{full, limitsOf, firstLine, lineAfter, valueWidth}
 use Rattle.rules.specs.Rules.{told}
 use Rattle.rules.specs.Reading.{readFrom, stopFrom}
+use Rattle.rules.proofs.Bounds.{up-to-full}
 use Rattle.decimal.specs.Text.{over}
 use Rattle.decimal.proofs.TextLaws.{over-next, over-length}
 use Rattle.records.specs.Records.{whatOf, packed, valueIn}
@@ -40,54 +42,57 @@ abbrev left : Counts → List ℕ → ℕ → ℕ → List (Option Event)
 left h s at n = readings valueWidth (lineAfter h n) (partLines (drop at s))
 
 -- after n events, at the line that starts at `at`, with the rows as they were at the start, at `from`, and as they are now
-pub record Turn (h : Counts) (s : List ℕ) (from : ℕ) (what₀ : List ℕ) (value₀ : List ℤ) (what : List ℕ) (value : List ℤ) (at n : ℕ) : Type 0 where
+pub record Turn (course : Course) (h : Counts) (s : List ℕ) (from : ℕ) (what₀ : List ℕ) (value₀ : List ℤ) (what : List ℕ) (value : List ℤ) (at n : ℕ) : Type 0 where
   pub past : List Event
   pub count : length past ≡ n
-  pub small : n ≤ full .events
-  pub read : eventsRead h (drop from s) ≡ past ++ readFrom full n (left h s at n)
-  pub stop : stopFrom full h 0 (linesRead h (drop from s)) ≡ stopFrom full h n (left h s at n)
+  pub small : n ≤ limitsOf course .events
+  pub read : eventsRead (limitsOf course) h (drop from s) ≡ past ++ readFrom (limitsOf course) n (left h s at n)
+  pub stop : stopFrom (limitsOf course) h 0 (linesRead (limitsOf course) h (drop from s)) ≡ stopFrom (limitsOf course) h n (left h s at n)
   pub what-is : what ≡ over (map packed past) what₀
   pub value-is : value ≡ over (map valueIn past) value₀
 
-pub turn-start : (h : Counts) (s : List ℕ) (from : ℕ) (what : List ℕ) (value : List ℤ) → Turn h s from what value what value from 0
-turn-start h s from what value =
+pub turn-start : (course : Course) (h : Counts) (s : List ℕ) (from : ℕ) (what : List ℕ) (value : List ℤ) → Turn course h s from what value what value from 0
+turn-start course h s from what value =
     let e : firstLine h ≡ lineAfter h 0 = omega arith in
     record {
       past = [];
       count = refl;
       small = omega arith;
-      read = ap (λ (l : ℕ). readFrom full 0 (readings valueWidth l (partLines (drop from s)))) e;
-      stop = ap (λ (l : ℕ). stopFrom full h 0 (readings valueWidth l (partLines (drop from s)))) e;
+      read = ap (λ (l : ℕ). readFrom (limitsOf course) 0 (readings valueWidth l (partLines (drop from s)))) e;
+      stop = ap (λ (l : ℕ). stopFrom (limitsOf course) h 0 (readings valueWidth l (partLines (drop from s)))) e;
       what-is = refl;
       value-is = refl;
     }
 
-module _ {h : Counts} {s what₀ what : List ℕ} {value₀ value : List ℤ} {from at n : ℕ} (t : Turn h s from what₀ value₀ what value at n) where
+module _ {course : Course} {h : Counts} {s what₀ what : List ℕ} {value₀ value : List ℤ} {from at n : ℕ} (t : Turn course h s from what₀ value₀ what value at n) where
+  pub turn-few : n ≤ full .events
+  turn-few = omega (arith, t .small, up-to-full course .events)
+
   -- the rows keep their lengths
   pub turn-what : full .events ≤ length what₀ → length what ≡ length what₀
-  turn-what i = row-length packed (t .past) what what₀ (t .what-is) (omega (arith, t .count, t .small))
+  turn-what i = row-length packed (t .past) what what₀ (t .what-is) (omega (arith, t .count, turn-few))
 
   pub turn-value : full .events ≤ length value₀ → length value ≡ length value₀
-  turn-value i = row-length valueIn (t .past) value value₀ (t .value-is) (omega (arith, t .count, t .small))
+  turn-value i = row-length valueIn (t .past) value value₀ (t .value-is) (omega (arith, t .count, turn-few))
 
   -- the next line starts behind this one
   pub turn-next : (l : Line) → l ≡ lineAt s at → (l .letter ≡ 0 → ⊥) → at < l .next
   turn-next l e z = omega (arith, here (lineAfter h n) s at (λ y. z (ap (λ (l : Line). l .letter) e ∙ y)) .more, ap (λ (l : Line). l .next) e)
 
   -- an event: one record more, and the next line
-  pub turn-more : (l : Line) (w : ℕ) (x : ℤ) → l ≡ lineAt s at → (l .letter ≡ 0 → ⊥) → n < full .events → full .events ≤ length what₀ → full .events ≤ length value₀
-      → w ≡ whatOf (l .letter) (l .thread) (l .place) → x ≡ l .value → Turn h s from what₀ value₀ (set what n w) (set value n x) (l .next) (n + 1)
+  pub turn-more : (l : Line) (w : ℕ) (x : ℤ) → l ≡ lineAt s at → (l .letter ≡ 0 → ⊥) → n < limitsOf course .events → full .events ≤ length what₀ → full .events ≤ length value₀
+      → w ≡ whatOf (l .letter) (l .thread) (l .place) → x ≡ l .value → Turn course h s from what₀ value₀ (set what n w) (set value n x) (l .next) (n + 1)
   turn-more l w x e z i a b p q = by (here (lineAfter h n) s at (λ y. z (ap (λ (l : Line). l .letter) e ∙ y)))
     where
-      by : Here (lineAfter h n) s at (lineAt s at) → Turn h s from what₀ value₀ (set what n w) (set value n x) (l .next) (n + 1)
+      by : Here (lineAfter h n) s at (lineAt s at) → Turn course h s from what₀ value₀ (set what n w) (set value n x) (l .next) (n + 1)
       by v = record {
         past = t .past ++ (v .event ∷ []);
         count = length-append (t .past) (v .event ∷ []) ∙ ap (λ (k : ℕ). k + 1) (t .count);
         small = omega arith;
-        read = t .read ∙ ap (λ (ls : List Event). t .past ++ ls) (ap (readFrom full n) next ∙ read-on) ∙ sym (append-assoc (t .past) (v .event ∷ []) (readFrom full (n + 1) rest));
-        stop = t .stop ∙ ap (stopFrom full h n) next ∙ stop-on;
-        what-is = row-next packed (t .past) (v .event) what what₀ n w (t .what-is) (t .count) (omega arith) (p ∙ ap (λ (l : Line). whatOf (l .letter) (l .thread) (l .place)) e ∙ sym (v .what-is));
-        value-is = row-next valueIn (t .past) (v .event) value value₀ n x (t .value-is) (t .count) (omega arith) (q ∙ ap (λ (l : Line). l .value) e ∙ sym (v .value-is));
+        read = t .read ∙ ap (λ (ls : List Event). t .past ++ ls) (ap (readFrom (limitsOf course) n) next ∙ read-on) ∙ sym (append-assoc (t .past) (v .event ∷ []) (readFrom (limitsOf course) (n + 1) rest));
+        stop = t .stop ∙ ap (stopFrom (limitsOf course) h n) next ∙ stop-on;
+        what-is = row-next packed (t .past) (v .event) what what₀ n w (t .what-is) (t .count) (omega (arith, up-to-full course .events)) (p ∙ ap (λ (l : Line). whatOf (l .letter) (l .thread) (l .place)) e ∙ sym (v .what-is));
+        value-is = row-next valueIn (t .past) (v .event) value value₀ n x (t .value-is) (t .count) (omega (arith, up-to-full course .events)) (q ∙ ap (λ (l : Line). l .value) e ∙ sym (v .value-is));
       }
         where
           rest : List (Option Event)
@@ -98,38 +103,38 @@ module _ {h : Counts} {s what₀ what : List ℕ} {value₀ value : List ℤ} {f
               let k : suc (lineAfter h n) ≡ lineAfter h (n + 1) = omega arith in
               v .lines ∙ (λ j. some (v .event) ∷ readings valueWidth (k j) (partLines (drop (sym e j .next) s)))
 
-          read-on : readFrom full n (some (v .event) ∷ rest) ≡ v .event ∷ readFrom full (n + 1) rest
-          read-on = unfold readFrom in rw (lt-leb (full .events) n i, add-one n)
+          read-on : readFrom (limitsOf course) n (some (v .event) ∷ rest) ≡ v .event ∷ readFrom (limitsOf course) (n + 1) rest
+          read-on = unfold readFrom in rw (lt-leb (limitsOf course .events) n i, add-one n)
 
-          stop-on : stopFrom full h n (some (v .event) ∷ rest) ≡ stopFrom full h (n + 1) rest
-          stop-on = unfold stopFrom in rw (lt-leb (full .events) n i, add-one n)
+          stop-on : stopFrom (limitsOf course) h n (some (v .event) ∷ rest) ≡ stopFrom (limitsOf course) h (n + 1) rest
+          stop-on = unfold stopFrom in rw (lt-leb (limitsOf course .events) n i, add-one n)
 
   -- the end: nothing more is read
-  finish : (rest : List (Option Event)) (v : Verdict) → left h s at n ≡ rest → readFrom full n rest ≡ [] → told v ≡ stopFrom full h n rest
-      → Reads h (drop from s) (record { count = n; verdict = v }) what₀ what value₀ value
+  finish : (rest : List (Option Event)) (v : Verdict) → left h s at n ≡ rest → readFrom (limitsOf course) n rest ≡ [] → told v ≡ stopFrom (limitsOf course) h n rest
+      → Reads (limitsOf course) h (drop from s) (record { count = n; verdict = v }) what₀ what value₀ value
   finish rest v q r e =
-      let all : eventsRead h (drop from s) ≡ t .past = t .read ∙ ap (λ (ls : List Event). t .past ++ ls) (ap (readFrom full n) q ∙ r) ∙ append-nil (t .past) in
+      let all : eventsRead (limitsOf course) h (drop from s) ≡ t .past = t .read ∙ ap (λ (ls : List Event). t .past ++ ls) (ap (readFrom (limitsOf course) n) q ∙ r) ∙ append-nil (t .past) in
       record {
         count = sym (t .count) ∙ ap length (sym all);
-        verdict = e ∙ ap (stopFrom full h n) (sym q) ∙ sym (t .stop);
+        verdict = e ∙ ap (stopFrom (limitsOf course) h n) (sym q) ∙ sym (t .stop);
         what-is = t .what-is ∙ ap (λ (es : List Event). over (map packed es) what₀) (sym all);
         value-is = t .value-is ∙ ap (λ (es : List Event). over (map valueIn es) value₀) (sym all);
       }
 
-  pub turn-end : length s ≤ at → Reads h (drop from s) (record { count = n; verdict = Accepted }) what₀ what value₀ value
+  pub turn-end : length s ≤ at → Reads (limitsOf course) h (drop from s) (record { count = n; verdict = Accepted }) what₀ what value₀ value
   turn-end i = finish [] Accepted (ap (readings valueWidth (lineAfter h n)) (part-none s at i) ∙ (unfold readings in refl)) (unfold readFrom in refl) (unfold stopFrom in refl)
 
   -- a line that is no event
   pub turn-wrong : (l : Line) (line : ℕ) → l ≡ lineAt s at → at < length s → l .letter ≡ 0 → line ≡ lineAfter h n
-      → Reads h (drop from s) (record { count = n; verdict = Refused 4 line }) what₀ what value₀ value
+      → Reads (limitsOf course) h (drop from s) (record { count = n; verdict = Refused 4 line }) what₀ what value₀ value
   turn-wrong l line e i z k =
       let v = wrong-here (lineAfter h n) s at i (sym (ap (λ (l : Line). l .letter) e) ∙ z) in
       finish (none ∷ v .rest) (Refused 4 line) (v .lines) (unfold readFrom in refl) (unfold stopFrom in ap (λ (j : ℕ). told (Refused 4 j)) k)
 
   -- an event more than there may be
-  pub turn-full : (l : Line) (line : ℕ) → l ≡ lineAt s at → (l .letter ≡ 0 → ⊥) → full .events ≤ n → line ≡ lineAfter h n
-      → Reads h (drop from s) (record { count = n; verdict = Refused 9 line }) what₀ what value₀ value
-  turn-full l line e z i k =
+  pub turn-full : (l : Line) (number line : ℕ) → l ≡ lineAt s at → (l .letter ≡ 0 → ⊥) → limitsOf course .events ≤ n → number ≡ limitsOf course .excess → line ≡ lineAfter h n
+      → Reads (limitsOf course) h (drop from s) (record { count = n; verdict = Refused number line }) what₀ what value₀ value
+  turn-full l number line e z i x k =
       let v = here (lineAfter h n) s at (λ y. z (ap (λ (l : Line). l .letter) e ∙ y)) in
-      finish (some (v .event) ∷ readings valueWidth (suc (lineAfter h n)) (partLines (drop (lineAt s at .next) s))) (Refused 9 line) (v .lines)
-      (unfold readFrom in rw (le-leb (full .events) n i)) (unfold stopFrom in rw (le-leb (full .events) n i) (ap (λ (j : ℕ). told (Refused 9 j)) k))
+      finish (some (v .event) ∷ readings valueWidth (suc (lineAfter h n)) (partLines (drop (lineAt s at .next) s))) (Refused number line) (v .lines)
+      (unfold readFrom in rw (le-leb (limitsOf course .events) n i)) (unfold stopFrom in rw (le-leb (limitsOf course .events) n i) (λ j. told (Refused (x j) (k j))))

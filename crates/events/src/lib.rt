@@ -2,12 +2,13 @@
 use decimal::Integer;
 use decimal::Natural;
 use rules::Counts;
+use rules::Course;
 use rules::Value;
 use rules::Verdict;
 ghost use mathlib.Core.Path.{_≡_};
 ghost use Prim.Native.Nat.{_≤_};
 ghost use lib.ListN.{length, drop};
-ghost use Rattle.rules.specs.Limits.{full, valueWidth};
+ghost use Rattle.rules.specs.Limits.{full, limitsOf, valueWidth};
 ghost use Rattle.events.specs.Events.{onInteger, right, last, lockEnd, valueEnd, field, afterThread};
 ghost use Rattle.events.specs.Computed.Lines.{noLine, placed, stage, lineAt};
 ghost use Rattle.events.specs.Reading.{Reads};
@@ -140,10 +141,18 @@ fn line_at(s: &[u8], at: usize) -> Line
 }
 
 // The events of the lines from a place on, one record for each at the front of the two rows.
-fn read_into(h: Counts, s: &[u8], from: usize, what: &mut [u32], value: &mut [Value]) -> Read
+fn read_into(
+    course: Course,
+    h: Counts,
+    s: &[u8],
+    from: usize,
+    what: &mut [u32],
+    value: &mut [Value],
+) -> Read
     requires { ⌜ (full .events ≤ length (now what)) × (full .events ≤ length (now value)) ⌝ }
-    ensures { λ r. ⌜ Reads h (drop from (now (s .entry))) r (now (what .entry)) (now (what .exit)) (now (value .entry)) (now (value .exit)) ⌝ }
+    ensures { λ r. ⌜ Reads (limitsOf course) h (drop from (now (s .entry))) r (now (what .entry)) (now (what .exit)) (now (value .entry)) (now (value .exit)) ⌝ }
 {
+    let most = rules::most_events(course) as usize;
     let mut at = from;
     let mut n: usize = 0;
     while at < s.len() {
@@ -156,8 +165,8 @@ fn read_into(h: Counts, s: &[u8], from: usize, what: &mut [u32], value: &mut [Va
                 verdict: wrong,
             };
         }
-        if 2000 <= n {
-            let excess = Verdict::Refused(9, rules::line_after(h, n as u32));
+        if most <= n {
+            let excess = Verdict::Refused(rules::excess_of(course), rules::line_after(h, n as u32));
             return Read {
                 count: n,
                 verdict: excess,
@@ -177,15 +186,16 @@ fn read_into(h: Counts, s: &[u8], from: usize, what: &mut [u32], value: &mut [Va
 }
 
 // The events of the lines from a place on, one record for each at the front of the two rows: until a line that is no event, or an event
-// more than 2,000.
+// more than the course has.
 pub fn read_lines(
+    course: Course,
     h: Counts,
     s: &[u8],
     from: usize,
     what: &mut [u32; 2000],
     value: &mut [Value; 2000],
 ) -> Read
-    ensures { λ r. ⌜ Reads h (drop from (now (s .entry))) r (now (what .entry)) (now (what .exit)) (now (value .entry)) (now (value .exit)) ⌝ }
+    ensures { λ r. ⌜ Reads (limitsOf course) h (drop from (now (s .entry))) r (now (what .entry)) (now (what .exit)) (now (value .entry)) (now (value .exit)) ⌝ }
 {
-    read_into(h, s, from, what, value)
+    read_into(course, h, s, from, what, value)
 }

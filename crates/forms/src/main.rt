@@ -6,6 +6,7 @@ use machine::Answer;
 use ordering::Ordering;
 use report::Report;
 use rules::Counts;
+use rules::Course;
 use rules::Event;
 use rules::Kind;
 use rules::Value;
@@ -88,8 +89,8 @@ fn reported(r: Report) {
 }
 
 // What is said, the listing, and what the lent memory then holds.
-fn unordered(paper: &[u8], what: &mut [u32], values: &mut [Value], out: &mut [u8]) {
-    let r = report::mark_unordered(paper, what, values, out);
+fn unordered(course: Course, paper: &[u8], what: &mut [u32], values: &mut [Value], out: &mut [u8]) {
+    let r = report::mark_unordered(course, paper, what, values, out);
     reported(r);
     show(out, r.written);
     word(what, 0);
@@ -99,7 +100,7 @@ fn unordered(paper: &[u8], what: &mut [u32], values: &mut [Value], out: &mut [u8
     byte(out, 43);
 }
 
-// With one place too few of each, then with enough.
+// With one place too few of each, then with enough; and three locks in the short course.
 fn orderless(paper: &[u8]) {
     let mut what = [77u32; 2000];
     let mut few = [77u32; 1999];
@@ -107,10 +108,17 @@ fn orderless(paper: &[u8]) {
     let mut fewer: [Value; 1999] = [77; 1999];
     let mut out = [35u8; 32768];
     let mut narrow = [35u8; 32767];
-    unordered(paper, &mut few, &mut values, &mut out);
-    unordered(paper, &mut what, &mut fewer, &mut out);
-    unordered(paper, &mut what, &mut values, &mut narrow);
-    unordered(paper, &mut what, &mut values, &mut out);
+    unordered(Course::Full, paper, &mut few, &mut values, &mut out);
+    unordered(Course::Full, paper, &mut what, &mut fewer, &mut out);
+    unordered(Course::Full, paper, &mut what, &mut values, &mut narrow);
+    unordered(Course::Full, paper, &mut what, &mut values, &mut out);
+    unordered(
+        Course::Short,
+        b"H 2 1 3\nG -\nZ 12\n",
+        &mut what,
+        &mut values,
+        &mut out,
+    );
 }
 
 // ---- The writers of a trace.
@@ -251,8 +259,8 @@ fn rows() {
 
 // ---- The part of a trace that holds its events.
 
-fn part(paper: &[u8]) {
-    let found = trace::find_events(paper);
+fn part(course: Course, paper: &[u8]) {
+    let found = trace::find_events(course, paper);
     io::write_all(STDOUT_FILENO, found);
     let ns = [found.len()];
     row(&ns);
@@ -261,8 +269,8 @@ fn part(paper: &[u8]) {
 // ---- Steps over a lent state.
 
 // The state is lent for one call, and answered as it comes back.
-fn stepped(mut s: State, e: Event) -> Answer {
-    let v = event_rows::step_in_place(&mut s, e);
+fn stepped(course: Course, mut s: State, e: Event) -> Answer {
+    let v = event_rows::step_in_place(course, &mut s, e);
     Answer {
         verdict: v,
         state: s,
@@ -270,13 +278,13 @@ fn stepped(mut s: State, e: Event) -> Answer {
 }
 
 // Number, line, and the events so far.
-fn step(s: State, thread: usize, kind: Kind) -> State {
+fn step_in(course: Course, s: State, thread: usize, kind: Kind) -> State {
     let e = Event {
         thread: thread,
         line: 0,
         kind: kind,
     };
-    let a = stepped(s, e);
+    let a = stepped(course, s, e);
     let v = a.verdict;
     let t = a.state;
     let number = rules::number_of(v);
@@ -284,6 +292,10 @@ fn step(s: State, thread: usize, kind: Kind) -> State {
     let ns = [number as usize, line, t.events as usize];
     row(&ns);
     t
+}
+
+fn step(s: State, thread: usize, kind: Kind) -> State {
+    step_in(Course::Full, s, thread, kind)
 }
 
 // Holder and depth of lock 0, and variable 0 in main memory.
@@ -328,6 +340,26 @@ fn kinds(h: Counts) {
     held(s);
 }
 
+// The short course: its event 200, then 25, 8 for 201 events, which the full course takes, and 8 for three threads.
+fn short_steps(h: Counts) {
+    let mut s = state::initial(h);
+    s.events = 199;
+    s = step_in(Course::Short, s, 0, Kind::Lock(0));
+    s = step_in(Course::Short, s, 2, Kind::Lock(0));
+    s.events = 201;
+    s = step_in(Course::Short, s, 0, Kind::Lock(0));
+    s = step(s, 0, Kind::Lock(0));
+    held(s);
+    let many = Counts {
+        threads: 3,
+        variables: 2,
+        locks: 2,
+    };
+    s = state::initial(many);
+    s = step_in(Course::Short, s, 0, Kind::Lock(0));
+    held(s);
+}
+
 fn steps() {
     io::write_all(STDOUT_FILENO, b"steps in place\n");
     let h = Counts {
@@ -337,6 +369,7 @@ fn steps() {
     };
     locks(h);
     kinds(h);
+    short_steps(h);
 }
 
 // ---- Lent rows of events.
@@ -417,6 +450,7 @@ struct Outcome {
 
 // The first places of the row are lent for one call, and the row is answered as it comes back.
 fn events_marked(
+    course: Course,
     bytes: &[u8],
     mut rows: [Event; 2000],
     places: usize,
@@ -426,7 +460,7 @@ fn events_marked(
 ) -> Outcome
     requires { ⌜ places ≤ 2000 ⌝ }
 {
-    let r = event_rows::mark_events(bytes, &mut rows[..places], out, list, scratch);
+    let r = event_rows::mark_events(course, bytes, &mut rows[..places], out, list, scratch);
     Outcome {
         report: r,
         rows: rows,
@@ -458,11 +492,18 @@ fn lists(list: &[u64], scratch: &[u64]) {
 }
 
 // What is said, the listing, and what the lent memory then holds.
-fn eventful(paper: &[u8], places: usize, out: &mut [u8], list: &mut [u64], scratch: &mut [u64])
+fn eventful(
+    course: Course,
+    paper: &[u8],
+    places: usize,
+    out: &mut [u8],
+    list: &mut [u64],
+    scratch: &mut [u64],
+)
     requires { ⌜ places ≤ 2000 ⌝ }
 {
     let e = filler();
-    let o = events_marked(paper, [e; 2000], places, out, list, scratch);
+    let o = events_marked(course, paper, [e; 2000], places, out, list, scratch);
     let r = o.report;
     let rows = o.rows;
     reported(r);
@@ -473,13 +514,21 @@ fn eventful(paper: &[u8], places: usize, out: &mut [u8], list: &mut [u64], scrat
 }
 
 // So many places are lent.
-fn eventful_in(paper: &[u8], places: usize, bytes: usize, entries: usize, cells: usize)
+fn eventful_in(
+    course: Course,
+    paper: &[u8],
+    places: usize,
+    bytes: usize,
+    entries: usize,
+    cells: usize,
+)
     requires { ⌜ (places ≤ 2000) × ((bytes ≤ 32768) × ((entries ≤ 1000) × (cells ≤ 1001))) ⌝ }
 {
     let mut out = [35u8; 32768];
     let mut list = [77u64; 1000];
     let mut scratch = [77u64; 1001];
     eventful(
+        course,
         paper,
         places,
         &mut out[..bytes],
@@ -488,23 +537,41 @@ fn eventful_in(paper: &[u8], places: usize, bytes: usize, entries: usize, cells:
     );
 }
 
-// 7, with one place too few of each; then a trace that is refused, one without an order, and one with it, also from a longer scratch.
+// 7, with one place too few of each; then a trace that is refused, one without an order, and one with it, also from a longer
+// scratch and in the short course, and one that is over its limits.
 fn traces(paper: &[u8]) {
     io::write_all(STDOUT_FILENO, b"a trace into events\n");
-    eventful_in(paper, 1999, 32768, 1000, 1000);
-    eventful_in(paper, 2000, 32767, 1000, 1000);
-    eventful_in(paper, 2000, 32768, 999, 1000);
-    eventful_in(paper, 2000, 32768, 1000, 999);
-    eventful_in(b"H 2 1 1\nG 0\nU 0 0 0\nZ 20\n", 2000, 32768, 1000, 1000);
+    eventful_in(Course::Full, paper, 1999, 32768, 1000, 1000);
+    eventful_in(Course::Full, paper, 2000, 32767, 1000, 1000);
+    eventful_in(Course::Full, paper, 2000, 32768, 999, 1000);
+    eventful_in(Course::Full, paper, 2000, 32768, 1000, 999);
     eventful_in(
+        Course::Full,
+        b"H 2 1 1\nG 0\nU 0 0 0\nZ 20\n",
+        2000,
+        32768,
+        1000,
+        1000,
+    );
+    eventful_in(
+        Course::Full,
         b"H 1 1 1\nG 0\nA 0 0 -9223372036854775808\nZ 39\n",
         2000,
         32768,
         1000,
         1000,
     );
-    eventful_in(paper, 2000, 32768, 1000, 1000);
-    eventful_in(paper, 2000, 32768, 1000, 1001);
+    eventful_in(Course::Full, paper, 2000, 32768, 1000, 1000);
+    eventful_in(Course::Full, paper, 2000, 32768, 1000, 1001);
+    eventful_in(Course::Short, paper, 2000, 32768, 1000, 1000);
+    eventful_in(
+        Course::Short,
+        b"H 3 1 1\nG -\nZ 12\n",
+        2000,
+        32768,
+        1000,
+        1000,
+    );
 }
 
 fn main() {
@@ -519,8 +586,10 @@ fn main() {
     io::write_all(STDOUT_FILENO, b"rows of records\n");
     rows();
     io::write_all(STDOUT_FILENO, b"the events of a trace\n");
-    part(paper);
-    part(b"Z 0\n");
+    part(Course::Full, paper);
+    part(Course::Full, b"Z 0\n");
+    part(Course::Short, paper);
+    part(Course::Short, b"H 1 5 1\nG -\nK 0 0\nZ 18\n");
     steps();
     fills();
     traces(paper);

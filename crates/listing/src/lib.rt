@@ -2,6 +2,7 @@
 // Where less room remains than a line may need, nothing of it is written.
 use rules::Cached;
 use rules::Counts;
+use rules::Course;
 use rules::Main;
 use rules::Memories;
 use rules::Value;
@@ -157,7 +158,7 @@ fn write_copies(out: &mut [u8], copies: [Cached; 128], n: usize, m: usize) -> us
 pub fn write_memories(out: &mut [u8], n: usize, h: Counts, m: Memories) -> usize
     ensures { λ r. ⌜ Wrote (writeAll (linesFor n h m)) (now (out .entry)) r (now (out .exit)) ⌝ }
 {
-    if !rules::is_allowed(h) {
+    if !rules::is_allowed(Course::Full, h) {
         return 0;
     }
     let main = m.main;

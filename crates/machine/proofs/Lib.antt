@@ -5,3 +5,4 @@ pub mod Tallies
 pub mod Running
 pub mod Copies
 pub mod RowMarks
+pub mod Courses

@@ -10,7 +10,7 @@ use borrow.Author.Tests.{le-leb, lt-leb}
 use Rattle.rules.specs.declared.Event.{Event}
 use Rattle.rules.specs.declared.Kind.{Kind}
 use Rattle.rules.specs.Events.{K, N, letter, place, value, among, isLockLetter}
-use Rattle.rules.specs.Limits.{full, lineAfter, declared}
+use Rattle.rules.specs.Limits.{Limits, UpToFull, full, lineAfter, declared}
 use Rattle.rules.specs.Rules.{judge, answer, accepted, refused, said}
 use Rattle.rules.proofs.Letters.{eqb-turn}
 use Rattle.rules.proofs.Bounds.{allowed-bounds}
@@ -19,7 +19,7 @@ use Rattle.state.specs.State.{noHold, wordsIn}
 use Rattle.state.specs.Range.{inRange}
 use Rattle.state.specs.Step.{varOf, lockOf, stepState}
 use Rattle.state.specs.Computed.Places.{cellPlace, slotPlace}
-use Rattle.state.proofs.Kept.{range, room, within, up-to-full}
+use Rattle.state.proofs.Kept.{range, range-full, room, within}
 use Rattle.judging.specs.declared.OnSome.{OnSome}
 use Rattle.judging.specs.declared.Parts.{Parts}
 use Rattle.judging.specs.declared.Turn.{Turn}
@@ -32,40 +32,41 @@ use Rattle.machine.specs.Computed.Walk.{Turnable}
 use Rattle.machine.proofs.Steps.{step-ranged}
 
 -- 8
-pub step-out : (s : State) (e : Event) → inRange full s ≡ false → unchanged s (refused 8 0) ≡ stepped full s e
+pub step-out : (m : Limits) (s : State) (e : Event) → inRange m s ≡ false → unchanged s (refused 8 0) ≡ stepped m s e
 unfolding stepped
-step-out s e r = rw r refl
+step-out m s e r = rw r refl
 
 -- a lock's depth is at most the number of events
 pub shallow : (s : State) → inRange full s ≡ true → s .events < 2000 → (l : ℕ) → l < 8 → getD (s .holds) l noHold .depth < 2000
 shallow s r h l k = omega (arith, range full s r .hold l k .depth)
 
-module _ (s : State) (e : Event) (r : inRange full s ≡ true) where
-  answered : (n : ℕ) → answer full (s .counts) (wordsIn s) e ≡ n → stepWith s e n ≡ stepped full s e
-  answered n a = sym (step-ranged full s e r ∙ ap (λ (k : ℕ). stepWith s e k) a)
+module _ (m : Limits) (s : State) (e : Event) (u : UpToFull m) (r : inRange m s ≡ true) where
+  answered : (n : ℕ) → answer m (s .counts) (wordsIn s) e ≡ n → stepWith s e n ≡ stepped m s e
+  answered n a = sym (step-ranged m s e r ∙ ap (λ (k : ℕ). stepWith s e k) a)
 
-  -- 9
-  pub step-limit : 2000 ≤ s .events → unchanged s (refused 9 (lineAfter (s .counts) (s .events))) ≡ stepped full s e
-  step-limit h = answered 9 (unfold answer wordsIn in rw (le-leb 2000 (s .events) h) refl)
+  -- 9, or 25 of the short course
+  pub step-limit : (n : ℕ) → n ≡ m .excess → m .events ≤ s .events → unchanged s (refused n (lineAfter (s .counts) (s .events))) ≡ stepped m s e
+  step-limit zero x h = absurd (omega (arith, x, u .excess))
+  step-limit (suc n) x h = answered (suc n) (unfold answer wordsIn in rw (le-leb (m .events) (s .events) h) (sym x))
 
-  module _ (h : s .events < 2000) where
+  module _ (h : s .events < m .events) where
     -- 5
-    pub step-undeclared : declared (s .counts) e ≡ false → unchanged s (refused 5 (lineAfter (s .counts) (s .events))) ≡ stepped full s e
-    step-undeclared d = answered 5 (unfold answer wordsIn in rw (lt-leb 2000 (s .events) h, d) refl)
+    pub step-undeclared : declared (s .counts) e ≡ false → unchanged s (refused 5 (lineAfter (s .counts) (s .events))) ≡ stepped m s e
+    step-undeclared d = answered 5 (unfold answer wordsIn in rw (lt-leb (m .events) (s .events) h, d) refl)
 
     module _ (d : declared (s .counts) e ≡ true) where
       pub turnable : Turnable s e
-      turnable = record { ranged = r; room = h; within = within (s .counts) e (room full (s .counts) up-to-full (range full s r .counts)) d }
+      turnable = record { ranged = range-full m s u r; room = omega (arith, h, u .events); within = within (s .counts) e (room m (s .counts) u (range m s r .counts)) d }
 
-      row : answer full (s .counts) (wordsIn s) e ≡ judge (s .counts) (wordsIn s) e
-      row = unfold answer wordsIn in rw (lt-leb 2000 (s .events) h, d) refl
+      row : answer m (s .counts) (wordsIn s) e ≡ judge (s .counts) (wordsIn s) e
+      row = unfold answer wordsIn in rw (lt-leb (m .events) (s .events) h, d) refl
 
       -- the row
-      pub step-broken : (n : ℕ) → n ≡ judge (s .counts) (wordsIn s) e → (n ≡ 0 → ⊥) → unchanged s (refused n (lineAfter (s .counts) (s .events))) ≡ stepped full s e
+      pub step-broken : (n : ℕ) → n ≡ judge (s .counts) (wordsIn s) e → (n ≡ 0 → ⊥) → unchanged s (refused n (lineAfter (s .counts) (s .events))) ≡ stepped m s e
       step-broken zero q z = absurd (z refl)
       step-broken (suc n) q z = answered (suc n) (row ∙ sym q)
 
-      pub step-kept : (n : ℕ) → n ≡ judge (s .counts) (wordsIn s) e → n ≡ 0 → {s′ : State} → s′ ≡ stepState s e → _≡_ {A = Answer} (record { verdict = said accepted; state = s′ }) (stepped full s e)
+      pub step-kept : (n : ℕ) → n ≡ judge (s .counts) (wordsIn s) e → n ≡ 0 → {s′ : State} → s′ ≡ stepState s e → _≡_ {A = Answer} (record { verdict = said accepted; state = s′ }) (stepped m s e)
       step-kept n q z p = (λ j. record { verdict = said accepted; state = p j }) ∙ answered 0 (row ∙ sym q ∙ z)
 
 -- ---- a turn

@@ -7,15 +7,17 @@ use lib.IntN.{ℤ}
 use lib.ListN.{length, replicate}
 use borrow.Author.Tests.{eq-eqb, ne-eqb}
 use Rattle.rules.specs.declared.Counts.{Counts}
+use Rattle.rules.specs.declared.Course.the-variants.{Full}
 use Rattle.rules.specs.declared.Verdict.{Verdict}
 use Rattle.rules.specs.declared.Verdict.the-variants as verdict
 use Rattle.rules.specs.Limits.{full, allowed}
 use Rattle.rules.specs.Memories.{memoriesOf, noMemories}
 use Rattle.rules.specs.Rules.{Words, wordsOf, Marked, accepted, refused, told, said, onMarked, markRead, Accepted}
+use Rattle.rules.proofs.Bounds.{up-to-full}
 use Rattle.records.specs.Records.{rowLines}
 use Rattle.state.specs.declared.State.{State}
 use Rattle.state.specs.State.{wordsIn, start}
-use Rattle.state.proofs.Kept.{in-range, range, up-to-full}
+use Rattle.state.proofs.Kept.{in-range, range}
 use Rattle.state.proofs.Stands.{Stands, stands-start, start-shape}
 use Rattle.machine.specs.declared.Answer.{Answer}
 use Rattle.machine.specs.declared.Outcome.{Outcome}
@@ -60,7 +62,7 @@ module _ (h : Counts) (ws : List ℕ) (xs : List ℤ) where
       from-start = ap (λ (z : State). walk full z (rowLines (z .counts) ws xs)) es ∙ unfold start in refl
 
       went : Walked full h [] (rowLines h ws xs) a
-      went = subst (λ (z : Answer). Walked full h [] (rowLines h ws xs) z) (sym from-start) (walked full h [] (rowLines h ws xs) (start h) up-to-full (unfold Accepted in tt) (stands-start full h ok))
+      went = subst (λ (z : Answer). Walked full h [] (rowLines h ws xs) z) (sym from-start) (walked full h [] (rowLines h ws xs) (start h) (up-to-full Full) (unfold Accepted in tt) (stands-start full h ok))
 
       said-is : told (a .verdict) ≡ rowMarked full h ws xs
       said-is = went .marked ∙ sym marked-is

@@ -10,6 +10,7 @@ use lib.Dec.{T, eqb, ltb}
 use lib.IntN.{ℤ, pos}
 use lib.ListN.{length, getD}
 use borrow.Author.Tests.{lt-ltb, le-ltb, le-leb, lt-leb}
+use Rattle.rules.specs.declared.Course.the-variants.{Full}
 use Rattle.rules.specs.declared.Event.{Event}
 use Rattle.rules.specs.Events.{A, B, K, L, N, P, R, S, U, W, letter, place, value, among, isLetter, isLockLetter}
 use Rattle.rules.specs.Limits.{full, lineAfter, declared}
@@ -18,7 +19,7 @@ use Rattle.rules.specs.Memories.{from}
 use Rattle.rules.proofs.From.{from-step, from-end}
 use Rattle.rules.proofs.Laws.{or-false-left, or-false-right}
 use Rattle.rules.proofs.Letters.{eqb-turn, declared-by}
-use Rattle.rules.proofs.Bounds.{allowed-bounds}
+use Rattle.rules.proofs.Bounds.{allowed-bounds, up-to-full}
 use Rattle.records.specs.Records.{letterIn, threadIn, placeIn, recordAt, rowLines, unpacked, eventAt}
 use Rattle.records.proofs.RecordLaws.{event-some, event-none, letter-is, place-is, value-is}
 use Rattle.state.specs.declared.State.{State}
@@ -27,7 +28,7 @@ use Rattle.state.specs.Range.{inRange}
 use Rattle.state.specs.Step.{Within, stepState}
 use Rattle.state.specs.Computed.Places.{Shape}
 use Rattle.state.proofs.StepWords.{step-shape}
-use Rattle.state.proofs.Kept.{range, room, within, up-to-full}
+use Rattle.state.proofs.Kept.{range, room, within}
 use Rattle.judging.proofs.Turned.{By}
 use Rattle.machine.specs.declared.Answer.{Answer}
 use Rattle.machine.specs.declared.Tally.{Tally}
@@ -173,7 +174,7 @@ module _ {s₀ : State} {ws : List ℕ} {xs : List ℤ} {s : State} {ts : List T
     pub known : (b : Bool) → isLockLetter k ≡ b → s .events < 2000 → t < s .counts .threads → v < cond b (s .counts .locks) (s .counts .variables) → Known
     known b e h p q =
         let d : declared (s .counts) here ≡ true = sym (declared-here b e) ∙ rw (lt-ltb t (s .counts .threads) p, lt-ltb v (cond b (s .counts .locks) (s .counts .variables)) q) refl in
-        record { room = h; declared = d; within = within (s .counts) here (room full (s .counts) up-to-full (range full s (r .ranged) .counts)) d }
+        record { room = h; declared = d; within = within (s .counts) here (room full (s .counts) (up-to-full Full) (range full s (r .ranged) .counts)) d }
 
     module _ (o : Known) where
       row-answer : answer full (s .counts) (wordsIn s) here ≡ judge (s .counts) (wordsIn s) here
@@ -192,7 +193,7 @@ module _ {s₀ : State} {ws : List ℕ} {xs : List ℤ} {s : State} {ts : List T
             variables = unfold stepState in (r .variables);
             locks = unfold stepState in (r .locks);
             shape = step-shape s here (r .shape);
-            ranged = step-in-range full s here up-to-full (r .shape) (r .ranged) a;
+            ranged = step-in-range full s here (up-to-full Full) (r .shape) (r .ranged) a;
             tallied = f;
             same = rw (add-one i) (ap (λ (j : ℕ). onwards (stepWith s here j) (λ y. walk full y rest)) (sym a) ∙ stepping);
           }) t′

@@ -28,7 +28,7 @@ use Rattle.machine.specs.Computed.Walk.{walk}
 
 -- ---- one step
 
--- a state in range: 9, 5 and the row
+-- a state in range: 9 (25), 5 and the row
 pub step-ranged : (m : Limits) (s : State) (e : Event) → inRange m s ≡ true → stepped m s e ≡ stepWith s e (answer m (s .counts) (wordsIn s) e)
 unfolding stepped
 step-ranged m s e r = rw r refl

@@ -1,4 +1,4 @@
--- One step over a state that a caller keeps: 8, 9, 5, then the row; and a sequence of steps.
+-- One step over a state that a caller keeps: 8, 9 (25 in the short course), 5, then the row; and a sequence of steps.
 use Prim.Native.Nat.{ℕ, zero, suc}
 use mathlib.Core.Bool.{cond}
 use mathlib.Core.List.{List, [], _∷_}
@@ -21,7 +21,7 @@ abbrev pub stepWith : State → Event → ℕ → Answer
 stepWith s e zero = record { verdict = said accepted; state = stepState s e }
 stepWith s e (suc n) = unchanged s (refused (suc n) (lineAfter (s .counts) (s .events)))
 
--- One step: 8 (line 0), 9, 5, row. A state in range that no events reach is answered by the same rows, read from its own contents.
+-- One step: 8 (line 0), 9 (25), 5, row. A state in range that no events reach is answered by the same rows, read from its own contents.
 unfoldable pub stepped : Limits → State → Event → Answer
 stepped m s e = cond (inRange m s) (stepWith s e (answer m (s .counts) (wordsIn s) e)) (unchanged s (refused 8 0))
 

@@ -5,7 +5,7 @@ ghost use mathlib.Core.Bool.{cond};
 ghost use Prim.Native.Nat.{_≤_, _<_};
 ghost use mathlib.Core.List.{[]};
 ghost use lib.ListN.{length};
-ghost use Rattle.rules.specs.Limits.{full};
+ghost use Rattle.rules.specs.Limits.{full, limitsOf};
 ghost use Rattle.rules.specs.Rules.{judge, accepted, refused, said};
 ghost use Rattle.rules.specs.Memories.{memoriesOf, noMemories};
 ghost use Rattle.state.specs.State.{wordsIn};
@@ -21,6 +21,7 @@ use judging::OnSome;
 use judging::Parts;
 use rules::Cached;
 use rules::Counts;
+use rules::Course;
 use rules::Event;
 use rules::Main;
 use rules::Memories;
@@ -330,7 +331,7 @@ pub fn mark_row(h: Counts, what: &[u32], value: &[Value]) -> Outcome
     if value.len() != what.len() {
         return refuse(7, 0);
     }
-    if !rules::is_allowed(h) {
+    if !rules::is_allowed(Course::Full, h) {
         return refuse(3, 1);
     }
     let s = state::initial(h);
@@ -440,18 +441,18 @@ fn take_turn(s: State, e: Event) -> Judged
     }
 }
 
-// One event: 8, 9, 5, then its row. A refused step hands the state back as it was.
-pub fn step(s: State, e: Event) -> Answer
-    ensures { λ r. ⌜ r ≡ stepped full s e ⌝ }
+// One event: 8, then 9 or in the short course 25, 5, then its row. A refused step hands the state back as it was.
+pub fn step(course: Course, s: State, e: Event) -> Answer
+    ensures { λ r. ⌜ r ≡ stepped (limitsOf course) s e ⌝ }
 {
-    if !state::in_range(s) {
+    if !state::in_range(course, s) {
         return unchanged(s, 8, 0);
     }
     let h = s.counts;
     let n = s.events;
     let line = rules::line_after(h, n);
-    if 2000 <= n {
-        return unchanged(s, 9, line);
+    if rules::most_events(course) <= n {
+        return unchanged(s, rules::excess_of(course), line);
     }
     if !rules::is_declared(h, e) {
         return unchanged(s, 5, line);

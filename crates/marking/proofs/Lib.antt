@@ -4,3 +4,4 @@ pub mod ReadRows
 pub mod Stays
 pub mod FullWith
 pub mod Narrow
+pub mod Courses

@@ -3,10 +3,10 @@
 use Prim.Native.Nat.{ℕ}
 use native.Mathlib.Omega.{arith}
 use mathlib.Core.Path.{_≡_, refl, sym, ap, subst, _∙_}
-use mathlib.Core.List.{List, [], _∷_, _++_, map, reverse, reverse-reverse}
+use mathlib.Core.List.{List, [], map, reverse, reverse-reverse}
 use mathlib.Core.Bool.{false, false≢true}
 use mathlib.Core.Logic.{_⊎_, inl, inr}
-use mathlib.Core.Option.{Option, none, some}
+use mathlib.Core.Option.{none, some}
 use lib.Dec.{T}
 use lib.ListN.{length, getD, length-reverse}
 use Rattle.rules.specs.declared.Event.{Event}
@@ -17,13 +17,14 @@ use Rattle.rules.specs.Rules.{Accepted, Marked, accepted, refused, answer, verd
 use Rattle.rules.specs.Widths.{narrow, fits, narrowed, AllWithin}
 use Rattle.rules.proofs.Readings.{past-accepted}
 use Rattle.rules.proofs.Widths.{all-within, within-at, Same, Wider, narrowed-marked}
-use Rattle.lines.specs.Lines.{before, splitOn}
+use Rattle.lines.specs.Lines.{before}
 use Rattle.trace.specs.Trace.{traceOf, eventsOf}
-use Rattle.trace.proofs.TraceLaws.{not-found}
-use Rattle.events.specs.Events.{partLines, readings}
+use Rattle.events.specs.Events.{partLines}
 use Rattle.events.proofs.WidthLaws.{readings-narrowed}
 use Rattle.marking.specs.Marking.{linesIn, markedOf, pastOf, eventsIn, readIn}
+use Rattle.marking.specs.Courses.{MarkedAlike}
 use Rattle.marking.specs.Narrow.{SameMarked, Widened}
+use Rattle.marking.proofs.Whole.{none-unfound}
 use Rattle.marking.proofs.FullWith.{trace-with, read-with}
 
 -- ---- the width changes the lines alone
@@ -45,24 +46,19 @@ narrow-past s = rw (narrow-trace s, narrow-lines s) refl
 
 -- ---- papers whose values all lie within 32 bits
 
-pub same-marked : (s : List ℕ) → AllWithin (narrow .width) (linesIn full s) → markedOf narrow s ≡ markedOf full s
-unfolding markedOf
-same-marked s a = narrow-marked s ∙ rw (all-within (narrow .width) (linesIn full s) a) refl
-
-pub same-past : (s : List ℕ) → AllWithin (narrow .width) (linesIn full s) → pastOf narrow s ≡ pastOf full s
-unfolding pastOf
-same-past s a = narrow-past s ∙ rw (all-within (narrow .width) (linesIn full s) a) refl
+pub same-marked : (s : List ℕ) → AllWithin (narrow .width) (linesIn full s) → MarkedAlike narrow s
+unfolding markedOf pastOf
+same-marked s a = record {
+  trace = narrow-trace s;
+  marked = narrow-marked s ∙ rw (all-within (narrow .width) (linesIn full s) a) refl;
+  past = narrow-past s ∙ rw (all-within (narrow .width) (linesIn full s) a) refl;
+}
 
 pub same-read : (s : List ℕ) → AllWithin (narrow .width) (linesIn full s) → readIn narrow s ≡ readIn full s
 unfolding readIn
 same-read s a = rw (narrow-lines s, all-within (narrow .width) (linesIn full s) a) (read-with (narrow .scratch) (narrow .width) 0 (linesIn full s))
 
 -- ---- every paper
-
--- a paper that is not found has no lines
-no-lines : (s : List ℕ) (n line : ℕ) → told (traceOf full s .verdict) ≡ refused n line → linesIn full s ≡ []
-unfolding linesIn readings partLines splitOn eventsOf
-no-lines s n line q = rw (not-found full s n line q) refl
 
 -- With values of 32 bits a paper has the same verdict after the same events, or 4 at the first line whose value lies outside 32 bits.
 pub narrow-or-wider : (s : List ℕ) → SameMarked s ⊎ Widened s
@@ -72,18 +68,13 @@ narrow-or-wider s = by (told (traceOf full s .verdict)) refl (narrowed-marked fu
     h : Counts
     h = traceOf full s .head
 
-    never : (es : List Event) (e : Event) (rs : List (Option Event)) → map some es ++ (some e ∷ rs) ≡ [] → ⊥
-    never [] e rs q = let z : _≡_ {A = ℕ} 0 1 = cc in omega arith
-    never (x ∷ es) e rs q = let z : _≡_ {A = ℕ} 0 1 = cc in omega arith
-
     by : (f : Marked) → told (traceOf full s .verdict) ≡ f → Same full (narrow .width) h [] (linesIn full s) ⊎ Wider full (narrow .width) h [] (linesIn full s)
         → SameMarked s ⊎ Widened s
     by f q (inl r) = inl (record {
       fitting = r .fitting (length (pastOf full s)) (omega arith);
-      marked = narrow-marked s ∙ ap (refusedOr (told (traceOf full s .verdict))) (r .narrow-marked);
-      past = narrow-past s ∙ r .narrow-past;
+      alike = record { trace = narrow-trace s; marked = narrow-marked s ∙ ap (refusedOr (told (traceOf full s .verdict))) (r .narrow-marked); past = narrow-past s ∙ r .narrow-past };
     })
-    by (refused n line) q (inr r) = absurd (never (r .earlier) (r .event) (r .rest) (sym (r .lines) ∙ no-lines s n line q))
+    by (refused n line) q (inr r) = absurd (none-unfound full s n line q (r .earlier) (some (r .event)) (r .rest) (r .lines))
     by accepted q (inr r) = inr (record {
       earlier = r .earlier;
       event = r .event;
@@ -108,5 +99,5 @@ wide-marked s e q o = by (narrow-or-wider s)
     by : SameMarked s ⊎ Widened s → Widened s
     by (inr r) = r
     by (inl r) =
-        let k : length (pastOf full s) ≡ length (pastOf narrow s) = ap length (sym (r .past)) in
+        let k : length (pastOf full s) ≡ length (pastOf narrow s) = ap length (sym (r .alike .past)) in
         absurd (false≢true (sym o ∙ within-at (narrow .width) (length (pastOf full s)) (linesIn full s) e (r .fitting) (ap (λ (i : ℕ). getD (linesIn full s) i none) k ∙ q)))

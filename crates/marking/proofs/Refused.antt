@@ -1,5 +1,5 @@
 -- The first bad event of a trace that is refused by 5 or by a row; and so, document 02 (a) and (d), what 15, 16 and 23 say of a paper.
-use Prim.Native.Nat.{ℕ, suc}
+use Prim.Native.Nat.{ℕ, suc, _<_}
 use native.Mathlib.Omega.{arith}
 use mathlib.Core.Path.{_≡_, refl, sym, ap, _∙_, subst}
 use mathlib.Core.Bool.{Bool, true, false, cond}
@@ -10,7 +10,7 @@ use lib.Dec.{T, leb}
 use Rattle.rules.specs.declared.Event.{Event}
 use Rattle.rules.specs.declared.Counts.{Counts}
 use Rattle.rules.specs.Events.{N, letter, among, is}
-use Rattle.rules.specs.Limits.{Limits, full, lineAfter, declared}
+use Rattle.rules.specs.Limits.{Limits, full, lineAfter, allowed, declared}
 use Rattle.rules.specs.Rules.{wordsOf, loc, onSome, breaks, rows, rowIn, judge, verdict, Marked, accepted, refused, told, numberIn, refusedOr, mark, markRead, FirstBad}
 use Rattle.rules.specs.Reading.{readFrom, stopFrom}
 use Rattle.rules.specs.DeadReads.{Dead}
@@ -42,80 +42,82 @@ either : (a b : Marked) (number line : ℕ) → refusedOr a b ≡ refused number
 either accepted b number line q = inr q
 either (refused n l) b number line q = inl q
 
--- A trace that is refused with none of 1, 2, 3 and 6, of finding it, and neither with 4 nor 9, of what ends the reading, has a first bad event
--- among the events that are read.
-pub first-bad : (s : List ℕ) (number line : ℕ) → (T (among (1 ∷ 2 ∷ 3 ∷ 6 ∷ 4 ∷ 9 ∷ []) number) → ⊥) → markedOf full s ≡ refused number line
-    → FirstBad full (traceOf full s .head) (readIn full s) number line
-unfolding markedOf readIn
-first-bad s number line o q = go (either (told (traceOf full s .verdict)) (markRead full (traceOf full s .head) [] (linesIn full s)) number line q)
-  where
-    h : Counts
-    h = traceOf full s .head
+-- by limits for which one event too many has a number
+module _ (m : Limits) (x : 0 < m .excess) where
+  -- A trace that is refused with none of 1, 2, 3 and 6, of finding it, nor with 4, of what ends the reading, nor over the limits, has a first bad event
+  -- among the events that are read.
+  pub first-bad : (s : List ℕ) (number line : ℕ) → (m .excess ≡ number → ⊥) → (T (among (1 ∷ 2 ∷ 3 ∷ 6 ∷ 4 ∷ []) number) → ⊥) → markedOf m s ≡ refused number line
+      → FirstBad m (traceOf m s .head) (readIn m s) number line
+  unfolding markedOf readIn
+  first-bad s number line z o q = go (either (told (traceOf m s .verdict)) (markRead m (traceOf m s .head) [] (linesIn m s)) number line q)
+    where
+      h : Counts
+      h = traceOf m s .head
 
-    on : (mark full h (readFrom full 0 (linesIn full s)) ≡ refused number line) ⊎ (stopFrom full h 0 (linesIn full s) ≡ refused number line) → FirstBad full h (readFrom full 0 (linesIn full s)) number line
-    on (inl r) = mark-refuses full h (readFrom full 0 (linesIn full s)) number line r
-    on (inr r) = absurd (o (stops (stop-number full h 0 (linesIn full s) number line r)))
-      where
-        stops : (number ≡ 4) ⊎ (number ≡ 9) → T (among (1 ∷ 2 ∷ 3 ∷ 6 ∷ 4 ∷ 9 ∷ []) number)
-        stops (inl p) = rw p tt
-        stops (inr p) = rw p tt
+      on : (mark m h (readFrom m 0 (linesIn m s)) ≡ refused number line) ⊎ (stopFrom m h 0 (linesIn m s) ≡ refused number line) → FirstBad m h (readFrom m 0 (linesIn m s)) number line
+      on (inl r) = mark-refuses m h (readFrom m 0 (linesIn m s)) number line r
+      on (inr r) = absurd (stops (stop-number m h 0 (linesIn m s) number line r))
+        where
+          stops : (number ≡ 4) ⊎ (number ≡ m .excess) → ⊥
+          stops (inl p) = o (rw p tt)
+          stops (inr p) = z (sym p)
 
-    go : (told (traceOf full s .verdict) ≡ refused number line) ⊎ (markRead full h [] (linesIn full s) ≡ refused number line) → FirstBad full h (readFrom full 0 (linesIn full s)) number line
-    go (inl r) = absurd (o (each-among (among (1 ∷ 2 ∷ 3 ∷ 6 ∷ 4 ∷ 9 ∷ [])) (1 ∷ 2 ∷ 3 ∷ 6 ∷ []) number tt (found-number full s number line r)))
-    go (inr r) = on (either (mark full h (readFrom full 0 (linesIn full s))) (stopFrom full h 0 (linesIn full s)) number line (unfold mark in sym (marked-apart full h [] (linesIn full s) (omega arith)) ∙ r))
+      go : (told (traceOf m s .verdict) ≡ refused number line) ⊎ (markRead m h [] (linesIn m s) ≡ refused number line) → FirstBad m h (readFrom m 0 (linesIn m s)) number line
+      go (inl r) = absurd (unfound (found-number m s number line r))
+        where
+          unfound : T (among (1 ∷ 2 ∷ 3 ∷ 6 ∷ []) number) ⊎ ((c : Counts) × (allowed full c ≡ true) × (allowed m c ≡ false) × (number ≡ m .excess) × (line ≡ 1)) → ⊥
+          unfound (inl p) = o (each-among (among (1 ∷ 2 ∷ 3 ∷ 6 ∷ 4 ∷ [])) (1 ∷ 2 ∷ 3 ∷ 6 ∷ []) number tt p)
+          unfound (inr p) = z (sym (p .3))
+      go (inr r) = on (either (mark m h (readFrom m 0 (linesIn m s))) (stopFrom m h 0 (linesIn m s)) number line (unfold mark in sym (marked-apart m h [] (linesIn m s) x) ∙ r))
 
--- No paper is refused with 15 or 16 at an L: its first bad event is an N.
-pub unlock-line : (s : List ℕ) (number line : ℕ) → (number ≡ 15) ⊎ (number ≡ 16) → markedOf full s ≡ refused number line
-    → (b : FirstBad full (traceOf full s .head) (readIn full s) number line) × T (is (N ∷ []) (b .event))
-unlock-line s number line o q = (b, unlock-refused full (traceOf full s .head) (readIn full s) number line (omega arith) (other o) o b)
-  where
-    other : (number ≡ 15) ⊎ (number ≡ 16) → 9 ≡ number → ⊥
-    other (inl p) i = omega (arith, i, p)
-    other (inr p) i = omega (arith, i, p)
+  -- No paper is refused with 15 or 16 at an L: its first bad event is an N. (Here and below, where one event too many has another number.)
+  pub unlock-line : (s : List ℕ) (number line : ℕ) → (m .excess ≡ number → ⊥) → (number ≡ 15) ⊎ (number ≡ 16) → markedOf m s ≡ refused number line
+      → (b : FirstBad m (traceOf m s .head) (readIn m s) number line) × T (is (N ∷ []) (b .event))
+  unlock-line s number line z o q = (b, unlock-refused m (traceOf m s .head) (readIn m s) number line x z o b)
+    where
+      ofEvent : (number ≡ 15) ⊎ (number ≡ 16) → T (among (1 ∷ 2 ∷ 3 ∷ 6 ∷ 4 ∷ []) number) → ⊥
+      ofEvent (inl p) i = subst (λ (n : ℕ). T (among (1 ∷ 2 ∷ 3 ∷ 6 ∷ 4 ∷ []) n)) p i
+      ofEvent (inr p) i = subst (λ (n : ℕ). T (among (1 ∷ 2 ∷ 3 ∷ 6 ∷ 4 ∷ []) n)) p i
 
-    ofEvent : (number ≡ 15) ⊎ (number ≡ 16) → T (among (1 ∷ 2 ∷ 3 ∷ 6 ∷ 4 ∷ 9 ∷ []) number) → ⊥
-    ofEvent (inl p) i = subst (λ (n : ℕ). T (among (1 ∷ 2 ∷ 3 ∷ 6 ∷ 4 ∷ 9 ∷ []) n)) p i
-    ofEvent (inr p) i = subst (λ (n : ℕ). T (among (1 ∷ 2 ∷ 3 ∷ 6 ∷ 4 ∷ 9 ∷ []) n)) p i
+      b : FirstBad m (traceOf m s .head) (readIn m s) number line
+      b = first-bad s number line z (ofEvent o) q
 
-    b : FirstBad full (traceOf full s .head) (readIn full s) number line
-    b = first-bad s number line (ofEvent o) q
+  -- A paper that is refused with 16 is so at an N of a thread that has an outstanding store whose assign is made.
+  pub unwritten-line : (s : List ℕ) (line : ℕ) → (m .excess ≡ 16 → ⊥) → markedOf m s ≡ refused 16 line
+      → (b : FirstBad m (traceOf m s .head) (readIn m s) 16 line) × T (is (N ∷ []) (b .event)) × (onSome (traceOf m s .head) (λ t v. madeUnwritten t v (reverse (b .before))) (b .event) ≡ true)
+  unwritten-line s line z q = (b, n, sym (unlock-exact h es (accepted-legal m h es x (b .clean)) (b .event) n) ∙ broken)
+    where
+      u : (b : FirstBad m (traceOf m s .head) (readIn m s) 16 line) × T (is (N ∷ []) (b .event))
+      u = unlock-line s 16 line z (inr refl) q
 
--- A paper that is refused with 16 is so at an N of a thread that has an outstanding store whose assign is made.
-pub unwritten-line : (s : List ℕ) (line : ℕ) → markedOf full s ≡ refused 16 line
-    → (b : FirstBad full (traceOf full s .head) (readIn full s) 16 line) × T (is (N ∷ []) (b .event)) × (onSome (traceOf full s .head) (λ t v. madeUnwritten t v (reverse (b .before))) (b .event) ≡ true)
-unwritten-line s line q = (b, n, sym (unlock-exact h es (accepted-legal full h es (omega arith) (b .clean)) (b .event) n) ∙ broken)
-  where
-    u : (b : FirstBad full (traceOf full s .head) (readIn full s) 16 line) × T (is (N ∷ []) (b .event))
-    u = unlock-line s 16 line (inr refl) q
+      b : FirstBad m (traceOf m s .head) (readIn m s) 16 line
+      b = u .0
 
-    b : FirstBad full (traceOf full s .head) (readIn full s) 16 line
-    b = u .0
+      n : T (is (N ∷ []) (b .event))
+      n = u .1
 
-    n : T (is (N ∷ []) (b .event))
-    n = u .1
+      h : Counts
+      h = traceOf m s .head
 
-    h : Counts
-    h = traceOf full s .head
+      es : List Event
+      es = reverse (b .before)
 
-    es : List Event
-    es = reverse (b .before)
+      broken : breaks 16 h (wordsOf es) (b .event) ≡ true
+      broken = unfold judge verdict in broken-is (rowIn rows (letter (b .event .kind))) h (wordsOf es) (b .event) 15 (row-refused m h (wordsOf es) (b .event) 16 z (λ p. omega (arith, p)) (b .number-is) .1)
 
-    broken : breaks 16 h (wordsOf es) (b .event) ≡ true
-    broken = unfold judge verdict in broken-is (rowIn rows (letter (b .event .kind))) h (wordsOf es) (b .event) 15 (row-refused full h (wordsOf es) (b .event) 16 (λ p. omega (arith, p)) (λ p. omega (arith, p)) (b .number-is) .1)
+  -- A paper that is refused with 23 is so at an event that leaves a read which can never be loaded.
+  pub dead-line : (s : List ℕ) (line : ℕ) → (m .excess ≡ 23 → ⊥) → markedOf m s ≡ refused 23 line
+      → (b : FirstBad m (traceOf m s .head) (readIn m s) 23 line) × Dead (traceOf m s .head) (b .event .thread) (loc (b .event)) (b .event ∷ reverse (b .before))
+  dead-line s line z q = (b, refused-dead h es (b .event) (accepted-legal m h es x (b .clean)) (row .0) (row .1))
+    where
+      b : FirstBad m (traceOf m s .head) (readIn m s) 23 line
+      b = first-bad s 23 line z (λ o. o) q
 
--- A paper that is refused with 23 is so at an event that leaves a read which can never be loaded.
-pub dead-line : (s : List ℕ) (line : ℕ) → markedOf full s ≡ refused 23 line
-    → (b : FirstBad full (traceOf full s .head) (readIn full s) 23 line) × Dead (traceOf full s .head) (b .event .thread) (loc (b .event)) (b .event ∷ reverse (b .before))
-dead-line s line q = (b, refused-dead h es (b .event) (accepted-legal full h es (omega arith) (b .clean)) (row .0) (row .1))
-  where
-    b : FirstBad full (traceOf full s .head) (readIn full s) 23 line
-    b = first-bad s 23 line (λ o. o) q
+      h : Counts
+      h = traceOf m s .head
 
-    h : Counts
-    h = traceOf full s .head
+      es : List Event
+      es = reverse (b .before)
 
-    es : List Event
-    es = reverse (b .before)
-
-    row : (declared h (b .event) ≡ true) × (judge h (wordsOf es) (b .event) ≡ 23)
-    row = unfold verdict in row-refused full h (wordsOf es) (b .event) 23 (λ p. omega (arith, p)) (λ p. omega (arith, p)) (b .number-is)
+      row : (declared h (b .event) ≡ true) × (judge h (wordsOf es) (b .event) ≡ 23)
+      row = unfold verdict in row-refused m h (wordsOf es) (b .event) 23 z (λ p. omega (arith, p)) (b .number-is)

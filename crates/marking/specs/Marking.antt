@@ -6,7 +6,7 @@ use mathlib.Core.Option.{Option}
 use lib.IntN.{ℤ}
 use lib.ListN.{length}
 use Rattle.rules.specs.declared.Event.{Event}
-use Rattle.rules.specs.Limits.{Limits, full, firstLine}
+use Rattle.rules.specs.Limits.{Limits, firstLine}
 use Rattle.rules.specs.Rules.{wordsOf, Marked, accepted, told, said, onMarked, refusedOr, markRead, pastRead}
 use Rattle.rules.specs.Memories.{memoriesOf, noMemories}
 use Rattle.rules.specs.Reading.{readFrom}
@@ -20,7 +20,7 @@ use Rattle.marking.specs.declared.Marking.{Marking}
 unfoldable pub linesIn : Limits → List ℕ → List (Option Event)
 linesIn m s = readings (m .width) (firstLine (traceOf m s .head)) (partLines (eventsOf s (traceOf m s)))
 
--- Whole paper: 1, 2, 3, 6, then line by line 4, 9, 5 and the row.
+-- Whole paper: 1, 2, 3 (25), 6, then line by line 4, 9 (25), 5 and the row.
 unfoldable pub markedOf : Limits → List ℕ → Marked
 markedOf m s = refusedOr (told (traceOf m s .verdict)) (markRead m (traceOf m s .head) [] (linesIn m s))
 
@@ -49,8 +49,8 @@ unfoldable pub readIn : Limits → List ℕ → List Event
 readIn m s = readFrom m 0 (linesIn m s)
 
 -- What is said of a trace, and what the two rows then hold at their front: the records of the events that were read, all of a trace that is accepted.
-pub record Marks (s whats : List ℕ) (values : List ℤ) (r : Marking) (whats′ : List ℕ) (values′ : List ℤ) : Type 0 where
-  pub says : told (r .verdict) ≡ markedOf full s
-  pub gives : r ≡ markingOf full s
-  pub keeps : whats′ ≡ over (map packed (readIn full s)) whats
-  pub beside : values′ ≡ over (map valueIn (readIn full s)) values
+pub record Marks (m : Limits) (s whats : List ℕ) (values : List ℤ) (r : Marking) (whats′ : List ℕ) (values′ : List ℤ) : Type 0 where
+  pub says : told (r .verdict) ≡ markedOf m s
+  pub gives : r ≡ markingOf m s
+  pub keeps : whats′ ≡ over (map packed (readIn m s)) whats
+  pub beside : values′ ≡ over (map valueIn (readIn m s)) values

@@ -14,6 +14,7 @@ use Rattle.rules.specs.Rules.{Accepted, refused, verdict, unless, markRead, pas
 use Rattle.rules.specs.Widths.{narrow, fits, AllWithin}
 use Rattle.trace.specs.Trace.{traceOf}
 use Rattle.marking.specs.Marking.{linesIn, markedOf, pastOf, eventsIn}
+use Rattle.marking.specs.Courses.{MarkedAlike}
 
 -- the values of the lines that are marked, up to the one that is refused, lie within 32 bits
 abbrev pub MarkedWithin : List ℕ → Type 0
@@ -22,8 +23,7 @@ MarkedWithin s = AllWithin (narrow .width) (take (suc (length (pastOf full s))) 
 -- What is marked lies within 32 bits, and the verdict and the events before it are those that values of 32 bits give.
 pub record SameMarked (s : List ℕ) : Type 0 where
   pub fitting : MarkedWithin s
-  pub marked : markedOf narrow s ≡ markedOf full s
-  pub past : pastOf narrow s ≡ pastOf full s
+  pub alike : MarkedAlike narrow s
 
 -- With values of 32 bits the paper is refused with 4 at its first line that is an event with a value outside 32 bits. The events before it are
 -- accepted, and with values of 64 bits the paper is marked by its events from that line on.

@@ -2,12 +2,14 @@
 ghost use mathlib.Core.Path.{_≡_};
 ghost use Prim.Native.Nat.{_≤_};
 ghost use lib.ListN.{length};
+ghost use Rattle.rules.specs.Limits.{limitsOf};
 ghost use Rattle.rules.specs.Rules.{refused};
 ghost use Rattle.marking.specs.Marking.{refusedWith, Marks};
 ghost use Rattle.marking.specs.Computed.Rows.{readMarking};
 use events::Read;
 use rules::Cached;
 use rules::Counts;
+use rules::Course;
 use rules::Main;
 use rules::Memories;
 use rules::Value;
@@ -77,11 +79,16 @@ fn mark_read(h: Counts, guards: Guards, read: Read, what: &[u32], value: &[Value
     }
 }
 
-// Marks a whole trace: 1, 2, 3, 6, then line by line 4, 9, 5 and the row. The rows are room for the records of its events.
-pub fn mark(bytes: &[u8], what: &mut [u32; 2000], value: &mut [Value; 2000]) -> Marking
-    ensures { λ r. ⌜ Marks (now (bytes .entry)) (now (what .entry)) (now (value .entry)) r (now (what .exit)) (now (value .exit)) ⌝ }
+// Marks a whole trace: 1, 2, 3, over the limits of the course, 6, then line by line 4, one event too many, 5 and the row. The rows are room for the records of its events.
+pub fn mark(
+    course: Course,
+    bytes: &[u8],
+    what: &mut [u32; 2000],
+    value: &mut [Value; 2000],
+) -> Marking
+    ensures { λ r. ⌜ Marks (limitsOf course) (now (bytes .entry)) (now (what .entry)) (now (value .entry)) r (now (what .exit)) (now (value .exit)) ⌝ }
 {
-    let t = trace::find(bytes);
+    let t = trace::find(course, bytes);
     let found = t.verdict;
     if let Verdict::Refused(number, line) = found {
         return refuse(number, line);
@@ -89,7 +96,7 @@ pub fn mark(bytes: &[u8], what: &mut [u32; 2000], value: &mut [Value; 2000]) -> 
     let h = t.head;
     let from = t.from;
     let to = t.to;
-    let read = events::read_lines(h, &bytes[..to], from, what, value);
+    let read = events::read_lines(course, h, &bytes[..to], from, what, value);
     let guards = t.guards;
     mark_read(h, guards, read, what, value)
 }

@@ -12,7 +12,7 @@ use Rattle.rules.specs.declared.Counts.{Counts}
 use Rattle.rules.specs.Events.{of, locks}
 use Rattle.rules.specs.Limits.{Limits, firstLine}
 use Rattle.rules.specs.Words.{locksBy}
-use Rattle.rules.proofs.Bounds.{allowed-within, first-line-high}
+use Rattle.rules.proofs.Bounds.{declares, first-line-high}
 use Rattle.rules.proofs.Laws as Rules
 use Rattle.rules.proofs.Marking.{mark-accepts}
 use Rattle.decimal.specs.Text.{over}
@@ -126,7 +126,7 @@ module _ (m : Limits) (h : Counts) (g : Guards) (events : List Event) (a : Accep
   pub small : denial h guard events ≡ fit → All Small (order h events)
   small f =
       let k = a .limits .threads in
-      small-all h events (omega (arith, allowed-within m h (a .head) .0)) (trace-declared m h events a) few (order h events) (whole .listed f .sound)
+      small-all h events (omega (arith, declares m h (a .head) .threads)) (trace-declared m h events a) few (order h events) (whole .listed f .sound)
 
   pub fit-codes : denial h guard events ≡ fit → map entryIn (entriesFor h events) ≡ order h events
   unfolding entriesFor

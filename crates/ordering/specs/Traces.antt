@@ -5,7 +5,7 @@ use mathlib.Core.Bool.{cond}
 use mathlib.Core.List.{List, map}
 use lib.IntN.{ℤ}
 use lib.ListN.{length}
-use Rattle.rules.specs.Limits.{Limits, full, orderShort}
+use Rattle.rules.specs.Limits.{Limits, orderShort}
 use Rattle.rules.specs.Rules.{refused, told, onMarked}
 use Rattle.decimal.specs.Text.{over}
 use Rattle.records.specs.Records.{packed, valueIn}
@@ -30,9 +30,9 @@ abbrev pub SerialTrace : Limits → List ℕ → Ordering → List ℕ → Type 
 SerialTrace m s o list′ = SerialOrder (traceOf m s .head) (traceOf m s .guards) (eventsIn m s) o list′
 
 -- a whole trace, marked and ordered; 7 before all, and nothing is touched after it
-pub record OrdersTrace (s whats : List ℕ) (values : List ℤ) (list scratch : List ℕ) (r : Outcome) (whats′ : List ℕ) (values′ : List ℤ) (list′ scratch′ : List ℕ) : Type 0 where
-  pub says : told (r .marking .verdict) ≡ cond (orderShort full (length list) (length scratch)) (refused 7 0) (markedOf full s)
-  pub marks : r .marking ≡ cond (orderShort full (length list) (length scratch)) (refusedWith (refused 7 0)) (markingOf full s)
-  pub keeps : whats′ ≡ cond (orderShort full (length list) (length scratch)) whats (over (map packed (readIn full s)) whats)
-  pub beside : values′ ≡ cond (orderShort full (length list) (length scratch)) values (over (map valueIn (readIn full s)) values)
-  pub gives : Given (cond (orderShort full (length list) (length scratch)) NoOrder (orderingOf full s)) (entriesOf full s) list scratch (r .ordering) list′ scratch′
+pub record OrdersTrace (m : Limits) (s whats : List ℕ) (values : List ℤ) (list scratch : List ℕ) (r : Outcome) (whats′ : List ℕ) (values′ : List ℤ) (list′ scratch′ : List ℕ) : Type 0 where
+  pub says : told (r .marking .verdict) ≡ cond (orderShort m (length list) (length scratch)) (refused 7 0) (markedOf m s)
+  pub marks : r .marking ≡ cond (orderShort m (length list) (length scratch)) (refusedWith (refused 7 0)) (markingOf m s)
+  pub keeps : whats′ ≡ cond (orderShort m (length list) (length scratch)) whats (over (map packed (readIn m s)) whats)
+  pub beside : values′ ≡ cond (orderShort m (length list) (length scratch)) values (over (map valueIn (readIn m s)) values)
+  pub gives : Given (cond (orderShort m (length list) (length scratch)) NoOrder (orderingOf m s)) (entriesOf m s) list scratch (r .ordering) list′ scratch′

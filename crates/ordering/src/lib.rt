@@ -4,7 +4,7 @@ ghost use mathlib.Core.Path.{_≡_};
 ghost use mathlib.Core.Bool.{false, cond};
 ghost use Prim.Native.Nat.{_≤_, _<_, _+_};
 ghost use lib.ListN.{length, replicate, take};
-ghost use Rattle.rules.specs.Limits.{full, orderShort, lineAfter};
+ghost use Rattle.rules.specs.Limits.{full, limitsOf, orderShort, lineAfter};
 ghost use Rattle.rules.specs.declared.Verdict.the-variants.{Refused};
 ghost use Rattle.rules.specs.Rules.{some};
 ghost use Rattle.records.specs.Records.{eventAt, rowEvents};
@@ -14,6 +14,7 @@ ghost use Rattle.ordering.specs.Computed.Parts.{Fits, past, guardCell, u
 ghost use Rattle.ordering.specs.Traces.{OrdersTrace};
 use marking::Marking;
 use rules::Counts;
+use rules::Course;
 use rules::Value;
 use rules::Verdict;
 use trace::Guards;
@@ -312,13 +313,14 @@ pub struct Outcome {
 
 // Marks a whole trace and orders its sections. 7 before all. The rows are room for the records of its events.
 pub fn order_trace(
+    course: Course,
     bytes: &[u8],
     what: &mut [u32; 2000],
     value: &mut [Value; 2000],
     list: &mut [u64],
     scratch: &mut [u64],
 ) -> Outcome
-    ensures { λ r. ⌜ OrdersTrace (now (bytes .entry)) (now (what .entry)) (now (value .entry)) (now (list .entry)) (now (scratch .entry)) r (now (what .exit)) (now (value .exit)) (now (list .exit)) (now (scratch .exit)) ⌝ }
+    ensures { λ r. ⌜ OrdersTrace (limitsOf course) (now (bytes .entry)) (now (what .entry)) (now (value .entry)) (now (list .entry)) (now (scratch .entry)) r (now (what .exit)) (now (value .exit)) (now (list .exit)) (now (scratch .exit)) ⌝ }
 {
     if rules::is_order_short(list.len(), scratch.len()) {
         let seven = marking::refuse(7, 0);
@@ -328,7 +330,7 @@ pub fn order_trace(
             ordering: nothing,
         };
     }
-    let m = marking::mark(bytes, what, value);
+    let m = marking::mark(course, bytes, what, value);
     let said = m.verdict;
     if let Verdict::Refused(_, _) = said {
         let nothing = Ordering::NoOrder;

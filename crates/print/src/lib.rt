@@ -1,14 +1,15 @@
 // Writes the listing of a trace to standard output.
 ghost use mathlib.Core.Path.{_≡_};
 ghost use lib.ListN.{length};
-ghost use Rattle.rules.specs.Limits.{full};
+ghost use Rattle.rules.specs.Limits.{limitsOf};
 ghost use Rattle.report.specs.Report.{listingOf};
 use libc::STDOUT_FILENO;
+use rules::Course;
 use rules::Value;
 
-// The listing of a trace; its length.
-pub fn print_listing(s: &[u8]) -> usize
-    ensures { λ r. ⌜ r ≡ length (listingOf full (now (s .entry))) ⌝ }
+// The listing of a trace of a course; its length.
+pub fn print_listing(course: Course, s: &[u8]) -> usize
+    ensures { λ r. ⌜ r ≡ length (listingOf (limitsOf course) (now (s .entry))) ⌝ }
 {
     let mut what: [u32; 2000] = [0; 2000];
     let mut values: [Value; 2000] = [0; 2000];
@@ -16,6 +17,7 @@ pub fn print_listing(s: &[u8]) -> usize
     let mut list = [0u64; 1000];
     let mut scratch = [0u64; 1000];
     let r = report::mark_lent(
+        course,
         s,
         2000,
         &mut what,

@@ -5,3 +5,4 @@ pub mod Briefed
 pub mod Theorems
 pub mod Same
 pub mod Narrow
+pub mod Courses

@@ -5,8 +5,9 @@ use mathlib.Core.Path.{_≡_, refl, sym, ap, _∙_}
 use mathlib.Core.Bool.{Bool, true, false, cond}
 use mathlib.Core.List.{List, [], _∷_, _++_}
 use lib.ListN.{length}
-use Rattle.rules.specs.Limits.{full}
+use Rattle.rules.specs.Limits.{Limits, UpToFull, full}
 use Rattle.rules.specs.Rules.{Marked, accepted, refused, onMarked, wordsOf, numberIn, lineIn}
+use Rattle.rules.proofs.Bounds.{allowed-full}
 use Rattle.decimal.specs.Text.{over, Wrote}
 use Rattle.trace.specs.Trace.{traceOf}
 use Rattle.marking.specs.declared.Marking.{Marking}
@@ -25,70 +26,72 @@ use Rattle.ordering.specs.Answer.{guardOf}
 use Rattle.ordering.proofs.Traces.{accepted-trace}
 use Rattle.report.specs.Report.{denialLines, orderLines, memoryLines, refusalLines, listingWith, listingOf, briefOf}
 
--- what comes behind the lines of the memories
-pub behind-order : (s : List ℕ) → markedOf full s ≡ accepted → Behind (orderLines full s)
-unfolding orderLines
-behind-order s a = by (traceOf full s .guards .given) (denial (traceOf full s .head) guard (eventsIn full s)) refl
-  where
-    guard : ℕ → ℕ
-    guard = guardOf (traceOf full s .guards .locks)
+-- by limits up to the full ones
+module _ (m : Limits) (u : UpToFull m) where
+  -- what comes behind the lines of the memories
+  pub behind-order : (s : List ℕ) → markedOf m s ≡ accepted → Behind (orderLines m s)
+  unfolding orderLines
+  behind-order s a = by (traceOf m s .guards .given) (denial (traceOf m s .head) guard (eventsIn m s)) refl
+    where
+      guard : ℕ → ℕ
+      guard = guardOf (traceOf m s .guards .locks)
 
-    by : (g : Bool) (d : Denial) → denial (traceOf full s .head) guard (eventsIn full s) ≡ d
-        → Behind (cond g (denialLines d (sectionLines (order (traceOf full s .head) (eventsIn full s)))) [])
-    by false d q = nothing
-    by true fit q =
-        sections (order (traceOf full s .head) (eventsIn full s)) (omega (arith, entries-room full (traceOf full s .head) guard (eventsIn full s) (accepted-trace s a) q))
-        (order-small full (traceOf full s .head) (eventsIn full s) (accepted-trace s a) guard q)
-    by true (denied number line) q = unordered line number
+      by : (g : Bool) (d : Denial) → denial (traceOf m s .head) guard (eventsIn m s) ≡ d
+          → Behind (cond g (denialLines d (sectionLines (order (traceOf m s .head) (eventsIn m s)))) [])
+      by false d q = nothing
+      by true fit q =
+          sections (order (traceOf m s .head) (eventsIn m s)) (omega (arith, entries-room m (traceOf m s .head) guard (eventsIn m s) (accepted-trace m u s a) q))
+          (order-small m (traceOf m s .head) (eventsIn m s) (accepted-trace m u s a) guard q)
+      by true (denied number line) q = unordered line number
 
--- ---- the lines of a listing
+  -- ---- the lines of a listing
 
-abbrev pub linesWith : List ℕ → List (List ℕ) → List (List ℕ)
-linesWith s ends = onMarked (markedOf full s) (memoryLines full s ++ ends) (refusalLines full s)
+  abbrev pub linesWith : List ℕ → List (List ℕ) → List (List ℕ)
+  linesWith s ends = onMarked (markedOf m s) (memoryLines m s ++ ends) (refusalLines m s)
 
-pub refused-lines : (s : List ℕ) (ends : List (List ℕ)) (number line : ℕ) → markedOf full s ≡ refused number line → refusedLine line number ∷ [] ≡ linesWith s ends
-unfolding refusalLines
-refused-lines s ends number line q = sym (rw q refl)
+  pub refused-lines : (s : List ℕ) (ends : List (List ℕ)) (number line : ℕ) → markedOf m s ≡ refused number line → refusedLine line number ∷ [] ≡ linesWith s ends
+  unfolding refusalLines
+  refused-lines s ends number line q = sym (rw q refl)
 
-pub accepted-lines : (s : List ℕ) (ends : List (List ℕ)) → markedOf full s ≡ accepted → memoryLines full s ++ ends ≡ linesWith s ends
-accepted-lines s ends q = ap (λ (k : Marked). onMarked k (memoryLines full s ++ ends) (refusalLines full s)) (sym q)
+  pub accepted-lines : (s : List ℕ) (ends : List (List ℕ)) → markedOf m s ≡ accepted → memoryLines m s ++ ends ≡ linesWith s ends
+  accepted-lines s ends q = ap (λ (k : Marked). onMarked k (memoryLines m s ++ ends) (refusalLines m s)) (sym q)
 
--- an accepted trace's marking
-pub marking-is : (s : List ℕ) (m : Marking) → markedOf full s ≡ accepted → m ≡ markingOf full s → m ≡ acceptedOf full s
-unfolding markingOf
-marking-is s m a q = rw a at q
+  -- an accepted trace's marking
+  pub marking-is : (s : List ℕ) (marking : Marking) → markedOf m s ≡ accepted → marking ≡ markingOf m s → marking ≡ acceptedOf m s
+  unfolding markingOf
+  marking-is s marking a q = rw a at q
 
--- the lines of the memories that are handed on are the trace's
-pub memory-lines : (s : List ℕ) (m : Marking) → markedOf full s ≡ accepted → m ≡ markingOf full s → linesFor (m .events) (m .head) (m .memories) ≡ memoryLines full s
-unfolding memoryLines acceptedOf
-memory-lines s m a q =
-    ap (λ (x : Marking). linesFor (x .events) (x .head) (x .memories)) (marking-is s m a q)
-    ∙ lines-are (length (eventsIn full s)) (traceOf full s .head) (wordsOf (pastOf full s)) (head-allowed s a)
+  -- the lines of the memories that are handed on are the trace's
+  pub memory-lines : (s : List ℕ) (marking : Marking) → markedOf m s ≡ accepted → marking ≡ markingOf m s → linesFor (marking .events) (marking .head) (marking .memories) ≡ memoryLines m s
+  unfolding memoryLines acceptedOf
+  memory-lines s marking a q =
+      ap (λ (x : Marking). linesFor (x .events) (x .head) (x .memories)) (marking-is s marking a q)
+      ∙ lines-are (length (eventsIn m s)) (traceOf m s .head) (wordsOf (pastOf m s)) (allowed-full m (traceOf m s .head) u (head-allowed m s a))
 
--- ---- their room
+  -- ---- their room
 
-pub lines-enough : (s : List ℕ) (ends : List (List ℕ)) → (markedOf full s ≡ accepted → Behind ends) → Enough (linesWith s ends)
-unfolding memoryLines refusalLines
-lines-enough s ends b = by (markedOf full s) refl
-  where
-    by : (k : Marked) → markedOf full s ≡ k → Enough (onMarked k (memoryLines full s ++ ends) (refusalLines full s))
-    by accepted q = room-enough (length (eventsIn full s)) (traceOf full s .head) (wordsOf (pastOf full s)) (events-few s) (head-allowed s q) ends (b q)
-    by (refused number line) q = room-refused (lineIn (markedOf full s)) (numberIn (markedOf full s))
+  pub lines-enough : (s : List ℕ) (ends : List (List ℕ)) → (markedOf m s ≡ accepted → Behind ends) → Enough (linesWith s ends)
+  unfolding memoryLines refusalLines
+  lines-enough s ends b = by (markedOf m s) refl
+    where
+      by : (k : Marked) → markedOf m s ≡ k → Enough (onMarked k (memoryLines m s ++ ends) (refusalLines m s))
+      by accepted q = room-enough (length (eventsIn m s)) (traceOf m s .head) (wordsOf (pastOf m s)) (events-few m u s) (allowed-full m (traceOf m s .head) u (head-allowed m s q)) ends (b q)
+      by (refused number line) q = room-refused (lineIn (markedOf m s)) (numberIn (markedOf m s))
 
--- 32,768 bytes are enough for the listing of any bytes
-pub listing-room : (s : List ℕ) → length (listingOf full s) ≤ full .output
-unfolding listingOf listingWith
-listing-room s = lines-enough s (orderLines full s) (behind-order s) .size
+  -- 32,768 bytes are enough for the listing of any bytes
+  pub listing-room : (s : List ℕ) → length (listingOf m s) ≤ full .output
+  unfolding listingOf listingWith
+  listing-room s = lines-enough s (orderLines m s) (behind-order s) .size
 
-pub brief-room : (s : List ℕ) → length (briefOf full s) ≤ full .output
-unfolding briefOf listingWith
-brief-room s = lines-enough s [] (λ a. nothing) .size
+  pub brief-room : (s : List ℕ) → length (briefOf m s) ≤ full .output
+  unfolding briefOf listingWith
+  brief-room s = lines-enough s [] (λ a. nothing) .size
 
--- what was written, and what the output holds then
-abbrev pub Printed : List ℕ → List (List ℕ) → ℕ → List ℕ → List ℕ → Type 0
-Printed s ends w out out′ = (w ≡ length (listingWith full s ends)) × (out′ ≡ over (listingWith full s ends) out)
+  -- what was written, and what the output holds then
+  abbrev pub Printed : List ℕ → List (List ℕ) → ℕ → List ℕ → List ℕ → Type 0
+  Printed s ends w out out′ = (w ≡ length (listingWith m s ends)) × (out′ ≡ over (listingWith m s ends) out)
 
-pub printed : (s : List ℕ) (ends ls : List (List ℕ)) (w : ℕ) (out out′ : List ℕ) → (markedOf full s ≡ accepted → Behind ends) → ls ≡ linesWith s ends
-    → full .output ≤ length out → Wrote (writeAll ls) out w out′ → Printed s ends w out out′
-unfolding listingWith
-printed s ends ls w out out′ b e l v = wrote-whole (linesWith s ends) out out′ w (lines-enough s ends b) l (wrote-as ls (linesWith s ends) out out′ w e v)
+  pub printed : (s : List ℕ) (ends ls : List (List ℕ)) (w : ℕ) (out out′ : List ℕ) → (markedOf m s ≡ accepted → Behind ends) → ls ≡ linesWith s ends
+      → full .output ≤ length out → Wrote (writeAll ls) out w out′ → Printed s ends w out out′
+  unfolding listingWith
+  printed s ends ls w out out′ b e l v = wrote-whole (linesWith s ends) out out′ w (lines-enough s ends b) l (wrote-as ls (linesWith s ends) out out′ w e v)

@@ -7,12 +7,22 @@ use Rattle.rules.specs.declared.Event.{Event}
 use Rattle.rules.specs.Limits.{Limits, full, fullWith, valueWidth}
 use Rattle.trace.specs.Trace.{traceOf}
 use Rattle.marking.specs.Marking.{markedOf, pastOf, eventsIn, acceptedOf, markingOf, readIn}
-use Rattle.marking.proofs.FullWith.{trace-with, scratch-marked, scratch-past, scratch-read}
+use Rattle.marking.specs.Courses.{MarkedAlike}
+use Rattle.marking.proofs.FullWith.{scratch-alike, scratch-read}
 use Rattle.ordering.specs.Traces.{orderingOf, entriesOf}
 use Rattle.report.specs.Same.{SameReport}
 use Rattle.report.specs.Report.{orderLines, memoryLines, refusalLines, listingWith, listingOf, briefOf, recordsAfter, whatsAfter, valuesAfter, countOf, reportOf}
 
-module _ (m : Limits) (s : List ℕ) (t : traceOf m s ≡ traceOf full s) (k : markedOf m s ≡ markedOf full s) (p : pastOf m s ≡ pastOf full s) where
+module _ (m : Limits) (s : List ℕ) (a : MarkedAlike m s) where
+  t : traceOf m s ≡ traceOf full s
+  t = a .trace
+
+  k : markedOf m s ≡ markedOf full s
+  k = a .marked
+
+  p : pastOf m s ≡ pastOf full s
+  p = a .past
+
   events : eventsIn m s ≡ eventsIn full s
   unfolding eventsIn
   events = ap (λ (es : List Event). reverse es) p
@@ -43,4 +53,4 @@ module _ (m : Limits) (s : List ℕ) (t : traceOf m s ≡ traceOf full s) (k : m
 -- Document 02 (k): "Give the same order from scratch of 1,000 numbers." Whatever scratch the limits ask for, 2,000 places as in document 01 or another
 -- number, a paper has the same verdict, order, listing and records, and the rows that are room for its records hold the same too.
 pub scratch-same : (k : ℕ) (s : List ℕ) → SameReport (fullWith k valueWidth) s × (readIn (fullWith k valueWidth) s ≡ readIn full s)
-scratch-same k s = (same-report (fullWith k valueWidth) s (trace-with k valueWidth s) (scratch-marked k s) (scratch-past k s), scratch-read k s)
+scratch-same k s = (same-report (fullWith k valueWidth) s (scratch-alike k s), scratch-read k s)

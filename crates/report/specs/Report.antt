@@ -5,7 +5,7 @@ use mathlib.Core.Bool.{Bool, cond, _||_}
 use mathlib.Core.List.{List, [], _∷_, _++_, map}
 use lib.IntN.{ℤ}
 use lib.ListN.{length}
-use Rattle.rules.specs.Limits.{Limits, full, lentShort, orderShort}
+use Rattle.rules.specs.Limits.{Limits, lentShort, orderShort}
 use Rattle.rules.specs.Memories.{memory, copies}
 use Rattle.rules.specs.Rules.{wordsOf, refused, told, said, numberIn, lineIn, onMarked}
 use Rattle.decimal.specs.Text.{over}
@@ -78,37 +78,37 @@ unfoldable pub reportOf : Limits → List ℕ → Ordering → List ℕ → Repo
 reportOf m s o text = record { verdict = said (markedOf m s); events = countOf m s; ordering = o; written = length text }
 
 -- 7, line 0: nothing else is said
-abbrev pub shortReport : Report
-shortReport = record { verdict = said (refused 7 0); events = 0; ordering = NoOrder; written = 0 }
+abbrev pub tooLittleReport : Report
+tooLittleReport = record { verdict = said (refused 7 0); events = 0; ordering = NoOrder; written = 0 }
 
 -- ---- where an order is wanted: so many places are lent for records, and these lists for output, order list and scratch
 
-abbrev pub short : Limits → ℕ → List ℕ → List ℕ → List ℕ → Bool
-short m places out list scratch = lentShort m places (length out) || orderShort m (length list) (length scratch)
+abbrev pub tooLittle : Limits → ℕ → List ℕ → List ℕ → List ℕ → Bool
+tooLittle m places out list scratch = lentShort m places (length out) || orderShort m (length list) (length scratch)
 
 -- 7 before all: after it nothing lent is touched.
-pub record Reports (s : List ℕ) (places : ℕ) (out list scratch : List ℕ) (r : Report) (out′ list′ scratch′ : List ℕ) : Type 0 where
-  pub told-is : told (r .verdict) ≡ cond (short full places out list scratch) (refused 7 0) (markedOf full s)
-  pub says : r ≡ cond (short full places out list scratch) shortReport (reportOf full s (orderingOf full s) (listingOf full s))
-  pub prints : out′ ≡ cond (short full places out list scratch) out (over (listingOf full s) out)
-  pub orders : Given (cond (short full places out list scratch) NoOrder (orderingOf full s)) (entriesOf full s) list scratch (r .ordering) list′ scratch′
+pub record Reports (m : Limits) (s : List ℕ) (places : ℕ) (out list scratch : List ℕ) (r : Report) (out′ list′ scratch′ : List ℕ) : Type 0 where
+  pub told-is : told (r .verdict) ≡ cond (tooLittle m places out list scratch) (refused 7 0) (markedOf m s)
+  pub says : r ≡ cond (tooLittle m places out list scratch) tooLittleReport (reportOf m s (orderingOf m s) (listingOf m s))
+  pub prints : out′ ≡ cond (tooLittle m places out list scratch) out (over (listingOf m s) out)
+  pub orders : Given (cond (tooLittle m places out list scratch) NoOrder (orderingOf m s)) (entriesOf m s) list scratch (r .ordering) list′ scratch′
 
 -- The same with the records, in two rows.
-pub record Fills (s whats : List ℕ) (values : List ℤ) (out list scratch : List ℕ) (r : Report) (whats′ : List ℕ) (values′ : List ℤ) (out′ list′ scratch′ : List ℕ) : Type 0 where
-  pub reports : Reports s (min (length whats) (length values)) out list scratch r out′ list′ scratch′
-  pub fills : whats′ ≡ cond (short full (min (length whats) (length values)) out list scratch) whats (whatsAfter full s whats)
-  pub beside : values′ ≡ cond (short full (min (length whats) (length values)) out list scratch) values (valuesAfter full s values)
+pub record Fills (m : Limits) (s whats : List ℕ) (values : List ℤ) (out list scratch : List ℕ) (r : Report) (whats′ : List ℕ) (values′ : List ℤ) (out′ list′ scratch′ : List ℕ) : Type 0 where
+  pub reports : Reports m s (min (length whats) (length values)) out list scratch r out′ list′ scratch′
+  pub fills : whats′ ≡ cond (tooLittle m (min (length whats) (length values)) out list scratch) whats (whatsAfter m s whats)
+  pub beside : values′ ≡ cond (tooLittle m (min (length whats) (length values)) out list scratch) values (valuesAfter m s values)
 
 -- The same with two rows that are room for the records: those of the events that were read stand at their front, after a refusal too.
-pub record Lends (s : List ℕ) (places : ℕ) (what : List ℕ) (value : List ℤ) (out list scratch : List ℕ) (r : Report) (what′ : List ℕ) (value′ : List ℤ) (out′ list′ scratch′ : List ℕ) : Type 0 where
-  pub reports : Reports s places out list scratch r out′ list′ scratch′
-  pub keeps : what′ ≡ cond (short full places out list scratch) what (over (map packed (readIn full s)) what)
-  pub beside : value′ ≡ cond (short full places out list scratch) value (over (map valueIn (readIn full s)) value)
+pub record Lends (m : Limits) (s : List ℕ) (places : ℕ) (what : List ℕ) (value : List ℤ) (out list scratch : List ℕ) (r : Report) (what′ : List ℕ) (value′ : List ℤ) (out′ list′ scratch′ : List ℕ) : Type 0 where
+  pub reports : Reports m s places out list scratch r out′ list′ scratch′
+  pub keeps : what′ ≡ cond (tooLittle m places out list scratch) what (over (map packed (readIn m s)) what)
+  pub beside : value′ ≡ cond (tooLittle m places out list scratch) value (over (map valueIn (readIn m s)) value)
 
 -- ---- where no order is wanted: 7 asks records and output alone
-pub record Briefs (s whats : List ℕ) (values : List ℤ) (out : List ℕ) (r : Report) (whats′ : List ℕ) (values′ : List ℤ) (out′ : List ℕ) : Type 0 where
-  pub told-is : told (r .verdict) ≡ cond (lentShort full (min (length whats) (length values)) (length out)) (refused 7 0) (markedOf full s)
-  pub says : r ≡ cond (lentShort full (min (length whats) (length values)) (length out)) shortReport (reportOf full s NoOrder (briefOf full s))
-  pub prints : out′ ≡ cond (lentShort full (min (length whats) (length values)) (length out)) out (over (briefOf full s) out)
-  pub fills : whats′ ≡ cond (lentShort full (min (length whats) (length values)) (length out)) whats (whatsAfter full s whats)
-  pub beside : values′ ≡ cond (lentShort full (min (length whats) (length values)) (length out)) values (valuesAfter full s values)
+pub record Briefs (m : Limits) (s whats : List ℕ) (values : List ℤ) (out : List ℕ) (r : Report) (whats′ : List ℕ) (values′ : List ℤ) (out′ : List ℕ) : Type 0 where
+  pub told-is : told (r .verdict) ≡ cond (lentShort m (min (length whats) (length values)) (length out)) (refused 7 0) (markedOf m s)
+  pub says : r ≡ cond (lentShort m (min (length whats) (length values)) (length out)) tooLittleReport (reportOf m s NoOrder (briefOf m s))
+  pub prints : out′ ≡ cond (lentShort m (min (length whats) (length values)) (length out)) out (over (briefOf m s) out)
+  pub fills : whats′ ≡ cond (lentShort m (min (length whats) (length values)) (length out)) whats (whatsAfter m s whats)
+  pub beside : values′ ≡ cond (lentShort m (min (length whats) (length values)) (length out)) values (valuesAfter m s values)

@@ -4,12 +4,14 @@ ghost use mathlib.Core.Path.{_≡_};
 ghost use mathlib.Core.List.{_++_};
 ghost use Prim.Native.Nat.{_≤_, min};
 ghost use lib.ListN.{length};
+ghost use Rattle.rules.specs.Limits.{limitsOf};
 ghost use Rattle.decimal.specs.Text.{over, Wrote};
 ghost use Rattle.listing.specs.Listing.{linesFor, writeAll};
-ghost use Rattle.report.specs.Report.{shortReport, Lends, Fills, Briefs};
+ghost use Rattle.report.specs.Report.{tooLittleReport, Lends, Fills, Briefs};
 ghost use Rattle.report.specs.Computed.Parts.{orderingLines};
 use ordering::Ordering;
 use rules::Counts;
+use rules::Course;
 use rules::Memories;
 use rules::Value;
 use rules::Verdict;
@@ -30,8 +32,8 @@ pub fn lesser(a: usize, b: usize) -> usize
 }
 
 // 7, line 0.
-fn short() -> Report
-    ensures { λ r. ⌜ r ≡ shortReport ⌝ }
+fn lent_short() -> Report
+    ensures { λ r. ⌜ r ≡ tooLittleReport ⌝ }
 {
     let seven = Verdict::Refused(7, 0);
     let nothing = Ordering::NoOrder;
@@ -101,6 +103,7 @@ fn write_listing(
 
 // Marks a whole trace, with its order and its listing, where so many places are lent for its records. 7 before all. The rows are room for the records.
 pub fn mark_lent(
+    course: Course,
     bytes: &[u8],
     places: usize,
     what: &mut [u32; 2000],
@@ -109,12 +112,12 @@ pub fn mark_lent(
     list: &mut [u64],
     scratch: &mut [u64],
 ) -> Report
-    ensures { λ r. ⌜ Lends (now (bytes .entry)) places (now (what .entry)) (now (value .entry)) (now (out .entry)) (now (list .entry)) (now (scratch .entry)) r (now (what .exit)) (now (value .exit)) (now (out .exit)) (now (list .exit)) (now (scratch .exit)) ⌝ }
+    ensures { λ r. ⌜ Lends (limitsOf course) (now (bytes .entry)) places (now (what .entry)) (now (value .entry)) (now (out .entry)) (now (list .entry)) (now (scratch .entry)) r (now (what .exit)) (now (value .exit)) (now (out .exit)) (now (list .exit)) (now (scratch .exit)) ⌝ }
 {
-    if rules::is_short(places, out.len()) | rules::is_order_short(list.len(), scratch.len()) {
-        return short();
+    if rules::is_lent_short(places, out.len()) | rules::is_order_short(list.len(), scratch.len()) {
+        return lent_short();
     }
-    let outcome = ordering::order_trace(bytes, what, value, list, scratch);
+    let outcome = ordering::order_trace(course, bytes, what, value, list, scratch);
     let m = outcome.marking;
     let o = outcome.ordering;
     let said = m.verdict;
@@ -139,6 +142,7 @@ pub fn mark_lent(
 
 // Marks a whole trace, with its records in two rows, its order and its listing.
 pub fn mark_trace(
+    course: Course,
     bytes: &[u8],
     whats: &mut [u32],
     values: &mut [Value],
@@ -146,12 +150,21 @@ pub fn mark_trace(
     list: &mut [u64],
     scratch: &mut [u64],
 ) -> Report
-    ensures { λ r. ⌜ Fills (now (bytes .entry)) (now (whats .entry)) (now (values .entry)) (now (out .entry)) (now (list .entry)) (now (scratch .entry)) r (now (whats .exit)) (now (values .exit)) (now (out .exit)) (now (list .exit)) (now (scratch .exit)) ⌝ }
+    ensures { λ r. ⌜ Fills (limitsOf course) (now (bytes .entry)) (now (whats .entry)) (now (values .entry)) (now (out .entry)) (now (list .entry)) (now (scratch .entry)) r (now (whats .exit)) (now (values .exit)) (now (out .exit)) (now (list .exit)) (now (scratch .exit)) ⌝ }
 {
     let mut what: [u32; 2000] = [0; 2000];
     let mut value: [Value; 2000] = [0; 2000];
     let places = lesser(whats.len(), values.len());
-    let r = mark_lent(bytes, places, &mut what, &mut value, out, list, scratch);
+    let r = mark_lent(
+        course,
+        bytes,
+        places,
+        &mut what,
+        &mut value,
+        out,
+        list,
+        scratch,
+    );
     let n = r.events;
     copy_whats(whats, &what[..n]);
     copy_values(values, &value[..n]);
@@ -160,19 +173,20 @@ pub fn mark_trace(
 
 // Marks a whole trace, with its records and its listing, where no order is wanted.
 pub fn mark_unordered(
+    course: Course,
     bytes: &[u8],
     whats: &mut [u32],
     values: &mut [Value],
     out: &mut [u8],
 ) -> Report
-    ensures { λ r. ⌜ Briefs (now (bytes .entry)) (now (whats .entry)) (now (values .entry)) (now (out .entry)) r (now (whats .exit)) (now (values .exit)) (now (out .exit)) ⌝ }
+    ensures { λ r. ⌜ Briefs (limitsOf course) (now (bytes .entry)) (now (whats .entry)) (now (values .entry)) (now (out .entry)) r (now (whats .exit)) (now (values .exit)) (now (out .exit)) ⌝ }
 {
-    if rules::is_short(lesser(whats.len(), values.len()), out.len()) {
-        return short();
+    if rules::is_lent_short(lesser(whats.len(), values.len()), out.len()) {
+        return lent_short();
     }
     let mut what: [u32; 2000] = [0; 2000];
     let mut value: [Value; 2000] = [0; 2000];
-    let m = marking::mark(bytes, &mut what, &mut value);
+    let m = marking::mark(course, bytes, &mut what, &mut value);
     let nothing = Ordering::NoOrder;
     let said = m.verdict;
     if let Verdict::Refused(number, line) = said {

@@ -4,31 +4,59 @@ use native.Mathlib.Omega.{arith}
 use mathlib.Core.Path.{_≡_, refl}
 use mathlib.Core.Bool.{Bool, true, false, cond, _&&_}
 use lib.Dec.{ltb, leb}
-use borrow.Author.Tests.{ltb-true, leb-true}
+use borrow.Author.Tests.{ltb-true, leb-true, le-leb}
 use Rattle.rules.specs.declared.Event.{Event}
 use Rattle.rules.specs.declared.Counts.{Counts}
+use Rattle.rules.specs.declared.Course.{Course}
+use Rattle.rules.specs.declared.Course.the-variants.{Full, Short}
 use Rattle.rules.specs.Events.{place, onLock}
-use Rattle.rules.specs.Limits.{Limits, full, firstLine, allowed, declared}
+use Rattle.rules.specs.Limits.{Limits, UpToFull, full, limitsOf, firstLine, allowed, declared}
 
 false-true : false ≡ true → ⊥
 false-true e = let z : _≡_ {A = ℕ} 0 1 = cc in omega arith
 
-pub allowed-within : (m : Limits) (h : Counts) → allowed m h ≡ true → (h .threads ≤ m .threads) × (h .variables ≤ m .variables) × (h .locks ≤ m .locks)
+-- what an allowed head declares
+pub record Declares (m : Limits) (h : Counts) : Type 0 where
+  pub some-threads : 1 ≤ h .threads
+  pub threads : h .threads ≤ m .threads
+  pub some-variables : 1 ≤ h .variables
+  pub variables : h .variables ≤ m .variables
+  pub locks : h .locks ≤ m .locks
+
+pub declares : (m : Limits) (h : Counts) → allowed m h ≡ true → Declares m h
 unfolding allowed
-allowed-within m h e =
-    by (leb 1 (h .threads)) (leb (h .threads) (m .threads)) refl (leb 1 (h .variables)) (leb (h .variables) (m .variables)) refl (leb (h .locks) (m .locks)) refl e
+declares m h e =
+    by (leb 1 (h .threads)) refl (leb (h .threads) (m .threads)) refl (leb 1 (h .variables)) refl (leb (h .variables) (m .variables)) refl (leb (h .locks) (m .locks)) refl e
   where
-    by : (p q : Bool) → leb (h .threads) (m .threads) ≡ q → (r s : Bool) → leb (h .variables) (m .variables) ≡ s → (t : Bool) → leb (h .locks) (m .locks) ≡ t
-        → p && q && r && s && t ≡ true → (h .threads ≤ m .threads) × (h .variables ≤ m .variables) × (h .locks ≤ m .locks)
-    by true true a true true b true c e = (leb-true (h .threads) (m .threads) a, leb-true (h .variables) (m .variables) b, leb-true (h .locks) (m .locks) c)
-    by true true a true true b false c e = absurd (false-true e)
-    by true true a true false b t c e = absurd (false-true e)
-    by true true a false s b t c e = absurd (false-true e)
-    by true false a r s b t c e = absurd (false-true e)
-    by false q a r s b t c e = absurd (false-true e)
+    by : (p : Bool) → leb 1 (h .threads) ≡ p → (q : Bool) → leb (h .threads) (m .threads) ≡ q → (r : Bool) → leb 1 (h .variables) ≡ r → (s : Bool) → leb (h .variables) (m .variables) ≡ s
+        → (t : Bool) → leb (h .locks) (m .locks) ≡ t → p && q && r && s && t ≡ true → Declares m h
+    by true a true b true c true d true f e = record {
+      some-threads = leb-true 1 (h .threads) a;
+      threads = leb-true (h .threads) (m .threads) b;
+      some-variables = leb-true 1 (h .variables) c;
+      variables = leb-true (h .variables) (m .variables) d;
+      locks = leb-true (h .locks) (m .locks) f;
+    }
+    by true a true b true c true d false f e = absurd (false-true e)
+    by true a true b true c false d t f e = absurd (false-true e)
+    by true a true b false c s d t f e = absurd (false-true e)
+    by true a false b r c s d t f e = absurd (false-true e)
+    by false a q b r c s d t f e = absurd (false-true e)
+
+-- what limits allow, wider ones allow
+pub allowed-full : (m : Limits) (h : Counts) → UpToFull m → allowed m h ≡ true → allowed full h ≡ true
+unfolding allowed
+allowed-full m h u e =
+    let d = declares m h e in
+    rw (le-leb 1 (h .threads) (d .some-threads), le-leb (h .threads) 8 (omega (arith, d .threads, u .threads)), le-leb 1 (h .variables) (d .some-variables), le-leb (h .variables) 16 (omega (arith, d .variables, u .variables)), le-leb (h .locks) 8 (omega (arith, d .locks, u .locks)))
 
 pub allowed-bounds : (h : Counts) → allowed full h ≡ true → (h .threads ≤ 8) × (h .variables ≤ 16) × (h .locks ≤ 8)
-allowed-bounds h e = allowed-within full h e
+allowed-bounds h e = let d = declares full h e in (d .threads, d .variables, d .locks)
+
+-- the limits of each course are up to the full ones
+pub up-to-full : (c : Course) → UpToFull (limitsOf c)
+up-to-full Full = record { threads = omega arith; variables = omega arith; locks = omega arith; events = omega arith; excess = omega arith }
+up-to-full Short = record { threads = omega arith; variables = omega arith; locks = omega arith; events = omega arith; excess = omega arith }
 
 -- thread, and variable or lock, of a declared event
 pub declared-bounds : (h : Counts) (e : Event) → allowed full h ≡ true → declared h e ≡ true → (e .thread < 8) × (place (e .kind) < 16)

@@ -18,3 +18,4 @@ pub mod Loads
 pub mod DeadReads
 pub mod PrescientStores
 pub mod Widths
+pub mod Courses

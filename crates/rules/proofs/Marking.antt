@@ -42,7 +42,7 @@ walk-accepts m c (e ∷ rest) es a p =
     let q = split (verdict m c es e) (verdict m c es e) (lineAfter c (length es)) (markFrom m c (e ∷ es) rest) refl p in
     walk-accepts m c rest (e ∷ es) (accepted-cons m c e es (q .0) a) (q .1)
 
-left-accepted : (m : Limits) (c : Counts) (rest es : List Event) → T (Accepted m c (reverseAux rest es)) → T (Accepted m c es)
+pub left-accepted : (m : Limits) (c : Counts) (rest es : List Event) → T (Accepted m c (reverseAux rest es)) → T (Accepted m c es)
 left-accepted m c [] es a = a
 left-accepted m c (e ∷ rest) es a = accepted-before m c e es (left-accepted m c rest (e ∷ es) a)
 

@@ -3,7 +3,7 @@ use Prim.Native.Nat.{ℕ, zero, suc, _<_}
 use native.Mathlib.Nat.{not-suc-le-zero}
 use mathlib.Core.Path.{_≡_, refl, sym, ap, _∙_, subst}
 use mathlib.Core.Bool.{Bool, true, false, cond}
-use mathlib.Core.List.{List, [], _∷_, map, reverse, reverseAux, reverse-reverse}
+use mathlib.Core.List.{List, [], _∷_, _++_, map, reverse, reverseAux, reverse-reverse}
 use mathlib.Core.Option.{Option, none, some}
 use lib.Dec.{T, leb}
 use lib.ListN.{length}
@@ -12,11 +12,11 @@ use Rattle.rules.specs.declared.Counts.{Counts}
 use Rattle.rules.specs.Limits.{Limits, lineAfter}
 use Rattle.rules.specs.Rules.{wordsOf, answer, verdict, Marked, accepted, refused, refusedOr, unless, passing, markFrom, mark, markRead, pastRead, Accepted}
 use Rattle.rules.specs.Reading.{readFrom, stopFrom}
-use Rattle.rules.proofs.Laws.{accepted-cons}
-use Rattle.rules.proofs.Marking.{accepts-mark}
+use Rattle.rules.proofs.Laws.{accepted-cons, accepted-last}
+use Rattle.rules.proofs.Marking.{left-accepted, accepts-mark}
 
 -- one event too many is refused, whatever it is
-excess-refused : (m : Limits) (h : Counts) (es : List Event) (e : Event) → leb (m .events) (length es) ≡ true → verdict m h es e ≡ m .excess
+pub excess-refused : (m : Limits) (h : Counts) (es : List Event) (e : Event) → leb (m .events) (length es) ≡ true → verdict m h es e ≡ m .excess
 unfolding verdict answer wordsOf
 excess-refused m h es e q = rw q
 
@@ -102,3 +102,11 @@ past-events m h es (e ∷ rest) q = go (verdict m h es e) q (past-events m h (e 
         → passing n es (pastRead m h (e ∷ es) (map (λ (x : Event). some x) rest)) ≡ reverseAux rest (e ∷ es)
     go zero q r = r q
     go (suc n) q r = absurd (subst Wrong q tt)
+
+-- ---- behind accepted events the marking goes on
+
+pub read-over : (m : Limits) (h : Counts) (earlier es : List Event) (rs : List (Option Event)) → T (Accepted m h (reverseAux earlier es))
+    → markRead m h es (map (λ (e : Event). some e) earlier ++ rs) ≡ markRead m h (reverseAux earlier es) rs
+unfolding markRead
+read-over m h [] es rs a = refl
+read-over m h (e ∷ earlier) es rs a = rw (accepted-last m h e es (left-accepted m h earlier (e ∷ es) a)) (read-over m h earlier (e ∷ es) rs a)

@@ -6,6 +6,8 @@ use mir.Syntax.{Width, w64}
 use mir.Val.{hbits}
 use Rattle.rules.specs.declared.Event.{Event}
 use Rattle.rules.specs.declared.Counts.{Counts}
+use Rattle.rules.specs.declared.Course.{Course}
+use Rattle.rules.specs.declared.Course.the-variants.{Full, Short}
 use Rattle.rules.specs.Events.{place, onLock}
 
 -- A value is a signed number of 64 bits.
@@ -16,8 +18,8 @@ valueWidth = w64
 abbrev pub limit : Width → ℕ
 limit w = 2 ^ hbits w
 
--- the most threads, variables, locks and events of a course, and the number of the refusal of one event more; the most bytes of a paper; the
--- least that is lent for records, output, order list and scratch; the width of the values that lines have
+-- the most threads, variables, locks and events of a course, and the number of the refusal of one event more, and of a head that declares more than the
+-- course has; the most bytes of a paper; the least that is lent for records, output, order list and scratch; the width of the values that lines have
 pub record Limits : Type 0 where
   pub threads : ℕ
   pub variables : ℕ
@@ -31,16 +33,22 @@ pub record Limits : Type 0 where
   pub scratch : ℕ
   pub width : Width
 
--- `H t v l`: threads 1 to 8, variables 1 to 16, locks 0 to 8. 9. 2,000 events are already in. 1. Paper over 65,536 bytes. 7. Records under
--- 2,000 places, output under 32,768 bytes; where an order is wanted, order list under 1,000 places or scratch under 1,000 (document 02 (k)).
--- Document 02 (g): a value outside 64 bits is 4.
-abbrev pub full : Limits
-full = record {
-  threads = 8;
-  variables = 16;
-  locks = 8;
-  events = 2000;
-  excess = 9;
+-- a number of each course
+abbrev pub byCourse : Course → ℕ → ℕ → ℕ
+byCourse Full a b = a
+byCourse Short a b = b
+
+-- `H t v l`: threads 1 to 8, variables 1 to 16, locks 0 to 8. 9. 2,000 events are already in. The short course, document 02 (e): at most 2 threads,
+-- 4 variables, 2 locks and 200 events; 25 in place of 9.
+-- 1. Paper over 65,536 bytes. 7. Records under 2,000 places, output under 32,768 bytes; where an order is wanted, order list under 1,000 places or
+-- scratch under 1,000 (document 02 (k)). Document 02 (g): a value outside 64 bits is 4.
+abbrev pub limitsOf : Course → Limits
+limitsOf c = record {
+  threads = byCourse c 8 2;
+  variables = byCourse c 16 4;
+  locks = byCourse c 8 2;
+  events = byCourse c 2000 200;
+  excess = byCourse c 9 25;
   bytes = 65536;
   records = 2000;
   output = 32768;
@@ -48,6 +56,16 @@ full = record {
   scratch = 1000;
   width = valueWidth;
 }
+
+abbrev pub full : Limits
+full = limitsOf Full
+
+abbrev pub short : Limits
+short = limitsOf Short
+
+-- the most that a head may declare
+abbrev pub mostCounts : Limits → Counts
+mostCounts m = record { threads = m .threads; variables = m .variables; locks = m .locks }
 
 -- the full limits with another scratch and another width of values
 abbrev pub fullWith : ℕ → Width → Limits
@@ -65,7 +83,7 @@ fullWith k w = record {
   width = w;
 }
 
--- limits whose counts and events are nowhere above the full ones
+-- limits whose counts and events are nowhere above the full ones, and for which one event more has a number
 pub record UpToFull (m : Limits) : Type 0 where
   pub threads : m .threads ≤ full .threads
   pub variables : m .variables ≤ full .variables

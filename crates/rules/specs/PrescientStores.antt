@@ -40,7 +40,7 @@ judgeStrict h w e =
     (cond (breaks 12 h w e) 12 (cond (breaks 15 h w e) 15 (cond (onSome h (λ t v. not (none? (w .stores t v))) e) 16 0)))
     (judge h w e)
 
--- as `verdict`: 9, 5, then the row
+-- as `verdict`: 9 (25), 5, then the row
 unfoldable pub verdictStrict : Limits → Counts → List Event → Event → ℕ
 verdictStrict m h es e = answerWith m h (wordsOf es) e (judgeStrict h (wordsOf es) e)
 

@@ -1,4 +1,4 @@
--- Document 01, the refusals 5 and 9 to 19, and document 02, 16 at N and 23; the table of rows, and the verdict over a list of events. The rules
+-- Document 01, the refusals 5 and 9 to 19, and document 02, 16 at N, 23, and 25 in place of 9; the table of rows, and the verdict over a list of events. The rules
 -- speak of the words; `wordsOf` takes the words from a list of earlier events. A caller's state is read by the same rules, with its own
 -- contents for the words.
 use Prim.Native.Nat.{ℕ, zero, suc, _<_}
@@ -199,11 +199,11 @@ firstBroken (n ∷ ns) h w e = cond (breaks n h w e) n (firstBroken ns h w e)
 unfoldable pub judge : Counts → Words → Event → ℕ
 judge h w e = firstBroken (rowIn rows (letter (e .kind))) h w e
 
--- 9, 5, then n
+-- 9 (25 in the short course), 5, then n
 abbrev pub answerWith : Limits → Counts → Words → Event → ℕ → ℕ
 answerWith m h w e n = cond (leb (m .events) (w .events)) (m .excess) (cond (declared h e) n 5)
 
--- 9, 5, then the row; 0: accepted. (4 comes before these, where a line is no event.)
+-- 9 (25), 5, then the row; 0: accepted. (4 comes before these, where a line is no event.)
 unfoldable pub answer : Limits → Counts → Words → Event → ℕ
 answer m h w e = answerWith m h w e (judge h w e)
 
@@ -281,7 +281,7 @@ markBy f h es [] = accepted
 markBy f h es (none ∷ rest) = refused 4 (lineAfter h (length es))
 markBy f h es (some′ e ∷ rest) = unless (f es e) (lineAfter h (length es)) (markBy f h (e ∷ es) rest)
 
--- line by line 4, 9, 5 and the row
+-- line by line 4, 9 (25), 5 and the row
 unfoldable pub markRead : Limits → Counts → List Event → List (Option Event) → Marked
 markRead m h es rs = markBy (verdict m h) h es rs
 

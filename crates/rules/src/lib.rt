@@ -1,7 +1,7 @@
 // The events of a trace, what a trace declares, and what is said of it. What the rules say of events stands in specs/.
 ghost use mathlib.Core.Path.{_≡_};
 ghost use Rattle.rules.specs.Events.{letter, place, value, isLetter, isLockLetter, kindOf};
-ghost use Rattle.rules.specs.Limits.{full, lineAfter, allowed, declared, lentShort, orderShort};
+ghost use Rattle.rules.specs.Limits.{full, limitsOf, mostCounts, lineAfter, allowed, declared, lentShort, orderShort};
 ghost use Rattle.rules.specs.Rules.{told, numberIn, lineIn};
 
 // The value of a variable. Its width is `valueWidth` in specs/Limits.antt.
@@ -50,6 +50,12 @@ pub struct Counts {
     pub threads: usize,
     pub variables: usize,
     pub locks: usize,
+}
+
+// The course that a trace is written for: each has its own limits.
+pub enum Course {
+    Full,
+    Short,
 }
 
 // The value of a variable in main memory.
@@ -179,11 +185,54 @@ pub fn value_of(k: Kind) -> Value
 
 // ---- Limits.
 
-// Whether a trace may declare these counts.
-pub fn is_allowed(h: Counts) -> bool
-    ensures { λ r. ⌜ r ≡ allowed full h ⌝ }
+// The most threads, variables and locks of a course.
+pub fn most_counts(course: Course) -> Counts
+    ensures { λ r. ⌜ r ≡ mostCounts (limitsOf course) ⌝ }
 {
-    (1 <= h.threads) & (h.threads <= 8) & (1 <= h.variables) & (h.variables <= 16) & (h.locks <= 8)
+    match course {
+        Course::Full => Counts {
+            threads: 8,
+            variables: 16,
+            locks: 8,
+        },
+        Course::Short => Counts {
+            threads: 2,
+            variables: 4,
+            locks: 2,
+        },
+    }
+}
+
+// Whether a trace of a course may declare these counts.
+pub fn is_allowed(course: Course, h: Counts) -> bool
+    ensures { λ r. ⌜ r ≡ allowed (limitsOf course) h ⌝ }
+{
+    let most = most_counts(course);
+    (1 <= h.threads)
+        & (h.threads <= most.threads)
+        & (1 <= h.variables)
+        & (h.variables <= most.variables)
+        & (h.locks <= most.locks)
+}
+
+// The most events of a course.
+pub fn most_events(course: Course) -> u32
+    ensures { λ r. ⌜ r ≡ limitsOf course .events ⌝ }
+{
+    match course {
+        Course::Full => 2000,
+        Course::Short => 200,
+    }
+}
+
+// The number of the refusal of one event more, and of a head over the limits of the short course.
+pub fn excess_of(course: Course) -> u8
+    ensures { λ r. ⌜ r ≡ limitsOf course .excess ⌝ }
+{
+    match course {
+        Course::Full => 9,
+        Course::Short => 25,
+    }
 }
 
 // Whether the event's thread, and its variable or lock, are declared.
@@ -207,7 +256,7 @@ pub fn line_after(h: Counts, n: u32) -> usize
 }
 
 // 7, where no order is wanted: places lent for records, bytes lent for output.
-pub fn is_short(records: usize, out: usize) -> bool
+pub fn is_lent_short(records: usize, out: usize) -> bool
     ensures { λ r. ⌜ r ≡ lentShort full records out ⌝ }
 {
     (records < 2000) | (out < 32768)

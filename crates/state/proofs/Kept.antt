@@ -29,6 +29,7 @@ use Rattle.rules.specs.Events.{A, B, K, L, N, P, R, S, W, letter, place, value,
 use Rattle.rules.specs.Limits.{Limits, UpToFull, full, allowed, declared}
 use Rattle.rules.specs.Words.{first}
 use Rattle.rules.specs.Rules.{judge}
+use Rattle.rules.proofs.Bounds.{declares, allowed-full}
 
 -- ---- a queue
 
@@ -169,20 +170,9 @@ pub record Room (h : Counts) : Type 0 where
   pub locks : h .locks ≤ 8
 
 pub room : (m : Limits) (h : Counts) → UpToFull m → allowed m h ≡ true → Room h
-unfolding allowed
 room m h u e =
-    let d = both-true (leb 1 (h .threads) && leb (h .threads) (m .threads) && leb 1 (h .variables) && leb (h .variables) (m .variables)) (leb (h .locks) (m .locks)) e in
-    let c = both-true (leb 1 (h .threads) && leb (h .threads) (m .threads) && leb 1 (h .variables)) (leb (h .variables) (m .variables)) (d .0) in
-    let b = both-true (leb 1 (h .threads) && leb (h .threads) (m .threads)) (leb 1 (h .variables)) (c .0) in
-    let a = both-true (leb 1 (h .threads)) (leb (h .threads) (m .threads)) (b .0) in
-    record {
-      threads = up (leb-true (h .threads) (m .threads) (a .1)) (u .threads);
-      variables = up (leb-true (h .variables) (m .variables) (c .1)) (u .variables);
-      locks = up (leb-true (h .locks) (m .locks) (d .1)) (u .locks);
-    }
-  where
-    up : {x y z : ℕ} → x ≤ y → y ≤ z → x ≤ z
-    up p q = omega arith
+    let d = declares m h e in
+    record { threads = omega (arith, d .threads, u .threads); variables = omega (arith, d .variables, u .variables); locks = omega (arith, d .locks, u .locks) }
 
 -- the places of a declared event lie in the arrays
 pub within : (h : Counts) (e : Event) → Room h → declared h e ≡ true → Within (e .thread) (e .kind)
@@ -373,5 +363,16 @@ kept m s e u h r below d p = record {
     position true = le-refl (suc (s .events))
     position false = le-step (r .locked t (w .thread))
 
-pub up-to-full : UpToFull full
-up-to-full = record { threads = le-refl 8; variables = le-refl 16; locks = le-refl 8; events = le-refl 2000; excess = lit< tt }
+-- in range by limits up to the full ones: by the full ones too
+pub range-full : (m : Limits) (s : State) → UpToFull m → inRange m s ≡ true → inRange full s ≡ true
+range-full m s u e =
+    let r = range m s e in
+    in-range full s (record {
+      counts = allowed-full m (s .counts) u (r .counts);
+      events = omega (arith, r .events, u .events);
+      hold = r .hold;
+      locked = r .locked;
+      cell = r .cell;
+      reads = r .reads;
+      stores = r .stores;
+    })

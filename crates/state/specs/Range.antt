@@ -1,4 +1,4 @@
--- 8. The state handed in has a number out of range: declared counts as in the head; events so far at most 2,000; at most 8
+-- 8. The state handed in has a number out of range: declared counts as in the head; events so far at most 2,000 (200 in the short course); at most 8
 -- outstanding reads and 8 outstanding stores for each thread and variable; a position or lock depth above the events so far; a
 -- holder undeclared; a holder without depth or depth without holder. The whole record is looked at, undeclared places included.
 use Prim.Native.Nat.{ℕ, zero, suc, _+_, _*_, _%_}

@@ -4,11 +4,12 @@ ghost use mathlib.Core.Path.{_≡_};
 ghost use mathlib.Core.Bool.{true};
 ghost use Prim.Native.Nat.{_<_};
 ghost use lib.ListN.{length};
-ghost use Rattle.rules.specs.Limits.{full};
+ghost use Rattle.rules.specs.Limits.{limitsOf};
 ghost use Rattle.state.specs.State.{start};
 ghost use Rattle.state.specs.Range.{holdOk, holdsOk, cellOk, cellsOk, slotOk, queuesOk, inRange};
 ghost use Rattle.state.specs.Computed.Places.{cellPlace, slotPlace, ringOf, Shape};
 use rules::Counts;
+use rules::Course;
 use rules::Main;
 use rules::Slot;
 use rules::Value;
@@ -226,8 +227,8 @@ fn sized(
 }
 
 // Refusal 8; and the lengths that the arrays have.
-pub fn in_range(s: State) -> bool
-    ensures { λ r. ⌜ (r ≡ inRange full s) × Shape s ⌝ }
+pub fn in_range(course: Course, s: State) -> bool
+    ensures { λ r. ⌜ (r ≡ inRange (limitsOf course) s) × Shape s ⌝ }
 {
     let h = s.counts;
     let cells = s.cells;
@@ -237,8 +238,8 @@ pub fn in_range(s: State) -> bool
     let holds = s.holds;
     let memory = s.memory;
     sized(cells, reads, stores, locked, holds, memory)
-        & rules::is_allowed(h)
-        & (s.events <= 2000)
+        & rules::is_allowed(course, h)
+        & (s.events <= rules::most_events(course))
         & holds_ok(s)
         & cells_ok(s)
         & queues_ok(s.events, cells, reads, false)

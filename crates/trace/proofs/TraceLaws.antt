@@ -2,6 +2,7 @@
 use mathlib.Core.Path.{_≡_, refl, sym, ap, _∙_, subst}
 use mathlib.Core.Bool.{Bool, true, false, cond}
 use mathlib.Core.List.{List, [], _∷_}
+use mathlib.Core.Logic.{_⊎_, inl, inr}
 use Prim.Native.Nat.{ℕ, suc, _≤_, _<_, _+_, _-_}
 use native.Mathlib.Omega.{arith}
 use native.Mathlib.Numerals.{add-one}
@@ -11,8 +12,8 @@ use lib.ListN.{length, getD, take, drop, set, length-take, length-drop, drop-of-
 use lib.Seq.{drop-cons, length-take-le, take-take, take-add, drop-at}
 use Rattle.rules.specs.declared.Counts.{Counts}
 use Rattle.rules.specs.Events.{among}
-use Rattle.rules.specs.Limits.{Limits, allowed}
-use Rattle.rules.specs.Rules.{Marked, accepted, refused, said, numberIn}
+use Rattle.rules.specs.Limits.{Limits, full, allowed}
+use Rattle.rules.specs.Rules.{Marked, accepted, refused, said, numberIn, lineIn}
 use Rattle.lines.specs.Lines.{before, upTo, splitOn, letter}
 use Rattle.lines.proofs.FieldLaws.{up-le}
 use Rattle.decimal.specs.declared.Natural.{Natural}
@@ -24,7 +25,7 @@ use Rattle.trace.specs.declared.Headed.{Headed}
 use Rattle.trace.specs.declared.GuardLine.{GuardLine}
 use Rattle.trace.specs.declared.Guards.{Guards}
 use Rattle.trace.specs.declared.Trace.{Trace}
-use Rattle.trace.specs.Trace.{tooLong, wrongHead, wrongGuards, checkAt, lastLine, trailerNumber, trailerOf, noHead, checkHead, headOf, badLine, lockLine, lockOf, locksFrom, guardsOf, unfound, withGuards, secondOf, behindHead, firstOf, behindTrailer, traceOf, found}
+use Rattle.trace.specs.Trace.{tooLong, wrongHead, overLimits, wrongGuards, checkAt, lastLine, trailerNumber, trailerOf, noHead, checkCounts, checkHead, headOf, badLine, lockLine, lockOf, locksFrom, guardsOf, unfound, withGuards, secondOf, behindHead, firstHead, firstOf, behindTrailer, traceOf, found}
 
 pub trailer-none : (s : List ℕ) → length s ≡ 0 → trailer.Wrong ≡ trailerOf s
 unfolding trailerOf
@@ -50,33 +51,43 @@ module _ (i : ℕ) (g : List ℕ) (l : ℕ) (fs : List (List ℕ)) where
   unfolding locksFrom
   locks-end h = rw (drop-of-length-le fs {i = i + 1} h)
 
--- ---- a right head declares allowed counts
+-- ---- the head
 
-module _ (m : Limits) where
-  abbrev Fit : Headed → Type 0
-  Fit r = r .ok ≡ true → allowed m (r .head) ≡ true
+pub counts-right : (c : Counts) → allowed full c ≡ true → record { ok = true; head = c } ≡ checkCounts c
+counts-right c a = rw a refl
 
-  fit-none : Fit noHead
-  fit-none e = absurd (let z : _≡_ {A = ℕ} 0 1 = cc in omega arith)
+pub counts-wrong : (c : Counts) → allowed full c ≡ false → noHead ≡ checkCounts c
+counts-wrong c a = rw a refl
 
-  fit-counts : (c : Counts) (b : Bool) → allowed m c ≡ b → Fit (cond b (record { ok = true; head = c }) noHead)
-  fit-counts c true e = λ q. e
-  fit-counts c false e = fit-none
+-- a right head is allowed by the full limits
+abbrev Fit : Headed → Type 0
+Fit r = r .ok ≡ true → allowed full (r .head) ≡ true
 
-  fit-check : (t v l : Natural) → Fit (checkHead m t v l)
-  fit-check natural.Bad v l = fit-none
-  fit-check (natural.Of t) natural.Bad l = fit-none
-  fit-check (natural.Of t) (natural.Of v) natural.Bad = fit-none
-  fit-check (natural.Of t) (natural.Of v) (natural.Of l) = fit-counts (record { threads = t; variables = v; locks = l }) _ refl
+fit-none : Fit noHead
+fit-none e = absurd (let z : _≡_ {A = ℕ} 0 1 = cc in omega arith)
 
-  pub head-allowed : (fs : List (List ℕ)) → headOf m fs .ok ≡ true → allowed m (headOf m fs .head) ≡ true
-  unfolding headOf
-  head-allowed fs = by (eqb (length fs) 4) (eqb (letter (getD fs 0 [])) 72) (checkHead m (naturalOf (getD fs 1 [])) (naturalOf (getD fs 2 [])) (naturalOf (getD fs 3 []))) (fit-check (naturalOf (getD fs 1 [])) (naturalOf (getD fs 2 [])) (naturalOf (getD fs 3 [])))
-    where
-      by : (p q : Bool) (r : Headed) → Fit r → Fit (cond p (cond q r noHead) noHead)
-      by true true r f = f
-      by true false r f = fit-none
-      by false q r f = fit-none
+fit-check : (t v l : Natural) → Fit (checkHead t v l)
+fit-check natural.Bad v l = fit-none
+fit-check (natural.Of t) natural.Bad l = fit-none
+fit-check (natural.Of t) (natural.Of v) natural.Bad = fit-none
+fit-check (natural.Of t) (natural.Of v) (natural.Of l) = by (record { threads = t; variables = v; locks = l }) _ refl
+  where
+    by : (c : Counts) (b : Bool) → allowed full c ≡ b → Fit (cond b (record { ok = true; head = c }) noHead)
+    by c true e = λ q. e
+    by c false e = fit-none
+
+pub head-allowed : (s : List ℕ) → firstHead s .ok ≡ true → allowed full (firstHead s .head) ≡ true
+unfolding firstHead headOf
+head-allowed s = by (ltb (before 10 s) (length s)) (eqb (length fs) 4) (eqb (letter (getD fs 0 [])) 72) (checkHead (naturalOf (getD fs 1 [])) (naturalOf (getD fs 2 [])) (naturalOf (getD fs 3 []))) (fit-check (naturalOf (getD fs 1 [])) (naturalOf (getD fs 2 [])) (naturalOf (getD fs 3 [])))
+  where
+    fs : List (List ℕ)
+    fs = splitOn 32 (take (before 10 s) s)
+
+    by : (o p q : Bool) (r : Headed) → Fit r → Fit (cond o (cond p (cond q r noHead) noHead) noHead)
+    by true true true r f = f
+    by true true false r f = fit-none
+    by true false q r f = fit-none
+    by false p q r f = fit-none
 
 -- ---- the trailer
 
@@ -116,12 +127,22 @@ unfolding secondOf
 second-some s at e b h k l = let m : before 10 s < length s = omega (arith, k, l) in rw (k, lt-ltb _ _ m)
 
 pub first-none : (m : Limits) (s : List ℕ) (e a : ℕ) → a ≡ before 10 s → length s ≤ a → unfound wrongHead ≡ firstOf m s e
-unfolding firstOf
+unfolding firstOf firstHead
 first-none m s e a k l = let q : length s ≤ before 10 s = omega (arith, k, l) in rw (le-ltb _ _ q)
 
-pub first-some : (m : Limits) (s : List ℕ) (e a : ℕ) → a ≡ before 10 s → a < length s → behindHead s a e (headOf m (splitOn 32 (take a s))) ≡ firstOf m s e
-unfolding firstOf
-first-some m s e a k l = let q : before 10 s < length s = omega (arith, k, l) in rw (k, lt-ltb _ _ q)
+module _ (m : Limits) (s : List ℕ) (e a : ℕ) (k : a ≡ before 10 s) (l : a < length s) (r : Headed) (z : r ≡ headOf (splitOn 32 (take a s))) where
+  first-some : behindHead m s a e r ≡ firstOf m s e
+  unfolding firstOf firstHead
+  first-some = let q : before 10 s < length s = omega (arith, k, l) in ap (behindHead m s a e) z ∙ rw (k, lt-ltb _ _ q)
+
+  pub head-wrong : r .ok ≡ false → unfound wrongHead ≡ firstOf m s e
+  head-wrong o = let q : behindHead m s a e r ≡ unfound wrongHead = rw o refl in sym q ∙ first-some
+
+  pub head-over : r .ok ≡ true → allowed m (r .head) ≡ false → unfound (overLimits m) ≡ firstOf m s e
+  head-over o p = let q : behindHead m s a e r ≡ unfound (overLimits m) = rw (o, p) refl in sym q ∙ first-some
+
+  pub head-right : r .ok ≡ true → allowed m (r .head) ≡ true → secondOf (drop (a + 1) s) (a + 1) e (r .head) ≡ firstOf m s e
+  head-right o p = let q : behindHead m s a e r ≡ secondOf (drop (a + 1) s) (a + 1) e (r .head) = rw (o, p) refl in sym q ∙ first-some
 
 pub trace-long : (m : Limits) (s : List ℕ) → m .bytes < length s → unfound tooLong ≡ traceOf m s
 unfolding traceOf
@@ -136,6 +157,7 @@ trace-short m s h = rw (le-ltb _ _ h)
 module _ (m : Limits) (s : List ℕ) where
   pub data Finding : Trace → Type 0 where
     denied : (n line : ℕ) → T (among (1 ∷ 2 ∷ 3 ∷ 6 ∷ []) n) → Finding (unfound (said (refused n line)))
+    over : (h : Counts) → allowed full h ≡ true → allowed m h ≡ false → Finding (unfound (overLimits m))
     given : (h : Counts) (g : Guards) (a e : ℕ) → allowed m h ≡ true → a ≤ e → trailerOf s ≡ trailer.At e
         → Finding (record { verdict = said accepted; head = h; guards = g; from = a; to = e })
 
@@ -154,18 +176,20 @@ module _ (m : Limits) (s : List ℕ) where
         by true r g = on (at + before 10 u + 1) g (g .ok) (omega (arith, l, ltb-true (before 10 u) (length u) r))
 
     finding-first : (u : List ℕ) → length u ≡ e → Finding (firstOf m u e)
-    unfolding firstOf
-    finding-first u l = by (ltb (before 10 u) (length u)) refl (headOf m (splitOn 32 (take (before 10 u) u))) (head-allowed m (splitOn 32 (take (before 10 u) u)))
+    unfolding firstOf firstHead
+    finding-first u l = by (ltb (before 10 u) (length u)) refl (firstHead u) refl (head-allowed u)
       where
-        on : (r : Headed) (o : Bool) → r .ok ≡ o → (r .ok ≡ true → allowed m (r .head) ≡ true) → before 10 u < length u
-            → Finding (cond o (secondOf (drop (before 10 u + 1) u) (before 10 u + 1) e (r .head)) (unfound wrongHead))
-        on r true q f i = finding-second (drop (before 10 u + 1) u) (before 10 u + 1) (r .head) (f q) (omega (arith, l, length-drop (before 10 u + 1) u))
-        on r false q f i = denied 3 1 tt
+        on : (h : Counts) (o p : Bool) → (o ≡ true → allowed full h ≡ true) → allowed m h ≡ p → before 10 u < length u
+            → Finding (cond o (cond p (secondOf (drop (before 10 u + 1) u) (before 10 u + 1) e h) (unfound (overLimits m))) (unfound wrongHead))
+        on h true true f q i = finding-second (drop (before 10 u + 1) u) (before 10 u + 1) h q (omega (arith, l, length-drop (before 10 u + 1) u))
+        on h true false f q i = over h (f refl) q
+        on h false p f q i = denied 3 1 tt
 
-        by : (q : Bool) → ltb (before 10 u) (length u) ≡ q → (r : Headed) → (r .ok ≡ true → allowed m (r .head) ≡ true)
-            → Finding (cond q (behindHead u (before 10 u) e r) (unfound wrongHead))
-        by false z r f = denied 3 1 tt
-        by true z r f = on r (r .ok) refl f (ltb-true (before 10 u) (length u) z)
+        by : (q : Bool) → ltb (before 10 u) (length u) ≡ q → (r : Headed) → r ≡ firstHead u → (r .ok ≡ true → allowed full (r .head) ≡ true) → Finding (behindHead m u (before 10 u) e r)
+        by true z r k f = on (r .head) (r .ok) (allowed m (r .head)) f refl (ltb-true (before 10 u) (length u) z)
+        by false z r k f =
+            let none : firstHead u ≡ noHead = (unfold firstHead in rw z refl) in
+            subst (λ (x : Headed). Finding (behindHead m u (before 10 u) e x)) (sym (k ∙ none)) (denied 3 1 tt)
 
   pub finding : Finding (traceOf m s)
   unfolding traceOf
@@ -182,14 +206,17 @@ found-allowed m s = by (finding m s)
   where
     by : {t : Trace} → Finding m s t → found t ≡ accepted → allowed m (t .head) ≡ true
     by (denied n line o) q = absurd (let z : _≡_ {A = ℕ} 0 1 = cc in omega arith)
+    by (over h f k) q = absurd (let z : _≡_ {A = ℕ} 0 1 = cc in omega arith)
     by (given h g a e f l k) q = f
 
--- one that is not found is refused with 1, 2, 3 or 6
-pub found-number : (m : Limits) (s : List ℕ) (n line : ℕ) → found (traceOf m s) ≡ refused n line → T (among (1 ∷ 2 ∷ 3 ∷ 6 ∷ []) n)
+-- one that is not found is refused with 1, 2, 3 or 6, or for counts that the full limits allow and m does not, at line 1
+pub found-number : (m : Limits) (s : List ℕ) (n line : ℕ) → found (traceOf m s) ≡ refused n line
+    → T (among (1 ∷ 2 ∷ 3 ∷ 6 ∷ []) n) ⊎ ((h : Counts) × (allowed full h ≡ true) × (allowed m h ≡ false) × (n ≡ m .excess) × (line ≡ 1))
 found-number m s n line = by (finding m s)
   where
-    by : {t : Trace} → Finding m s t → found t ≡ refused n line → T (among (1 ∷ 2 ∷ 3 ∷ 6 ∷ []) n)
-    by (denied k l o) q = subst (λ (i : ℕ). T (among (1 ∷ 2 ∷ 3 ∷ 6 ∷ []) i)) (ap numberIn q) o
+    by : {t : Trace} → Finding m s t → found t ≡ refused n line → T (among (1 ∷ 2 ∷ 3 ∷ 6 ∷ []) n) ⊎ ((h : Counts) × (allowed full h ≡ true) × (allowed m h ≡ false) × (n ≡ m .excess) × (line ≡ 1))
+    by (denied k l o) q = inl (subst (λ (i : ℕ). T (among (1 ∷ 2 ∷ 3 ∷ 6 ∷ []) i)) (ap numberIn q) o)
+    by (over h f k) q = inr (h, f, k, sym (ap numberIn q), sym (ap lineIn q))
     by (given h g a e f l k) q = absurd (let z : _≡_ {A = ℕ} 0 1 = cc in omega arith)
 
 -- of a trace that is refused nothing is kept
@@ -198,6 +225,7 @@ not-found m s n line = by (finding m s)
   where
     by : {t : Trace} → Finding m s t → found t ≡ refused n line → t ≡ unfound (said (refused n line))
     by (denied k l o) q = ap (λ (v : Marked). unfound (said v)) q
+    by (over h f k) q = ap (λ (v : Marked). unfound (said v)) q
     by (given h g a e f l k) q = absurd (let z : _≡_ {A = ℕ} 0 1 = cc in omega arith)
 
 -- ---- the part that holds the events
@@ -232,6 +260,7 @@ lies m s = by (finding m s)
   where
     by : {t : Trace} → Finding m s t → Lies t s
     by (denied n line o) = record { start = omega arith; end = omega arith; ended = unfold upTo in refl }
+    by (over h f k) = record { start = omega arith; end = omega arith; ended = unfold upTo in refl }
     by (given h g a e f l k) =
         let p = trailer-at s e k in
         record { start = l; end = trailer-le s e k; ended = ap (λ (i : ℕ). upTo 10 (take i s)) p ∙ last-ended s ∙ sym p }

@@ -33,6 +33,10 @@ wrongTrailer = said (refused 2 0)
 abbrev pub wrongHead : Verdict
 wrongHead = said (refused 3 1)
 
+-- 25, over the short course's limits, after 3 for the head (line 1). By the full limits 3 is said before.
+abbrev pub overLimits : Limits → Verdict
+overLimits m = said (refused (m .excess) 1)
+
 -- 6. `G` line wrong: form, count, or undeclared lock (line 2).
 abbrev pub wrongGuards : Verdict
 wrongGuards = said (refused 6 2)
@@ -70,21 +74,21 @@ abbrev pub noHead : Headed
 noHead = record { ok = false; head = noCounts }
 
 -- threads 1 to 8, variables 1 to 16, locks 0 to 8
-abbrev pub checkCounts : Limits → Counts → Headed
-checkCounts m c = cond (allowed m c) (record { ok = true; head = c }) noHead
+abbrev pub checkCounts : Counts → Headed
+checkCounts c = cond (allowed full c) (record { ok = true; head = c }) noHead
 
-abbrev pub checkHead : Limits → Natural → Natural → Natural → Headed
-checkHead m natural.Bad v l = noHead
-checkHead m (natural.Of t) natural.Bad l = noHead
-checkHead m (natural.Of t) (natural.Of v) natural.Bad = noHead
-checkHead m (natural.Of t) (natural.Of v) (natural.Of l) = checkCounts m (record { threads = t; variables = v; locks = l })
+abbrev pub checkHead : Natural → Natural → Natural → Headed
+checkHead natural.Bad v l = noHead
+checkHead (natural.Of t) natural.Bad l = noHead
+checkHead (natural.Of t) (natural.Of v) natural.Bad = noHead
+checkHead (natural.Of t) (natural.Of v) (natural.Of l) = checkCounts (record { threads = t; variables = v; locks = l })
 
 -- Line 1: `H t v l`.
-unfoldable pub headOf : Limits → List (List ℕ) → Headed
-headOf m fs =
+unfoldable pub headOf : List (List ℕ) → Headed
+headOf fs =
     cond (eqb (length fs) 4)
     (cond (eqb (letter (getD fs 0 [])) 72)
-    (checkHead m (naturalOf (getD fs 1 [])) (naturalOf (getD fs 2 [])) (naturalOf (getD fs 3 [])))
+    (checkHead (naturalOf (getD fs 1 [])) (naturalOf (getD fs 2 [])) (naturalOf (getD fs 3 [])))
     noHead)
     noHead
 
@@ -153,20 +157,26 @@ secondOf s at e h =
     (withGuards (at + before 10 s + 1) e h (guardsOf (h .variables) (h .locks) (splitOn 32 (take (before 10 s) s))))
     (unfound wrongGuards)
 
--- what stands behind line 1, whose end is at a
-abbrev pub behindHead : List ℕ → ℕ → ℕ → Headed → Trace
-behindHead s a e r = cond (r .ok) (secondOf (drop (a + 1) s) (a + 1) e (r .head)) (unfound wrongHead)
+-- what stands behind a right line 1, whose end is at a
+abbrev pub behindCounts : Limits → List ℕ → ℕ → ℕ → Counts → Trace
+behindCounts m s a e h = cond (allowed m h) (secondOf (drop (a + 1) s) (a + 1) e h) (unfound (overLimits m))
 
--- line 1, the first of s, what stands before the trailer at e
+abbrev pub behindHead : Limits → List ℕ → ℕ → ℕ → Headed → Trace
+behindHead m s a e r = cond (r .ok) (behindCounts m s a e (r .head)) (unfound wrongHead)
+
+-- line 1, the first of s, what stands before the trailer
+unfoldable pub firstHead : List ℕ → Headed
+firstHead s = cond (ltb (before 10 s) (length s)) (headOf (splitOn 32 (take (before 10 s) s))) noHead
+
+-- the trailer starts at e
 unfoldable pub firstOf : Limits → List ℕ → ℕ → Trace
-firstOf m s e =
-    cond (ltb (before 10 s) (length s)) (behindHead s (before 10 s) e (headOf m (splitOn 32 (take (before 10 s) s)))) (unfound wrongHead)
+firstOf m s e = behindHead m s (before 10 s) e (firstHead s)
 
 abbrev pub behindTrailer : Limits → List ℕ → Trailer → Trace
 behindTrailer m s trailer.Wrong = unfound wrongTrailer
 behindTrailer m s (trailer.At e) = firstOf m (take e s) e
 
--- Whole paper: 1, 2, 3, 6.
+-- Whole paper: 1, 2, 3 (25), 6.
 unfoldable pub traceOf : Limits → List ℕ → Trace
 traceOf m s = cond (ltb (m .bytes) (length s)) (unfound tooLong) (behindTrailer m s (trailerOf s))
 
@@ -174,6 +184,6 @@ traceOf m s = cond (ltb (m .bytes) (length s)) (unfound tooLong) (behindTrailer 
 abbrev pub found : Trace → Marked
 found t = told (t .verdict)
 
--- The part of the lent bytes that holds the events. It is empty after 1, 2, 3 or 6.
+-- The part of the lent bytes that holds the events. It is empty after 1, 2, 3, 25 or 6.
 unfoldable pub eventsOf : List ℕ → Trace → List ℕ
 eventsOf s t = take (t .to - t .from) (drop (t .from) s)

@@ -1,13 +1,14 @@
 // Finding a trace in bytes: its refusal, or its head, its guards and the part that holds its events.
 use decimal::Natural;
 use rules::Counts;
+use rules::Course;
 use rules::Verdict;
 ghost use mathlib.Core.Path.{_≡_};
 ghost use Prim.Native.Nat.{_+_, _≤_};
 ghost use lib.ListN.{length, drop};
 ghost use Rattle.lines.specs.Lines.{splitOn};
 ghost use Rattle.decimal.specs.Decimal.{naturalOf};
-ghost use Rattle.rules.specs.Limits.{full};
+ghost use Rattle.rules.specs.Limits.{full, limitsOf};
 ghost use Rattle.rules.specs.Rules.{refused, said};
 ghost use Rattle.trace.specs.Trace.{trailerNumber, checkAt, trailerOf, noHead, checkHead, headOf, badLine, noLocks, lockOf, locksFrom, isDash, guardsOf, unfound, withGuards, secondOf, firstOf, traceOf, eventsOf};
 
@@ -101,8 +102,9 @@ fn no_head() -> Headed
     }
 }
 
+// The counts of a head; 3 asks the limits of the full course in both.
 fn check_head(t: Natural, v: Natural, l: Natural) -> Headed
-    ensures { λ r. ⌜ r ≡ checkHead full t v l ⌝ }
+    ensures { λ r. ⌜ r ≡ checkHead t v l ⌝ }
 {
     let Natural::Of(threads) = t else {
         return no_head();
@@ -118,7 +120,7 @@ fn check_head(t: Natural, v: Natural, l: Natural) -> Headed
         variables,
         locks,
     };
-    if rules::is_allowed(c) {
+    if rules::is_allowed(Course::Full, c) {
         Headed { ok: true, head: c }
     } else {
         no_head()
@@ -127,7 +129,7 @@ fn check_head(t: Natural, v: Natural, l: Natural) -> Headed
 
 // Line 1, without its end.
 fn read_head(s: &[u8]) -> Headed
-    ensures { λ r. ⌜ r ≡ headOf full (splitOn 32 (now (s .entry))) ⌝ }
+    ensures { λ r. ⌜ r ≡ headOf (splitOn 32 (now (s .entry))) ⌝ }
 {
     if lines::count_fields(s) != 4 {
         return no_head();
@@ -273,9 +275,9 @@ fn find_second(s: &[u8], at: usize, e: usize, h: Counts) -> Trace
 }
 
 // Line 1, the first of s, in front of the trailer at `e`.
-fn find_first(s: &[u8], e: usize) -> Trace
+fn find_first(course: Course, s: &[u8], e: usize) -> Trace
     requires { ⌜ length (now s) ≤ full .bytes ⌝ }
-    ensures { λ r. ⌜ r ≡ firstOf full (now (s .entry)) e ⌝ }
+    ensures { λ r. ⌜ r ≡ firstOf (limitsOf course) (now (s .entry)) e ⌝ }
 {
     let a = lines::find(s, 10);
     if s.len() <= a {
@@ -284,30 +286,33 @@ fn find_first(s: &[u8], e: usize) -> Trace
     let r = read_head(&s[..a]);
     if r.ok {
         let h = r.head;
+        if !rules::is_allowed(course, h) {
+            return refuse(rules::excess_of(course), 1);
+        }
         find_second(&s[a + 1..], a + 1, e, h)
     } else {
         refuse(3, 1)
     }
 }
 
-// The trace in the bytes, or its refusal: 1, 2, 3 and 6 in this order.
-pub fn find(s: &[u8]) -> Trace
-    ensures { λ r. ⌜ r ≡ traceOf full (now (s .entry)) ⌝ }
+// The trace in the bytes, or its refusal: 1, 2, 3, over the limits of the course, and 6 in this order.
+pub fn find(course: Course, s: &[u8]) -> Trace
+    ensures { λ r. ⌜ r ≡ traceOf (limitsOf course) (now (s .entry)) ⌝ }
 {
     if 65536 < s.len() {
         return refuse(1, 0);
     }
     match find_trailer(s) {
         Trailer::Wrong => refuse(2, 0),
-        Trailer::At(e) => find_first(&s[..e], e),
+        Trailer::At(e) => find_first(course, &s[..e], e),
     }
 }
 
 // The part of the bytes that holds the events; empty after a refusal.
-pub fn find_events(s: &[u8]) -> &[u8]
-    ensures { λ r. ⌜ now r ≡ eventsOf (now (s .entry)) (traceOf full (now (s .entry))) ⌝ }
+pub fn find_events(course: Course, s: &[u8]) -> &[u8]
+    ensures { λ r. ⌜ now r ≡ eventsOf (now (s .entry)) (traceOf (limitsOf course) (now (s .entry))) ⌝ }
 {
-    let t = find(s);
+    let t = find(course, s);
     let from = t.from;
     let to = t.to;
     &s[from..to]

@@ -22,8 +22,8 @@ use Rattle.decimal.proofs.TextLaws.{text-small}
 use Rattle.events.specs.Events.{readings}
 use Rattle.trace.specs.declared.Guards.{Guards}
 use Rattle.trace.specs.declared.Trailer.the-variants as trailer
-use Rattle.trace.specs.Trace.{trailerNumber, checkAt, lastLine, trailerOf, headOf, lockLine, locksFrom, isDash, guardsOf, withGuards, secondOf, behindHead, firstOf, behindTrailer, traceOf, eventsOf}
-use Rattle.trace.proofs.TraceLaws.{first-some, second-some, trace-short}
+use Rattle.trace.specs.Trace.{trailerNumber, checkAt, lastLine, trailerOf, headOf, lockLine, locksFrom, isDash, guardsOf, withGuards, secondOf, firstOf, behindTrailer, traceOf, eventsOf}
+use Rattle.trace.proofs.TraceLaws.{head-right, second-some, trace-short}
 use Rattle.writer.specs.Text.{headLine, guardLine, eventLine, trailerLine, eventsText, bodyText, traceText, allBelow, padded, Guarded, none, given, AllDeclared, done, more, foundText}
 use Rattle.writer.proofs.NumberText.{natural-back}
 use Rattle.writer.proofs.FieldText.{Free, free-nil, free-cons, before-end, lines-free, texts, up-line, up-join, up-free, up-append}
@@ -94,14 +94,14 @@ module _ (b : List ℕ) (whole : upTo 10 b ≡ length b) (small : length b ≤ c
       ∙ rw (eq-eqb (length b) (length b) refl))
 
 -- the head
-head-back : (c : Counts) → allowed full c ≡ true → headOf full (splitOn 32 (headLine c)) ≡ record { ok = true; head = c }
+head-back : (c : Counts) → allowed full c ≡ true → headOf (splitOn 32 (headLine c)) ≡ record { ok = true; head = c }
 unfolding headOf texts letter
 head-back c a =
     let w = allowed-bounds c a in
     let t : naturalOf (naturalText (c .threads)) ≡ natural.Of (c .threads) = natural-back (c .threads) (omega (arith, w)) in
     let v : naturalOf (naturalText (c .variables)) ≡ natural.Of (c .variables) = natural-back (c .variables) (omega (arith, w)) in
     let l : naturalOf (naturalText (c .locks)) ≡ natural.Of (c .locks) = natural-back (c .locks) (omega (arith, w)) in
-    ap (headOf full) (row-fields 72 (c .threads ∷ c .variables ∷ c .locks ∷ []) (λ e. omega arith)) ∙ rw (t, v, l, a)
+    ap headOf (row-fields 72 (c .threads ∷ c .variables ∷ c .locks ∷ []) (λ e. omega arith)) ∙ rw (t, v, l, a)
 
 -- the guards
 below-split : (l n : ℕ) (ns : List ℕ) → allBelow l (n ∷ ns) ≡ true → (n < l) × (allBelow l ns ≡ true)
@@ -209,9 +209,8 @@ module _ (c : Counts) (g : Guards) (es : List Event) (a : allowed full c ≡ tru
   first-back =
       let b = ended (headLine c) ++ second in
       let w = cut (headLine c) second (row-free 72 (c .threads ∷ c .variables ∷ c .locks ∷ []) (λ e. omega arith)) in
-      sym (first-some full b n (length (headLine c)) (w .place) (w .inside))
-      ∙ ap (λ (t : List ℕ). behindHead b (length (headLine c)) n (headOf full (splitOn 32 t))) (w .front)
-      ∙ ap (behindHead b (length (headLine c)) n) (head-back c a)
+      let z = ap (λ (t : List ℕ). headOf (splitOn 32 t)) (w .front) ∙ head-back c a in
+      sym (head-right full b n (length (headLine c)) (w .place) (w .inside) (record { ok = true; head = c }) (sym z) refl a)
       ∙ ap (λ (t : List ℕ). secondOf t (length (headLine c) + 1) n c) (w .back)
       ∙ second-back
 

@@ -1,6 +1,6 @@
 //! The C interface of the proved marker, as `include/dabzhoni.h` declares it.
 
-use papers::{Event, Value};
+use papers::{Course, Event, Value};
 use std::mem::{offset_of, size_of};
 use std::ops::Range;
 
@@ -103,6 +103,7 @@ const _: () = assert!(size_of::<Marked>() == 56);
 extern "C" {
     fn dabzhoni_initial(state: *mut State, threads: usize, variables: usize, locks: usize);
     fn dabzhoni_step(state: *mut State, letter: u8, thread: usize, place: usize, value: Value) -> Reply;
+    fn dabzhoni_step_short(state: *mut State, letter: u8, thread: usize, place: usize, value: Value) -> Reply;
     fn dabzhoni_mark(
         paper: *const u8,
         paper_len: usize,
@@ -117,7 +118,31 @@ extern "C" {
         scratch: *mut u64,
         scratch_len: usize,
     ) -> Marked;
+    fn dabzhoni_mark_short(
+        paper: *const u8,
+        paper_len: usize,
+        what: *mut u32,
+        what_len: usize,
+        values: *mut Value,
+        values_len: usize,
+        out: *mut u8,
+        out_len: usize,
+        order: *mut u64,
+        order_len: usize,
+        scratch: *mut u64,
+        scratch_len: usize,
+    ) -> Marked;
     fn dabzhoni_mark_unordered(
+        paper: *const u8,
+        paper_len: usize,
+        what: *mut u32,
+        what_len: usize,
+        values: *mut Value,
+        values_len: usize,
+        out: *mut u8,
+        out_len: usize,
+    ) -> Marked;
+    fn dabzhoni_mark_short_unordered(
         paper: *const u8,
         paper_len: usize,
         what: *mut u32,
@@ -150,9 +175,13 @@ impl Kept {
         padding().for_each(|bytes| self.bytes[bytes].fill(0xa5));
     }
 
-    pub fn step(&mut self, e: &Event) -> Reply {
+    pub fn step(&mut self, course: Course, e: &Event) -> Reply {
+        let step = match course {
+            Course::Full => dabzhoni_step,
+            Course::Short => dabzhoni_step_short,
+        };
         // SAFETY: as above.
-        unsafe { dabzhoni_step(&mut **self, e.letter, e.thread, e.place, e.value) }
+        unsafe { step(&mut **self, e.letter, e.thread, e.place, e.value) }
     }
 }
 
@@ -173,6 +202,7 @@ impl std::ops::DerefMut for Kept {
 
 /// Marks a paper into lent memory.
 pub fn mark(
+    course: Course,
     paper: &[u8],
     what: &mut [u32],
     values: &mut [Value],
@@ -180,9 +210,13 @@ pub fn mark(
     order: &mut [u64],
     scratch: &mut [u64],
 ) -> Marked {
+    let mark = match course {
+        Course::Full => dabzhoni_mark,
+        Course::Short => dabzhoni_mark_short,
+    };
     // SAFETY: six slices that do not overlap, each with its own length.
     unsafe {
-        dabzhoni_mark(
+        mark(
             paper.as_ptr(),
             paper.len(),
             what.as_mut_ptr(),
@@ -200,10 +234,14 @@ pub fn mark(
 }
 
 /// Marks a paper where no order is wanted.
-pub fn mark_unordered(paper: &[u8], what: &mut [u32], values: &mut [Value], out: &mut [u8]) -> Marked {
+pub fn mark_unordered(course: Course, paper: &[u8], what: &mut [u32], values: &mut [Value], out: &mut [u8]) -> Marked {
+    let mark = match course {
+        Course::Full => dabzhoni_mark_unordered,
+        Course::Short => dabzhoni_mark_short_unordered,
+    };
     // SAFETY: four slices that do not overlap, each with its own length.
     unsafe {
-        dabzhoni_mark_unordered(
+        mark(
             paper.as_ptr(),
             paper.len(),
             what.as_mut_ptr(),

@@ -5,6 +5,7 @@ use comparison::steps::{self, Tally};
 use comparison::whole::Papers;
 use papers::compare::{close, run, Size};
 use papers::generate::Rng;
+use papers::{Course, COURSES};
 use std::rc::Rc;
 use std::time::Instant;
 
@@ -18,18 +19,22 @@ fn main() {
         large: 300 * times,
         large_by_a: 300 * times,
         many_k: 100 * times,
+        at_short_limits: 20_000 * times,
         aimed: 40 * times as usize,
         short: 5,
     };
     let papers = Rc::new(Papers::new());
     let same = Rc::clone(&papers);
-    let (passed, failed) = run(Box::new(move |paper, with_a| same.check(paper, with_a)), size);
+    let (mut passed, mut failed) = run(Box::new(move |course, paper, with_a| same.check(course, paper, with_a)), size);
     println!("{}", papers.orders());
-    let tally = all_steps(times as usize, seed);
-    close((passed + tally.passed, failed + tally.failed))
+    for course in COURSES {
+        let tally = all_steps(course, times as usize, seed);
+        (passed, failed) = (passed + tally.passed, failed + tally.failed);
+    }
+    close((passed, failed))
 }
 
-fn all_steps(times: usize, seed: u64) -> Tally {
+fn all_steps(course: Course, times: usize, seed: u64) -> Tally {
     let mut rng = Rng::new(seed);
     let mut tally = Tally::default();
     let mut part = |name: &str, count: usize, one: &mut dyn FnMut(&mut Tally, &mut Rng)| {
@@ -39,15 +44,25 @@ fn all_steps(times: usize, seed: u64) -> Tally {
             one(&mut tally, &mut rng);
         }
         let (passed, accepted) = (tally.passed + tally.failed - passed, tally.accepted - accepted);
-        println!("{name}: {passed} in {:.1} s, {accepted} accepted", start.elapsed().as_secs_f64());
+        println!("{course:?} course, {name}: {passed} in {:.1} s, {accepted} accepted", start.elapsed().as_secs_f64());
     };
     part("steps along traces", 600, &mut |tally, rng| {
         let length = rng.between(0, 80);
-        steps::walk(tally, rng, length, 6, 20)
+        steps::walk(tally, rng, course, length, 6, 20)
     });
-    part("steps along long traces", 4, &mut |tally, rng| steps::walk(tally, rng, 2_000, 2, 40));
-    part("steps from states in range", 3_000, &mut |tally, rng| steps::in_range(tally, rng, 40));
-    part("steps from states out of range", 20, &mut steps::out_of_range);
-    steps::every_answer(&mut tally);
+    let (long, most) = match course {
+        Course::Full => (4, 2_000),
+        Course::Short => (40, 210),
+    };
+    part("steps along long traces", long, &mut |tally, rng| steps::walk(tally, rng, course, most, 2, 40));
+    part("steps from states in range", 3_000, &mut |tally, rng| steps::in_range(tally, rng, course, course, 40));
+    if course == Course::Short {
+        let full = Course::Full;
+        part("steps from states in range of the full course", 300, &mut |tally, rng| {
+            steps::in_range(tally, rng, course, full, 4)
+        });
+    }
+    part("steps from states out of range", 20, &mut |tally, rng| steps::out_of_range(tally, rng, course));
+    steps::every_answer(&mut tally, course);
     tally
 }

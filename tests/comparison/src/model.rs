@@ -1,8 +1,9 @@
-//! What documents 01 and 02 (a), (d) and (g) say of one step from a state that a caller hands in, over the fields of `include/dabzhoni.h`.
+//! What documents 01 and 02 (a), (d), (e) and (g) say of one step from a state that a caller hands in, over the fields of
+//! `include/dabzhoni.h`, by the limits of a course.
 
 use crate::c_api::{Cell, Ring, Slot, State};
 use marker_a::rules::{self, ROWS};
-use papers::{by_a, Event};
+use papers::{by_a, Course, Event};
 
 fn cell(t: usize, v: usize) -> usize {
     16 * t + v
@@ -14,16 +15,17 @@ fn queue(i: usize, q: Ring) -> impl Iterator<Item = usize> {
 }
 
 /// "8. The state handed in has a number out of range".
-pub fn out_of_range(s: &State) -> bool {
+pub fn out_of_range(course: Course, s: &State) -> bool {
     let n = s.events as usize;
+    let most = course.counts();
     let above = |slots: &[Slot], i: usize, q: Ring| queue(i, q).any(|p| slots[p].position > n);
     let counts = s.counts;
     // "declared counts as in the head"
-    !(1..=8).contains(&counts.threads)
-        || !(1..=16).contains(&counts.variables)
-        || counts.locks > 8
+    !(1..=most.threads).contains(&counts.threads)
+        || !(1..=most.variables).contains(&counts.variables)
+        || counts.locks > most.locks
         // "events so far at most 2,000"
-        || n > 2_000
+        || s.events > course.events()
         // "at most 8 outstanding reads and 8 outstanding stores for each thread and variable"
         || s.cells.iter().any(|c| c.reads.len > 8 || c.stores.len > 8)
         // "a position or lock depth above the events so far"
@@ -78,13 +80,14 @@ fn breaks(number: u32, s: &State, e: &Event) -> bool {
     }
 }
 
-/// "One step: 8, 9, 5, row." The numbers that the event breaks, where 8, 9 and 5 stand alone; the first is the answer.
-pub fn broken(s: &State, e: &Event) -> Vec<u32> {
+/// "One step: 8, 9, 5, row.", with 25 "in place of 9" in the short course. The numbers that the event breaks, where 8, 9, 25 and 5 stand
+/// alone; the first is the answer.
+pub fn broken(course: Course, s: &State, e: &Event) -> Vec<u32> {
     let places = if e.is_lock() { s.counts.locks } else { s.counts.variables };
-    if out_of_range(s) {
+    if out_of_range(course, s) {
         vec![8]
-    } else if s.events >= 2_000 {
-        vec![9]
+    } else if s.events >= course.events() {
+        vec![course.over()]
     } else if e.thread >= s.counts.threads || e.place >= places {
         vec![5]
     } else {

@@ -6,7 +6,7 @@ use crate::model;
 use marker_a::paper;
 use papers::generate::{self, one_bit_off, Rng, DOUBLES, LETTERS, OF_64_BITS, PAIRS};
 use papers::shrink::shrink;
-use papers::{by_a, Event, Value};
+use papers::{by_a, Course, Event, Value};
 use std::collections::BTreeMap;
 
 const PRINTED_FAILURES: usize = 20;
@@ -17,6 +17,10 @@ pub struct Tally {
     pub failed: usize,
     pub accepted: usize,
     pub refused: usize,
+    /// how often the course's limit of events was the answer, along traces and from other states; and how often a step of the short course
+    /// was held to the same one of the full course, accepted and refused
+    pub over: [usize; 2],
+    pub alike: [usize; 2],
     /// from states in range: how often a letter had an answer, and broke a later rule of its row too; 0 stands for none
     pub answers: BTreeMap<(u8, u32, u32), usize>,
     /// the same for each part of 16 at N
@@ -32,8 +36,8 @@ impl Tally {
     }
 
     /// The report of a failure in the last step of these events, with the smallest paper that shows it.
-    fn smaller(&self, said: Result<(), String>, counts: papers::Counts, events: &[Event]) -> Result<(), String> {
-        said.map_err(|report| if self.prints() { smallest(counts, events, report) } else { report })
+    fn smaller(&self, course: Course, said: Result<(), String>, counts: papers::Counts, events: &[Event]) -> Result<(), String> {
+        said.map_err(|report| if self.prints() { smallest(course, counts, events, report) } else { report })
     }
 
     fn count(&mut self, reply: (usize, usize), said: Result<(), String>) {
@@ -59,11 +63,11 @@ fn kept_counts(c: papers::Counts) -> Counts {
 }
 
 /// One step: the reply that is wanted, and the state byte for byte as it was after a refusal, its padding included.
-fn stepped(before: &Kept, e: &Event, wanted: (usize, usize)) -> Result<Kept, String> {
+fn stepped(course: Course, before: &Kept, e: &Event, wanted: (usize, usize)) -> Result<Kept, String> {
     let mut before = before.clone();
     before.paint();
     let mut after = before.clone();
-    let Reply { number, line } = after.step(e);
+    let Reply { number, line } = after.step(course, e);
     if (number, line) != wanted {
         return Err(format!("{}: number and line {number} {line}, wanted {} {}", e.line(), wanted.0, wanted.1));
     }
@@ -78,21 +82,22 @@ fn stepped(before: &Kept, e: &Event, wanted: (usize, usize)) -> Result<Kept, Str
 /// One step after these accepted events: marker A's verdict; and after an accepted one the state that replaying gives, which has
 /// marker A's words.
 fn after_events(
+    course: Course,
     before: &Kept,
     counts: papers::Counts,
     earlier: &[Event],
     list: &[marker_a::Event],
     e: &Event,
 ) -> ((usize, usize), Result<(), String>) {
-    let number = marker_a::judge(list, by_a::counts(counts), &by_a::event(e)) as usize;
+    let number = by_a::judge(course, list, by_a::counts(counts), &by_a::event(e)) as usize;
     let reply = if number == 0 { (0, 0) } else { (number, earlier.len() + 3) };
-    let said = stepped(before, e, reply).and_then(|after| {
+    let said = stepped(course, before, e, reply).and_then(|after| {
         if number != 0 {
             return Ok(());
         }
         let mut again = Kept::initial(kept_counts(counts));
         for e in earlier.iter().chain([e]) {
-            again.step(e);
+            again.step(course, e);
         }
         if *after != *again {
             return Err(format!("{}: replaying gives another state", e.line()));
@@ -104,7 +109,7 @@ fn after_events(
 }
 
 /// The events of a paper, one step after the other, up to the first that is refused or answered wrongly.
-fn steps_of(bytes: &[u8]) -> Result<(), String> {
+fn steps_of(course: Course, bytes: &[u8]) -> Result<(), String> {
     let Ok(parts) = paper::find(bytes) else { return Ok(()) };
     let c = parts.counts;
     let counts = papers::Counts { threads: c.threads as usize, variables: c.variables as usize, locks: c.locks as usize };
@@ -114,12 +119,12 @@ fn steps_of(bytes: &[u8]) -> Result<(), String> {
         let Some(event) = paper::event(line) else { return Ok(()) };
         let (thread, place) = (event.thread as usize, event.target as usize);
         let e = Event { letter: line[0], thread, place, value: event.value };
-        let (reply, said) = after_events(&state, counts, &earlier, &list, &e);
+        let (reply, said) = after_events(course, &state, counts, &earlier, &list, &e);
         said?;
         if reply.0 != 0 {
             return Ok(());
         }
-        state.step(&e);
+        state.step(course, &e);
         earlier.push(e);
         list.push(event);
     }
@@ -127,10 +132,10 @@ fn steps_of(bytes: &[u8]) -> Result<(), String> {
 }
 
 /// The smallest paper of these events whose last step is answered wrongly.
-fn smallest(counts: papers::Counts, events: &[Event], report: String) -> String {
+fn smallest(course: Course, counts: papers::Counts, events: &[Event], report: String) -> String {
     let whole = generate::paper(counts, None, events);
-    let small = shrink(&whole, &|p| steps_of(p).is_err());
-    let report = steps_of(&small).err().unwrap_or(report);
+    let small = shrink(&whole, &|p| steps_of(course, p).is_err());
+    let report = steps_of(course, &small).err().unwrap_or(report);
     format!("step, the smallest paper:\n{}{report}", String::from_utf8_lossy(&small))
 }
 
@@ -170,24 +175,42 @@ fn any_event(rng: &mut Rng, s: &State) -> Event {
     Event { letter, thread, place, value }
 }
 
-/// Along one trace of about `length` events: each event, and at `stops` places of it `each` other events.
-pub fn walk(tally: &mut Tally, rng: &mut Rng, length: usize, stops: usize, each: usize) {
-    let (counts, _, events) = generate::long(rng, length, 0, false);
+/// Counts of a course, and about so many accepted events, some of them over its limit.
+fn trace(rng: &mut Rng, course: Course, length: usize) -> (papers::Counts, Vec<Event>) {
+    let (counts, _, events) = match course {
+        Course::Full => generate::long(rng, length, 0, false),
+        Course::Short => {
+            let most = course.counts();
+            let (threads, variables) = (rng.between(1, most.threads), rng.between(1, most.variables));
+            let counts = papers::Counts { threads, variables, locks: rng.between(0, most.locks) };
+            generate::long_with(rng, counts, OF_64_BITS, length, 0, false)
+        }
+    };
+    (counts, events)
+}
+
+/// Along one trace of about `length` events: each event up to the limit; and at `stops` places of it and at its end `each` other events, and
+/// there the one past the limit, where the trace has it.
+pub fn walk(tally: &mut Tally, rng: &mut Rng, course: Course, length: usize, stops: usize, each: usize) {
+    let (counts, mut events) = trace(rng, course, length);
+    let last = events.get(course.events() as usize).copied();
+    events.truncate(course.events() as usize);
     let list: Vec<marker_a::Event> = events.iter().map(by_a::event).collect();
     let mut state = Kept::initial(kept_counts(counts));
     let share = events.len() / stops.max(1) + 1;
     for (i, next) in events.iter().map(Some).chain([None]).enumerate() {
         if i % share == 0 || next.is_none() {
-            for _ in 0..each {
-                let e = any_event(rng, &state);
-                let (reply, said) = after_events(&state, counts, &events[..i], &list[..i], &e);
-                let said = tally.smaller(said, counts, &[&events[..i], &[e]].concat());
+            let others = (0..each).map(|_| any_event(rng, &state)).chain(last.filter(|_| next.is_none()));
+            for e in others.collect::<Vec<Event>>() {
+                let (reply, said) = after_events(course, &state, counts, &events[..i], &list[..i], &e);
+                let said = tally.smaller(course, said, counts, &[&events[..i], &[e]].concat());
+                tally.over[0] += usize::from(reply.0 == course.over() as usize);
                 tally.count(reply, said);
             }
         }
         if let Some(e) = next {
-            let said = stepped(&state, e, (0, 0)).map(|after| state = after);
-            let said = tally.smaller(said, counts, &events[..=i]);
+            let said = stepped(course, &state, e, (0, 0)).map(|after| state = after);
+            let said = tally.smaller(course, said, counts, &events[..=i]);
             tally.count((0, 0), said);
         }
     }
@@ -228,11 +251,13 @@ fn cell_in_range(rng: &mut Rng, n: usize, bars: usize, value: &impl Fn(&mut Rng)
 }
 
 /// A state in range, with anything in the places past a queue's count.
-pub fn state_in_range(rng: &mut Rng) -> Kept {
-    let counts = Counts { threads: rng.between(1, 8), variables: rng.between(1, 16), locks: rng.between(0, 8) };
+pub fn state_in_range(rng: &mut Rng, course: Course) -> Kept {
+    let (most, events) = (course.counts(), course.events() as usize);
+    let (threads, variables) = (rng.between(1, most.threads), rng.between(1, most.variables));
+    let counts = Counts { threads, variables, locks: rng.between(0, most.locks) };
     let mut s = Kept::initial(counts);
-    let any = position(rng, 2_000);
-    let n = rng.pick(&[1, 50, 1_999, any, any, any]);
+    let any = position(rng, events);
+    let n = rng.pick(&[1, 50, events - 1, any, any, any]);
     s.events = n as u32;
     let few = rng.chance(50);
     let bars = rng.below(4);
@@ -291,9 +316,10 @@ fn count_unlock(tally: &mut Tally, s: &State, t: usize, answer: u32) {
     }
 }
 
-/// One step against the model, the state after it included.
-fn against_model(tally: &mut Tally, before: &Kept, e: &Event) {
-    let broken = model::broken(before, e);
+/// One step against the model, the state after it included; in the short course against the full one too, where neither limit nor 8 is the
+/// answer.
+fn against_model(tally: &mut Tally, course: Course, before: &Kept, e: &Event) {
+    let broken = model::broken(course, before, e);
     let number = broken.first().copied().unwrap_or(0);
     for later in [0].iter().chain(broken.iter().skip(1)) {
         *tally.answers.entry((e.letter, number, *later)).or_insert(0) += 1;
@@ -304,29 +330,37 @@ fn against_model(tally: &mut Tally, before: &Kept, e: &Event) {
     if number == 18 && due(before, e.letter, e.thread, e.place).is_some_and(|x| x as u32 == e.value as u32) {
         *tally.halves.entry(e.letter).or_insert(0) += 1;
     }
+    tally.over[1] += usize::from(number == course.over());
     let line = if number == 8 { 0 } else { before.events as usize + 3 };
     let reply = if number == 0 { (0, 0) } else { (number as usize, line) };
-    let said = stepped(before, e, reply).and_then(|after| {
+    let said = stepped(course, before, e, reply).and_then(|after| {
         let mut wanted = before.clone();
         if reply.0 == 0 {
             model::take(&mut wanted, e);
         }
-        if *after == *wanted {
-            Ok(())
-        } else {
-            Err(format!("{}: another state after it", e.line()))
+        if *after != *wanted {
+            return Err(format!("{}: another state after it", e.line()));
         }
+        if course == Course::Short && ![8, course.over()].contains(&number) {
+            let full = stepped(Course::Full, before, e, reply).map_err(|report| format!("full course: {report}"))?;
+            if *full != *after {
+                return Err(format!("{}: the full course has another state after it", e.line()));
+            }
+            tally.alike[usize::from(number > 0)] += 1;
+        }
+        Ok(())
     });
     let shown = |report| format!("{report}; {:?}, {} events, {:?}", before.counts, before.events, before.holds);
     tally.count(reply, said.map_err(shown));
 }
 
-pub fn in_range(tally: &mut Tally, rng: &mut Rng, each: usize) {
-    let s = state_in_range(rng);
-    assert!(!model::out_of_range(&s));
+/// From a state in the range of a course, which may be another: its limits are 8 then.
+pub fn in_range(tally: &mut Tally, rng: &mut Rng, course: Course, of: Course, each: usize) {
+    let s = state_in_range(rng, of);
+    assert!(!model::out_of_range(of, &s));
     for _ in 0..each {
         let e = any_event(rng, &s);
-        against_model(tally, &s, &e);
+        against_model(tally, course, &s, &e);
     }
 }
 
@@ -343,8 +377,9 @@ const IN_NO_PAPER: [(u8, u32, u32); 8] = [
 ];
 
 /// Each refusal of each row, each two that one event can break, each part of 16 at N, and 18 of values with the same low 32 bits at each
-/// letter occurred in the steps from states in range. Prints how often those with 15, 16 or 23, and these parts, did.
-pub fn every_answer(tally: &mut Tally) {
+/// letter occurred in the steps from states in range; and the course's limit of events, there and along traces, and in the short course
+/// steps that were held to the full one. Prints how often those with 15, 16 or 23, these parts and the limits did.
+pub fn every_answer(tally: &mut Tally, course: Course) {
     let pairs = PAIRS.map(|(letter, number)| (letter, number, 0));
     let mut all = Vec::new();
     for (letter, number, later) in pairs.into_iter().chain(DOUBLES).chain(IN_NO_PAPER) {
@@ -360,8 +395,15 @@ pub fn every_answer(tally: &mut Tally) {
         let times = tally.halves.get(&letter).copied().unwrap_or(0);
         all.push((18, format!("18 at {}, the same low 32 bits", letter as char), times, true));
     }
+    let over = course.over();
+    all.push((over, format!("{over} along a trace"), tally.over[0], true));
+    all.push((over, format!("{over} from a state in range"), tally.over[1], true));
+    if course == Course::Short {
+        all.push((0, "an event accepted, as in the full course".into(), tally.alike[0], true));
+        all.push((0, "an event refused, as in the full course".into(), tally.alike[1], true));
+    }
     for (number, name, times, _) in &all {
-        let said = if *times > 0 { Ok(()) } else { Err(format!("no step from a state in range has {name}")) };
+        let said = if *times > 0 { Ok(()) } else { Err(format!("no step has {name}")) };
         tally.count((*number as usize, 0), said);
     }
     let shown: Vec<String> = all.into_iter().filter(|a| a.3).map(|(_, name, times, _)| format!("{name}: {times}")).collect();
@@ -369,28 +411,28 @@ pub fn every_answer(tally: &mut Tally) {
 }
 
 /// The numbers of refusal 8: how many places each has, and what puts the one at a place out of range and no other number.
-type Spoil = fn(&mut State, usize, &mut Rng);
+type Spoil = fn(&mut State, usize, &mut Rng, Course);
 const SPOILS: [(&str, usize, Spoil); 17] = [
-    ("no thread", 1, |s, _, _| {
+    ("no thread", 1, |s, _, _, _| {
         s.counts.threads = 0;
         s.holds = [Hold { holder: 0, depth: 0 }; 8];
     }),
-    ("threads", 1, |s, _, r| s.counts.threads = r.pick(&[9, 256, usize::MAX])),
-    ("no variable", 1, |s, _, _| s.counts.variables = 0),
-    ("variables", 1, |s, _, r| s.counts.variables = r.pick(&[17, 256, usize::MAX])),
-    ("locks", 1, |s, _, r| s.counts.locks = r.pick(&[9, 256, usize::MAX])),
-    ("events", 1, |s, _, r| s.events = r.pick(&[2_001, 65_536, u32::MAX])),
-    ("reads", 128, |s, i, r| spoil_count(s.events, &mut s.cells[i].reads, &mut s.reads, i, r)),
-    ("stores", 128, |s, i, r| spoil_count(s.events, &mut s.cells[i].stores, &mut s.stores, i, r)),
-    ("position of a read", 1_024, |s, i, r| spoil_queue(s.events, &mut s.cells[i / 8].reads, &mut s.reads, i, r)),
-    ("position of a store", 1_024, |s, i, r| spoil_queue(s.events, &mut s.cells[i / 8].stores, &mut s.stores, i, r)),
-    ("source", 128, |s, i, r| s.cells[i].source = above(s.events, r)),
-    ("last write", 128, |s, i, r| s.cells[i].written = above(s.events, r)),
-    ("last lock", 8, |s, i, r| s.locked[i] = above(s.events, r)),
-    ("depth", 8, |s, i, r| s.holds[i] = Hold { holder: 1, depth: r.pick(&[s.events + 1, 2_001, u32::MAX]) }),
-    ("holder", 8, |s, i, r| s.holds[i] = Hold { holder: s.counts.threads + r.pick(&[1, 2, 8, 1 << 40]), depth: 1 }),
-    ("holder without depth", 8, |s, i, r| s.holds[i] = Hold { holder: r.between(1, s.counts.threads), depth: 0 }),
-    ("depth without holder", 8, |s, i, r| s.holds[i] = Hold { holder: 0, depth: r.pick(&[1, s.events]) }),
+    ("threads", 4, |s, i, _, course| s.counts.threads = [course.counts().threads + 1, 9, 256, usize::MAX][i]),
+    ("no variable", 1, |s, _, _, _| s.counts.variables = 0),
+    ("variables", 4, |s, i, _, course| s.counts.variables = [course.counts().variables + 1, 17, 256, usize::MAX][i]),
+    ("locks", 4, |s, i, _, course| s.counts.locks = [course.counts().locks + 1, 9, 256, usize::MAX][i]),
+    ("events", 4, |s, i, _, course| s.events = [course.events() + 1, 2_001, 65_536, u32::MAX][i]),
+    ("reads", 128, |s, i, r, _| spoil_count(s.events, &mut s.cells[i].reads, &mut s.reads, i, r)),
+    ("stores", 128, |s, i, r, _| spoil_count(s.events, &mut s.cells[i].stores, &mut s.stores, i, r)),
+    ("position of a read", 1_024, |s, i, r, _| spoil_queue(s.events, &mut s.cells[i / 8].reads, &mut s.reads, i, r)),
+    ("position of a store", 1_024, |s, i, r, _| spoil_queue(s.events, &mut s.cells[i / 8].stores, &mut s.stores, i, r)),
+    ("source", 128, |s, i, r, _| s.cells[i].source = above(s.events, r)),
+    ("last write", 128, |s, i, r, _| s.cells[i].written = above(s.events, r)),
+    ("last lock", 8, |s, i, r, _| s.locked[i] = above(s.events, r)),
+    ("depth", 8, |s, i, r, _| s.holds[i] = Hold { holder: 1, depth: r.pick(&[s.events + 1, 2_001, u32::MAX]) }),
+    ("holder", 8, |s, i, r, _| s.holds[i] = Hold { holder: s.counts.threads + r.pick(&[1, 2, 8, 1 << 40]), depth: 1 }),
+    ("holder without depth", 8, |s, i, r, _| s.holds[i] = Hold { holder: r.between(1, s.counts.threads), depth: 0 }),
+    ("depth without holder", 8, |s, i, r, _| s.holds[i] = Hold { holder: 0, depth: r.pick(&[1, s.events]) }),
 ];
 
 /// A position above n; some have the low 32 bits of one up to n.
@@ -421,28 +463,29 @@ fn spoil_queue(n: u32, q: &mut Ring, slots: &mut [Slot], i: usize, rng: &mut Rng
 }
 
 /// A state that events reach.
-fn reached(rng: &mut Rng) -> Kept {
+fn reached(rng: &mut Rng, course: Course) -> Kept {
     let length = rng.between(1, 60);
-    let (counts, _, events) = generate::long(rng, length, 0, false);
+    let (counts, events) = trace(rng, course, length);
     let mut state = Kept::initial(kept_counts(counts));
     for e in &events {
-        state.step(e);
+        state.step(course, e);
     }
     state
 }
 
 /// From a state in range: each number of refusal 8 out of range in turn, at every place.
-pub fn out_of_range(tally: &mut Tally, rng: &mut Rng) {
-    let mut s = if rng.chance(50) { reached(rng) } else { state_in_range(rng) };
+pub fn out_of_range(tally: &mut Tally, rng: &mut Rng, course: Course) {
+    let mut s = if rng.chance(50) { reached(rng, course) } else { state_in_range(rng, course) };
     s.events = s.events.max(1);
-    assert!(!model::out_of_range(&s));
+    assert!(!model::out_of_range(course, &s));
     for (name, places, spoil) in SPOILS {
         for i in 0..places {
             let mut bad = s.clone();
-            spoil(&mut bad, i, rng);
-            assert!(model::out_of_range(&bad), "{name} {i}");
+            spoil(&mut bad, i, rng, course);
+            assert!(model::out_of_range(course, &bad), "{name} {i}");
             let e = any_event(rng, &s);
-            let said = stepped(&bad, &e, (8, 0)).map(|_| ()).map_err(|report| format!("{name} {i} out of range: {report}"));
+            let said =
+                stepped(course, &bad, &e, (8, 0)).map(|_| ()).map_err(|report| format!("{name} {i} out of range: {report}"));
             tally.count((8, 0), said);
         }
     }
@@ -453,7 +496,7 @@ pub fn out_of_range(tally: &mut Tally, rng: &mut Rng) {
         for letter in (0..=255).filter(|letter| !LETTERS.contains(letter)) {
             let e = Event { letter, ..any_event(rng, &s) };
             let wanted = (4, kept.events as usize + 3);
-            tally.count(wanted, stepped(kept, &e, wanted).map(|_| ()));
+            tally.count(wanted, stepped(course, kept, &e, wanted).map(|_| ()));
         }
     }
 }

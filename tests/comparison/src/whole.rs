@@ -1,10 +1,10 @@
-//! One paper by markers A, B, C and the proved marker; and what the proved marker and C leave in the lent memory.
+//! One paper in one course by markers A, B, C and the proved marker; and what the proved marker and C leave in the lent memory.
 
 use crate::c_api::{self, Marked};
 use marker_a::order::Section;
-use marker_a::{listing, paper, rules, Kind, Outcome, Verdict};
+use marker_a::{paper, rules, Kind, Outcome, Verdict};
 use papers::generate::Rng;
-use papers::Value;
+use papers::{by_a, Course, Value};
 use std::cell::{Cell, RefCell};
 use std::slice;
 
@@ -85,6 +85,14 @@ enum Marker {
 
 const MARKERS: [Marker; 2] = [Marker::Proved, Marker::C];
 
+/// The course, for marker C.
+pub fn by_c(course: Course) -> marker_c::Course {
+    match course {
+        Course::Full => marker_c::Course::Full,
+        Course::Short => marker_c::Course::Short,
+    }
+}
+
 /// What marker C says, as the C interface hands it back.
 fn said(m: marker_c::Marked) -> Marked {
     Marked {
@@ -99,22 +107,22 @@ fn said(m: marker_c::Marked) -> Marked {
 }
 
 impl Lent {
-    fn mark(&mut self, marker: Marker, paper: &[u8], n: Lengths) -> Marked {
+    fn mark(&mut self, course: Course, marker: Marker, paper: &[u8], n: Lengths) -> Marked {
         let (what, values) = (&mut self.what.places[..n.what], &mut self.values.places[..n.values]);
         let out = &mut self.out.places[..n.out];
         let (order, scratch) = (&mut self.order.places[..n.order], &mut self.scratch.places[..n.scratch]);
         match marker {
-            Marker::Proved => c_api::mark(paper, what, values, out, order, scratch),
-            Marker::C => said(marker_c::mark(paper, what, values, out, order, scratch)),
+            Marker::Proved => c_api::mark(course, paper, what, values, out, order, scratch),
+            Marker::C => said(marker_c::mark(by_c(course), paper, what, values, out, order, scratch)),
         }
     }
 
-    fn mark_unordered(&mut self, marker: Marker, paper: &[u8], n: Lengths) -> Marked {
+    fn mark_unordered(&mut self, course: Course, marker: Marker, paper: &[u8], n: Lengths) -> Marked {
         let (what, values) = (&mut self.what.places[..n.what], &mut self.values.places[..n.values]);
         let out = &mut self.out.places[..n.out];
         match marker {
-            Marker::Proved => c_api::mark_unordered(paper, what, values, out),
-            Marker::C => said(marker_c::mark_unordered(paper, what, values, out)),
+            Marker::Proved => c_api::mark_unordered(course, paper, what, values, out),
+            Marker::C => said(marker_c::mark_unordered(by_c(course), paper, what, values, out)),
         }
     }
 
@@ -277,13 +285,12 @@ impl Papers {
         Papers { lent: RefCell::new(lent), clean: Cell::new(true), orders: Cell::default() }
     }
 
-    /// The listing that all markers agree on, or what differs.
-    pub fn check(&self, bytes: &[u8], with_a: bool) -> Result<String, String> {
-        let b = marker_b::mark(bytes);
+    /// The listing that all markers agree on in a course, or what differs.
+    pub fn check(&self, course: Course, bytes: &[u8], with_a: bool) -> Result<String, String> {
+        let b = marker_b::mark(course, bytes);
         if with_a {
-            let a = marker_a::outcome(bytes);
-            let text = String::from_utf8(listing::listing(&a)).expect("a listing is ASCII");
-            ensure(text == b, || format!("marker A:\n{text}marker B:\n{b}"))?;
+            let a = by_a::mark(course, bytes);
+            ensure(a == b, || format!("marker A:\n{a}marker B:\n{b}"))?;
         }
         let mut lent = self.lent.borrow_mut();
         if !self.clean.replace(false) {
@@ -294,13 +301,14 @@ impl Papers {
         let all = Lengths::of(bytes.len());
         let lengths = if wanted.order.is_some() { &all[..] } else { slice::from_ref(&all[bytes.len() % all.len()]) };
         for marker in MARKERS {
-            by(marker, &mut lent, bytes, lengths, &b, &wanted).map_err(|e| format!("{marker:?}: {e}"))?;
+            by(course, marker, &mut lent, bytes, lengths, &b, &wanted).map_err(|e| format!("{marker:?}: {e}"))?;
         }
-        if let Some(order) = &wanted.order {
+        // in the short course the order is the full one's, for the listing is
+        if let (Course::Full, Some(order)) = (course, &wanted.order) {
             let uses = demand3(bytes, wanted.events, order).map_err(|e| format!("demand 3: {e}\n"))?;
             self.count(uses, order);
         }
-        lent_too_little(&mut lent, bytes)?;
+        lent_too_little(course, &mut lent, bytes)?;
         self.clean.set(true);
         Ok(b)
     }
@@ -322,19 +330,35 @@ impl Papers {
 
 /// One marker on one paper, with an order and each of these lengths, and where none is wanted. The lent memory has its pattern again
 /// afterwards.
-fn by(marker: Marker, lent: &mut Lent, bytes: &[u8], lengths: &[Lengths], listing: &str, wanted: &Wanted) -> Result<(), String> {
+fn by(
+    course: Course,
+    marker: Marker,
+    lent: &mut Lent,
+    bytes: &[u8],
+    lengths: &[Lengths],
+    listing: &str,
+    wanted: &Wanted,
+) -> Result<(), String> {
     for &n in lengths {
-        ordered(marker, lent, bytes, n, listing, wanted).map_err(|e| format!("scratch of {}: {e}", n.scratch))?;
+        ordered(course, marker, lent, bytes, n, listing, wanted).map_err(|e| format!("scratch of {}: {e}", n.scratch))?;
     }
     let memories = unordered(listing);
     let brief = Marked { written: memories.len(), sections: 0, denial: 0, denial_line: 0, ..wanted.marked };
-    let marked = lent.mark_unordered(marker, bytes, lengths[0]);
+    let marked = lent.mark_unordered(course, marker, bytes, lengths[0]);
     lent.told(marked, brief, memories, &wanted.records).map_err(|e| format!("no order wanted: {e}"))
 }
 
 /// One marker on one paper where an order is wanted, with these lengths.
-fn ordered(marker: Marker, lent: &mut Lent, bytes: &[u8], n: Lengths, listing: &str, wanted: &Wanted) -> Result<(), String> {
-    let marked = lent.mark(marker, bytes, n);
+fn ordered(
+    course: Course,
+    marker: Marker,
+    lent: &mut Lent,
+    bytes: &[u8],
+    n: Lengths,
+    listing: &str,
+    wanted: &Wanted,
+) -> Result<(), String> {
+    let marked = lent.mark(course, marker, bytes, n);
     lent.told(marked, wanted.marked, listing, &wanted.records)?;
     let Some(entries) = &wanted.order else {
         return ensure(lent.order.is(&[]) && lent.scratch.is(&[]), || "order list or scratch touched without an order".into());
@@ -353,7 +377,7 @@ impl Default for Papers {
 }
 
 /// Each of the five one place too short, and of the three where no order is wanted: 7, line 0, and nothing is touched.
-fn lent_too_little(lent: &mut Lent, bytes: &[u8]) -> Result<(), String> {
+fn lent_too_little(course: Course, lent: &mut Lent, bytes: &[u8]) -> Result<(), String> {
     let full = Lengths::with(0);
     let seven = Marked { number: 7, ..Marked::default() };
     let records =
@@ -361,11 +385,11 @@ fn lent_too_little(lent: &mut Lent, bytes: &[u8]) -> Result<(), String> {
     let order = [Lengths { order: ORDER - 1, ..full }, Lengths { scratch: SCRATCH - 1, ..full }];
     for marker in MARKERS {
         for n in records.into_iter().chain(order) {
-            let marked = lent.mark(marker, bytes, n);
+            let marked = lent.mark(course, marker, bytes, n);
             ensure(marked == seven, || format!("{marker:?}, {n:?}: {marked:?}"))?;
         }
         for n in records {
-            let marked = lent.mark_unordered(marker, bytes, n);
+            let marked = lent.mark_unordered(course, marker, bytes, n);
             ensure(marked == seven, || format!("{marker:?}, {n:?}, no order wanted: {marked:?}"))?;
         }
     }

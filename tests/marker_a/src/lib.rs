@@ -1,9 +1,9 @@
-//! A naive marker for the papers of document 01, with requests (a), (d), (g) and (k) of document 02.
+//! A naive marker for the papers of document 01, with requests (a), (d), (e), (g) and (k) of document 02.
 //!
 //! Every word of 01 is computed anew from the list of earlier events.
-//! The quoted sentences are 01's, for 23 those of 02 (a), for 16 at N also those of 02 (d), and for
-//! the width of values those of 02 (g). 02 (k) asks for "the same order" and changes only a limit
-//! of 7, which cannot arise here.
+//! The quoted sentences are 01's, for 23 those of 02 (a), for 16 at N also those of 02 (d), for the
+//! short course and 25 those of 02 (e), and for the width of values those of 02 (g). 02 (k) asks for
+//! "the same order" and changes only a limit of 7, which cannot arise here.
 
 pub mod listing;
 pub mod order;
@@ -14,7 +14,7 @@ pub mod rules;
 mod tests;
 
 pub use order::{denial, plain_run, sections, Given, Section};
-pub use rules::judge;
+pub use rules::{judge, judge_short};
 
 /// "Paper over 65,536 bytes".
 pub const MAX_BYTES: usize = 65_536;
@@ -39,6 +39,23 @@ pub struct Counts {
     pub variables: u32,
     pub locks: u32,
 }
+
+/// The limits of a course: "Both limits stay in force, each for its own entry".
+#[derive(Clone, Copy, Debug, PartialEq, Eq)]
+struct Limits {
+    /// The most that a head may declare.
+    counts: Counts,
+    /// The most events.
+    events: usize,
+    /// The number of an event over them.
+    number: u32,
+}
+
+/// The limits of 01, with 9 for an event over them.
+const FULL: Limits =
+    Limits { counts: Counts { threads: MAX_THREADS, variables: MAX_VARIABLES, locks: MAX_LOCKS }, events: MAX_EVENTS, number: 9 };
+/// "at most 2 threads, 4 variables, 2 locks and 200 events", with 25 "in place of 9 for events".
+const SHORT: Limits = Limits { counts: Counts { threads: 2, variables: 4, locks: 2 }, events: 200, number: 25 };
 
 /// "An event is one of ten kinds", named by its letter.
 #[derive(Clone, Copy, Debug, PartialEq, Eq)]
@@ -136,11 +153,27 @@ pub fn mark(paper: &[u8]) -> Vec<u8> {
     listing::listing(&outcome(paper))
 }
 
+/// What the short course's entry prints for these bytes.
+pub fn mark_short(paper: &[u8]) -> Vec<u8> {
+    listing::listing(&outcome_short(paper))
+}
+
 /// "Whole paper: 1, 2, 3, 6, then line by line 4, 9, 5 and the row". 7 cannot arise here:
 /// nothing is lent.
 pub fn outcome(paper: &[u8]) -> Outcome {
-    let marked = paper::find(paper).and_then(|parts| {
-        let events = accepted_events(parts.body, parts.counts)?;
+    outcome_within(paper, FULL)
+}
+
+/// The same in the short course, with 25 "after 3 for the head (line 1) and in place of 9 for
+/// events": 1, 2, 3, 25, 6, then line by line 4, 25, 5 and the row.
+pub fn outcome_short(paper: &[u8]) -> Outcome {
+    outcome_within(paper, SHORT)
+}
+
+/// The outcome in a course with these limits.
+fn outcome_within(paper: &[u8], limits: Limits) -> Outcome {
+    let marked = paper::find_within(paper, limits).and_then(|parts| {
+        let events = accepted_events(parts.body, parts.counts, limits)?;
         Ok(accepted(parts.counts, parts.guards, events))
     });
     match marked {
@@ -150,13 +183,13 @@ pub fn outcome(paper: &[u8]) -> Outcome {
 }
 
 /// "line by line 4, 9, 5 and the row".
-fn accepted_events(body: &[u8], counts: Counts) -> Result<Vec<Event>, Refusal> {
+fn accepted_events(body: &[u8], counts: Counts, limits: Limits) -> Result<Vec<Event>, Refusal> {
     let mut events = Vec::new();
     let mut rest = body;
     while let Some((line, after)) = paper::take_line(rest) {
         let place = line_of(events.len());
         let event = paper::event(line).ok_or(Refusal { line: place, number: 4 })?;
-        let number = judge(&events, counts, &event);
+        let number = rules::judge_within(&events, counts, &event, limits);
         if number != 0 {
             return Err(Refusal { line: place, number });
         }

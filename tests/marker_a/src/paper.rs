@@ -1,9 +1,9 @@
 //! The byte format of a paper: trailer, head, `G` line, event lines, numbers.
 
-use crate::{Counts, Event, Kind, Refusal, Value};
-use crate::{MAX_BYTES, MAX_LOCKS, MAX_THREADS, MAX_VARIABLES};
+use crate::{Counts, Event, Kind, Limits, Refusal, Value};
+use crate::{FULL, MAX_BYTES, MAX_LOCKS, MAX_THREADS, MAX_VARIABLES};
 
-/// The parts of a paper that 1, 2, 3 and 6 do not refuse.
+/// The parts of a paper that 1, 2, 3, 25 and 6 do not refuse.
 #[derive(Clone, Debug, PartialEq, Eq)]
 pub struct Parts<'a> {
     pub counts: Counts,
@@ -15,6 +15,11 @@ pub struct Parts<'a> {
 
 /// "Whole paper: 1, 2, 3, 6".
 pub fn find(paper: &[u8]) -> Result<Parts<'_>, Refusal> {
+    find_within(paper, FULL)
+}
+
+/// The same in a course with these limits, with 25 "after 3 for the head".
+pub(crate) fn find_within(paper: &[u8], limits: Limits) -> Result<Parts<'_>, Refusal> {
     // "Paper over 65,536 bytes (line 0)."
     if paper.len() > MAX_BYTES {
         return Err(Refusal { line: 0, number: 1 });
@@ -25,6 +30,11 @@ pub fn find(paper: &[u8]) -> Result<Parts<'_>, Refusal> {
     let wrong_head = Refusal { line: 1, number: 3 };
     let (line, rest) = take_line(&paper[..end]).ok_or(wrong_head)?;
     let counts = head(line).ok_or(wrong_head)?;
+    // "25, over the short course's limits, after 3 for the head (line 1)". After 3 no head is over
+    // the full limits.
+    if over(counts, limits.counts) {
+        return Err(Refusal { line: 1, number: 25 });
+    }
     // "`G` line wrong: form, count, or undeclared lock (line 2)."
     let wrong_guards = Refusal { line: 2, number: 6 };
     let (line, body) = take_line(rest).ok_or(wrong_guards)?;
@@ -65,6 +75,11 @@ fn head(line: &[u8]) -> Option<Counts> {
         }),
         _ => None,
     }
+}
+
+/// More threads, variables or locks than "at most" these.
+fn over(counts: Counts, most: Counts) -> bool {
+    counts.threads > most.threads || counts.variables > most.variables || counts.locks > most.locks
 }
 
 /// "`G` and one lock number per variable, or `G -` for no guards."

@@ -1,10 +1,10 @@
-//! The words about earlier events, rules 5, 9 to 19 and 23, and the rows.
+//! The words about earlier events, rules 5, 9 to 19, 23 and 25 for events, and the rows.
 //!
 //! Every function here reads the list of earlier events and keeps nothing.
 //! T is `t`, V is `v`, the list is `es`.
 
 use crate::Kind::{self, A, B, K, L, N, P, R, S, U, W};
-use crate::{Counts, Event, Value, MAX_EVENTS, MAX_OUTSTANDING};
+use crate::{Counts, Event, Limits, Value, FULL, MAX_OUTSTANDING, SHORT};
 
 /// "the ten rows of this table are fixed", with "23, dead read, after 19 in the rows of R, A
 /// and P".
@@ -24,8 +24,18 @@ pub const ROWS: [(Kind, &[u32]); 10] = [
 /// 0, or the number of the first rule that `e` breaks after the earlier events:
 /// "9, 5 and the row".
 pub fn judge(earlier: &[Event], counts: Counts, e: &Event) -> u32 {
-    if rule_9(earlier) {
-        return 9;
+    judge_within(earlier, counts, e, FULL)
+}
+
+/// The same in the short course: 25 "in place of 9", 5 and the row.
+pub fn judge_short(earlier: &[Event], counts: Counts, e: &Event) -> u32 {
+    judge_within(earlier, counts, e, SHORT)
+}
+
+/// The same in a course with these limits.
+pub(crate) fn judge_within(earlier: &[Event], counts: Counts, e: &Event, limits: Limits) -> u32 {
+    if rule_9(earlier, limits) {
+        return limits.number;
     }
     if rule_5(counts, e) {
         return 5;
@@ -156,9 +166,9 @@ pub fn main_memory(es: &[Event], v: u32) -> Value {
 
 // ---- the rules ----
 
-/// "9. 2,000 events are already in."
-fn rule_9(es: &[Event]) -> bool {
-    es.len() >= MAX_EVENTS
+/// "9. 2,000 events are already in." In the short course "200 events", with 25.
+fn rule_9(es: &[Event], limits: Limits) -> bool {
+    es.len() >= limits.events
 }
 
 /// "5. Thread, variable or lock not declared."

@@ -36,10 +36,52 @@ impl Event {
     }
 }
 
+/// A course. Its papers and states have limits of their own.
+#[derive(Clone, Copy, Debug, PartialEq, Eq)]
+pub enum Course {
+    Full,
+    Short,
+}
+
+pub const COURSES: [Course; 2] = [Course::Full, Course::Short];
+
+impl Course {
+    /// How many threads, variables and locks may be declared.
+    pub fn counts(self) -> Counts {
+        match self {
+            Course::Full => Counts { threads: THREADS, variables: VARIABLES, locks: LOCKS },
+            Course::Short => Counts { threads: 2, variables: 4, locks: 2 },
+        }
+    }
+
+    /// How many events there may be.
+    pub fn events(self) -> u32 {
+        match self {
+            Course::Full => 2000,
+            Course::Short => 200,
+        }
+    }
+
+    /// The refusal of what is over these limits; no head that is right is over those of the full course.
+    pub fn over(self) -> u32 {
+        match self {
+            Course::Full => 9,
+            Course::Short => 25,
+        }
+    }
+}
+
+impl Counts {
+    /// Whether none is greater than that of another.
+    pub fn within(self, most: Counts) -> bool {
+        self.threads <= most.threads && self.variables <= most.variables && self.locks <= most.locks
+    }
+}
+
+/// The most of each in every course.
 const THREADS: usize = 8;
 const VARIABLES: usize = 16;
 const LOCKS: usize = 8;
-const EVENTS: u32 = 2000;
 const ROOM: usize = 8;
 const BYTES: usize = 65_536;
 const FIRST_LINE: u32 = 3;
@@ -116,6 +158,7 @@ struct Section {
 /// The state after some accepted events.
 #[derive(Clone)]
 pub struct State {
+    course: Course,
     counts: Counts,
     guards: Option<[usize; VARIABLES]>,
     events: u32,
@@ -128,8 +171,9 @@ pub struct State {
 }
 
 impl State {
-    pub fn new(counts: Counts, guards: Option<&[usize]>) -> State {
+    pub fn new(course: Course, counts: Counts, guards: Option<&[usize]>) -> State {
         State {
+            course,
             counts,
             guards: guards.map(|list| {
                 let mut all = [0; VARIABLES];
@@ -157,8 +201,8 @@ impl State {
     /// The refusal of the next event; 0 when it is accepted.
     pub fn judge(&self, e: Event) -> u32 {
         let Event { letter, thread: t, place: p, value: x } = e;
-        if self.events >= EVENTS {
-            return 9;
+        if self.events >= self.course.events() {
+            return self.course.over();
         }
         let lock_event = letter == b'K' || letter == b'N';
         if t >= self.counts.threads || p >= (if lock_event { self.counts.locks } else { self.counts.variables }) {
@@ -516,7 +560,7 @@ fn find_trailer(paper: &[u8]) -> Option<usize> {
 }
 
 /// The state after the paper's events, or line and number of the refusal.
-fn run(paper: &[u8]) -> Result<State, (u32, u32)> {
+fn run(course: Course, paper: &[u8]) -> Result<State, (u32, u32)> {
     if paper.len() > BYTES {
         return Err((0, 1));
     }
@@ -528,8 +572,11 @@ fn run(paper: &[u8]) -> Result<State, (u32, u32)> {
         Some(line)
     };
     let counts = next_line().and_then(read_head).ok_or((1, 3))?;
+    if !counts.within(course.counts()) {
+        return Err((1, course.over()));
+    }
     let guards = next_line().and_then(|line| read_guards(line, counts)).ok_or((2, 6))?;
-    let mut state = State::new(counts, if guards.is_empty() { None } else { Some(&guards) });
+    let mut state = State::new(course, counts, if guards.is_empty() { None } else { Some(&guards) });
     while let Some(line) = next_line() {
         let at = state.events + FIRST_LINE;
         let number = read_event(line).map_or(4, |e| state.step(e));
@@ -541,8 +588,8 @@ fn run(paper: &[u8]) -> Result<State, (u32, u32)> {
 }
 
 /// What the program `mark` prints for a paper.
-pub fn mark(paper: &[u8]) -> String {
-    match run(paper) {
+pub fn mark(course: Course, paper: &[u8]) -> String {
+    match run(course, paper) {
         Ok(state) => state.listing(),
         Err((line, number)) => format!("refused {line} {number}\n"),
     }

@@ -3,7 +3,7 @@
 use crate::fields::{load, long_fields, unread};
 use crate::find::Found;
 use crate::rows::*;
-use crate::{Counts, Value, EVENTS, FIRST_LINE, LOCKS, SECTIONS, THREADS, VARIABLES};
+use crate::{Counts, Limits, Value, EVENTS, FIRST_LINE, LOCKS, SECTIONS, THREADS, VARIABLES};
 use std::marker::PhantomData;
 use std::mem::MaybeUninit;
 
@@ -32,6 +32,7 @@ pub struct Room {
 /// The state after some events.
 pub struct Machine<'a> {
     counts: Counts,
+    limits: Limits,
     guards: [u64; LOCKS],
     room: *mut Room,
     /// where the next line starts, where too few bytes follow, where the events end; and the length of the trailer behind
@@ -66,6 +67,7 @@ impl<'a> Machine<'a> {
         }
         Machine {
             counts: found.counts,
+            limits: found.limits,
             guards: found.guards,
             room,
             at: start.wrapping_add(found.start),
@@ -171,6 +173,7 @@ impl<'a> Machine<'a> {
     #[inline(always)]
     unsafe fn run_by_words<const ORDER: bool>(&mut self) -> End {
         let Counts { threads, variables, locks } = self.counts;
+        let most = self.limits.events;
         let one_digit = variables.min(10);
         let what = (&raw mut (*self.room).what).cast::<u32>();
         let values = (&raw mut (*self.room).values).cast::<Value>();
@@ -188,12 +191,12 @@ impl<'a> Machine<'a> {
             let mut value = 0;
             let next;
             // a letter, a space, a digit, a space, a digit
-            if word & 0xf0_ff_f0_ff_00 != 0x30_20_30_20_00 || t >= threads || events == EVENTS {
-                break End::Refused(unread(at, events));
+            if word & 0xf0_ff_f0_ff_00 != 0x30_20_30_20_00 || t >= threads || events == most {
+                break End::Refused(unread(at, events, &self.limits));
             }
             if letter == b'K' || letter == b'N' {
                 if place >= locks || (word >> 40) as u8 != 10 {
-                    break End::Refused(unread(at, events));
+                    break End::Refused(unread(at, events, &self.limits));
                 }
                 next = at.add(6);
                 let end = if letter == b'K' {
@@ -210,7 +213,7 @@ impl<'a> Machine<'a> {
                     next = at.add(8);
                 } else {
                     let Some(long) = long_fields(at, word, variables) else {
-                        break End::Refused(unread(at, events));
+                        break End::Refused(unread(at, events, &self.limits));
                     };
                     (place, value, next) = long;
                 }

@@ -1,6 +1,6 @@
 //! The fields of an event line, read by words of eight bytes.
 
-use crate::{Value, EVENTS};
+use crate::{Limits, Value};
 use std::arch::x86_64::{_mm_cmpeq_epi8, _mm_loadu_si128, _mm_movemask_epi8, _mm_set1_epi8};
 
 /// Eight bytes, the first in the lowest place.
@@ -107,15 +107,15 @@ fn eight(digits: u64) -> u64 {
     (fours.wrapping_mul(10_000).wrapping_add(fours >> 32)) & 0xffff_ffff
 }
 
-/// The refusal of a line that the loop does not read: 4 if it is no event, 9 if 2,000 are in, and 5 is left.
+/// The refusal of a line that the loop does not read: 4 if it is no event, that of the limit if as many events are in, and 5 is left.
 #[cold]
 #[inline(never)]
-pub unsafe fn unread(at: *const u8, events: usize) -> usize {
+pub unsafe fn unread(at: *const u8, events: usize, limits: &Limits) -> usize {
     let mut c = Cursor(at);
     if c.event().is_none() {
         4
-    } else if events == EVENTS {
-        9
+    } else if events == limits.events {
+        limits.over
     } else {
         5
     }

@@ -1,11 +1,12 @@
 //! Trailer, head and `G` line. Every number in them has few digits, so that a longer field is a wrong one.
 
-use crate::{Counts, LOCKS, PAPER, THREADS, VARIABLES};
+use crate::{Counts, Limits, LOCKS, PAPER, THREADS, VARIABLES};
 
 /// A paper whose frame is right.
 pub struct Found<'a> {
     pub paper: &'a [u8],
     pub counts: Counts,
+    pub limits: Limits,
     pub guarded: bool,
     /// for each lock the variables that it guards, a bit each
     pub guards: [u64; LOCKS],
@@ -14,18 +15,22 @@ pub struct Found<'a> {
     pub end: usize,
 }
 
-/// The parts of a paper, or line and number of its refusal: 1, 2, 3 or 6.
+/// The parts of a paper, or line and number of its refusal: 1, 2, 3, 25 or 6.
 #[inline(always)]
-pub fn find(paper: &[u8]) -> Result<Found<'_>, (usize, usize)> {
+pub fn find(paper: &[u8], limits: Limits) -> Result<Found<'_>, (usize, usize)> {
     if paper.len() > PAPER {
         return Err((0, 1));
     }
     let end = trailer(paper).ok_or((0, 2))?;
     let mut c = Cursor { paper, at: 0 };
     let counts = head(&mut c).ok_or((1, 3))?;
+    let most = limits.counts;
+    if counts.threads > most.threads || counts.variables > most.variables || counts.locks > most.locks {
+        return Err((1, limits.over));
+    }
     let guards = guards(&mut c, counts).ok_or((2, 6))?;
     let start = c.at;
-    Ok(Found { paper, counts, guarded: guards.is_some(), guards: guards.unwrap_or_default(), start, end })
+    Ok(Found { paper, counts, limits, guarded: guards.is_some(), guards: guards.unwrap_or_default(), start, end })
 }
 
 /// Where the trailer begins: it is the last line and counts the bytes before it, at most five digits.

@@ -34,6 +34,34 @@ struct Counts {
     locks: usize,
 }
 
+/// A course. Its papers have limits of their own.
+#[derive(Clone, Copy, Debug, PartialEq, Eq)]
+pub enum Course {
+    Full,
+    Short,
+}
+
+/// What may be declared, how many events there may be, and the refusal of what is over; no head that is right is over the limits of the
+/// full course.
+#[derive(Clone, Copy)]
+struct Limits {
+    counts: Counts,
+    events: usize,
+    over: usize,
+}
+
+impl Course {
+    fn limits(self) -> Limits {
+        match self {
+            Course::Full => {
+                Limits { counts: Counts { threads: THREADS, variables: VARIABLES, locks: LOCKS }, events: EVENTS, over: 9 }
+            }
+            Course::Short => Limits { counts: Counts { threads: 2, variables: 4, locks: 2 }, events: 200, over: 25 },
+        }
+    }
+}
+
+/// The most of each in every course.
 const THREADS: usize = 8;
 const VARIABLES: usize = 16;
 const LOCKS: usize = 8;
@@ -52,6 +80,7 @@ struct Order<'a> {
 
 /// Marks a paper into lent memory, its order included.
 pub fn mark(
+    course: Course,
     paper: &[u8],
     what: &mut [u32],
     values: &mut [Value],
@@ -62,20 +91,20 @@ pub fn mark(
     if order.len() < SECTIONS || scratch.len() < SCRATCH {
         return Marked { number: 7, ..Marked::default() };
     }
-    into(paper, what, values, out, Some(Order { list: order, scratch }))
+    into(course, paper, what, values, out, Some(Order { list: order, scratch }))
 }
 
 /// The same where no order is wanted.
-pub fn mark_unordered(paper: &[u8], what: &mut [u32], values: &mut [Value], out: &mut [u8]) -> Marked {
-    into(paper, what, values, out, None)
+pub fn mark_unordered(course: Course, paper: &[u8], what: &mut [u32], values: &mut [Value], out: &mut [u8]) -> Marked {
+    into(course, paper, what, values, out, None)
 }
 
 #[inline(always)]
-fn into(paper: &[u8], what: &mut [u32], values: &mut [Value], out: &mut [u8], order: Option<Order>) -> Marked {
+fn into(course: Course, paper: &[u8], what: &mut [u32], values: &mut [Value], out: &mut [u8], order: Option<Order>) -> Marked {
     if what.len() < EVENTS || values.len() < EVENTS || out.len() < OUT {
         return Marked { number: 7, ..Marked::default() };
     }
-    let found = match find::find(paper) {
+    let found = match find::find(paper, course.limits()) {
         Ok(found) => found,
         Err((line, number)) => return refused(out, line, number),
     };

@@ -1,6 +1,6 @@
 //! Marker A over marker B's events: its words and verdicts after a list of them.
 
-use crate::{Counts, Event, Value};
+use crate::{Counts, Course, Event, Value};
 use marker_a::{rules, Kind};
 
 pub fn counts(c: Counts) -> marker_a::Counts {
@@ -142,7 +142,19 @@ impl After {
     }
 }
 
-/// What the program `mark` prints for a paper.
-pub fn mark(paper: &[u8]) -> String {
-    String::from_utf8(marker_a::mark(paper)).expect("a listing is ASCII")
+/// The refusal of an event after these, 0 when it is accepted. The counts are within the limits of the course.
+pub fn judge(course: Course, earlier: &[marker_a::Event], counts: marker_a::Counts, e: &marker_a::Event) -> u32 {
+    match course {
+        Course::Full => marker_a::judge(earlier, counts, e),
+        Course::Short => marker_a::judge_short(earlier, counts, e),
+    }
+}
+
+/// What the program `mark` prints for a paper, with `--short` in the short course.
+pub fn mark(course: Course, paper: &[u8]) -> String {
+    let listing = match course {
+        Course::Full => marker_a::mark(paper),
+        Course::Short => marker_a::mark_short(paper),
+    };
+    String::from_utf8(listing).expect("a listing is ASCII")
 }

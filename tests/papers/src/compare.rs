@@ -2,20 +2,21 @@
 
 use crate::by_a::{self, After};
 use crate::generate::{self, candidates, Aim, Rng, CASES, DOUBLES, PAIRS};
+use crate::short_course::{self, SITUATIONS};
 use crate::shrink::shrink;
-use crate::{expected, Counts, Event, Value};
+use crate::{expected, Counts, Course, Event, Value};
 use marker_a::Kind;
 use marker_b::State;
 use std::collections::BTreeMap;
 use std::panic::{catch_unwind, AssertUnwindSafe};
 
-/// Marks a paper by all markers, by marker A only where that is asked for: the listing that they agree on, or what differs.
-pub type Check = Box<dyn Fn(&[u8], bool) -> Result<String, String>>;
+/// Marks a paper in a course by all markers, by marker A only where that is asked for: the listing that they agree on, or what differs.
+pub type Check = Box<dyn Fn(Course, &[u8], bool) -> Result<String, String>>;
 
 /// Marker A against one other marker.
-pub fn against_a(other: impl Fn(&[u8]) -> String + 'static) -> Check {
-    Box::new(move |paper, _| {
-        let (a, b) = (by_a::mark(paper), other(paper));
+pub fn against_a(other: impl Fn(Course, &[u8]) -> String + 'static) -> Check {
+    Box::new(move |course, paper, _| {
+        let (a, b) = (by_a::mark(course, paper), other(course, paper));
         if a == b {
             Ok(a)
         } else {
@@ -29,12 +30,14 @@ pub struct Comparison {
     check: Check,
     pub passed: usize,
     pub failed: usize,
-    /// how often each kind of answer occurred
+    /// how often each kind of answer occurred, and each of the short course where that is another
     pub answers: BTreeMap<String, usize>,
     /// how many papers have an order and an unlock over which an early store waits
     pub waiting: usize,
     /// of how many papers `has_many_k` holds
     pub many_k: usize,
+    /// how many papers there were of each of `SITUATIONS`
+    pub situations: [usize; SITUATIONS.len()],
 }
 
 const PRINTED_FAILURES: usize = 20;
@@ -44,6 +47,8 @@ const IN_NO_PAPER: [&str; 2] = ["refused 15 L", "refused 16 L"];
 const WAITING_IN: usize = 200;
 /// For so many papers with many K there must be at least one of which `has_many_k` holds.
 const MANY_K_IN: usize = 4;
+/// For so many papers about the limits of the short course there must be at least one of each of `SITUATIONS`.
+const SITUATION_IN: usize = 1_000;
 const FEW: Counts = Counts { threads: 2, variables: 1, locks: 1 };
 
 /// The kind of a paper's listing: the refusal, with the letter where it is one of a row, or what became of the order.
@@ -126,11 +131,30 @@ fn shown(paper: &[u8]) -> String {
 
 impl Comparison {
     pub fn with(check: Check) -> Comparison {
-        Comparison { check, passed: 0, failed: 0, answers: BTreeMap::new(), waiting: 0, many_k: 0 }
+        Comparison {
+            check,
+            passed: 0,
+            failed: 0,
+            answers: BTreeMap::new(),
+            waiting: 0,
+            many_k: 0,
+            situations: [0; SITUATIONS.len()],
+        }
     }
 
-    fn checked(&self, paper: &[u8], with_a: bool) -> Result<String, String> {
-        catch_unwind(AssertUnwindSafe(|| (self.check)(paper, with_a))).unwrap_or_else(|_| Err("panic\n".to_string()))
+    /// The listings of both courses.
+    fn checked(&self, paper: &[u8], with_a: bool) -> Result<(String, String), String> {
+        let listing = |course: Course| {
+            let said = catch_unwind(AssertUnwindSafe(|| (self.check)(course, paper, with_a)));
+            said.unwrap_or_else(|_| Err("panic\n".to_string())).map_err(|report| format!("{course:?} course: {report}"))
+        };
+        let (full, short) = (listing(Course::Full)?, listing(Course::Short)?);
+        let wanted = short_course::from_full(paper, &full);
+        if short == wanted {
+            Ok((full, short))
+        } else {
+            Err(format!("full course:\n{full}short course:\n{short}wanted:\n{wanted}"))
+        }
     }
 
     fn count(&mut self, failure: Option<String>) {
@@ -148,11 +172,17 @@ impl Comparison {
     /// One paper. A failure prints the smallest paper found that still fails.
     pub fn paper(&mut self, name: &str, paper: &[u8], with_a: bool) {
         let failure = match self.checked(paper, with_a) {
-            Ok(listing) => {
+            Ok((listing, short)) => {
+                if short != listing {
+                    *self.answers.entry(format!("short course, {}", kind(paper, &short))).or_insert(0) += 1;
+                }
                 let kind = kind(paper, &listing);
                 if kind.starts_with("ordered") {
                     self.waiting += usize::from(waits(paper));
                     self.many_k += usize::from(has_many_k(paper, &listing));
+                }
+                for ((_, holds), number) in SITUATIONS.iter().zip(&mut self.situations) {
+                    *number += usize::from(holds(paper, &listing, &short));
                 }
                 let failure = IN_NO_PAPER.contains(&&kind[..]).then(|| format!("FAILED {name}: {kind}\n{}", shown(paper)));
                 *self.answers.entry(kind).or_insert(0) += 1;
@@ -170,11 +200,18 @@ impl Comparison {
 
     /// The papers with known listings.
     pub fn known(&mut self) {
-        for e in expected::papers() {
+        let plain = expected::papers().into_iter().map(|e| (e, None));
+        let both = short_course::papers().into_iter().map(|(e, short)| (e, Some(short)));
+        for (e, short) in plain.chain(both) {
             self.paper(&e.name, &e.paper, true);
             let failure = match self.checked(&e.paper, true) {
-                Ok(listing) if listing == e.listing => None,
-                Ok(listing) => Some(format!("FAILED {}\n{}expected:\n{}got:\n{listing}", e.name, shown(&e.paper), e.listing)),
+                Ok((full, of_short)) => {
+                    let wanted = (&e.listing, short.as_ref().unwrap_or(&of_short));
+                    ((&full, &of_short) != wanted).then(|| {
+                        let (name, paper) = (&e.name, shown(&e.paper));
+                        format!("FAILED {name}\n{paper}expected:\n{}{}got:\n{full}{of_short}", wanted.0, wanted.1)
+                    })
+                }
                 Err(_) => Some(format!("FAILED {}: the markers differ", e.name)),
             };
             self.count(failure);
@@ -186,7 +223,7 @@ impl Comparison {
     pub fn every_short_trace(&mut self, most: usize, values: [Value; 2]) {
         let all = candidates(FEW, &values);
         for guards in [Some(&[0][..]), None] {
-            self.extend(guards, &all, most, &mut Vec::new(), &State::new(FEW, guards));
+            self.extend(guards, &all, most, &mut Vec::new(), &State::new(Course::Full, FEW, guards));
         }
     }
 
@@ -267,6 +304,8 @@ pub struct Size {
     pub large_by_a: u64,
     /// papers of about 2,000 events with many K
     pub many_k: u64,
+    /// papers about the limits of the short course
+    pub at_short_limits: u64,
     /// papers for each aim
     pub aimed: usize,
     /// the length up to which every trace is compared
@@ -288,7 +327,7 @@ pub fn run(check: Check, size: Size) -> (usize, usize) {
         println!("    {}", answers.join("; "));
         before = all;
     };
-    let Size { seed, random, damaged, large, large_by_a, many_k, aimed, short } = size;
+    let Size { seed, random, damaged, large, large_by_a, many_k, at_short_limits, aimed, short } = size;
     part("known listings", &|c| c.known());
     part("every short trace", &|c| c.every_short_trace(short, [0, 1]));
     part("every short trace of values with the same low 32 bits", &|c| {
@@ -303,11 +342,22 @@ pub fn run(check: Check, size: Size) -> (usize, usize) {
         c.many_k = 0;
         c.seeds("many K, seed", generate::paper_with_many_k, seed, many_k, many_k)
     });
+    part("papers at the limits of the short course", &|c| {
+        c.situations = [0; SITUATIONS.len()];
+        c.seeds("short course, seed", generate::paper_at_short_limits, seed, at_short_limits, at_short_limits)
+    });
     for (what, found, wanted) in [
         ("an early store waits over an unlock", comparison.waiting, random as usize / WAITING_IN),
         ("more than 900 K, locks taken again, not by the first K", comparison.many_k, many_k as usize / MANY_K_IN),
     ] {
         println!("ordered, and {what}: {found}");
+        comparison.count((found < wanted).then(|| format!("FAILED: these are fewer than {wanted}")));
+    }
+    let wanted = at_short_limits as usize / SITUATION_IN;
+    let situations = comparison.situations;
+    println!("at the limits of the short course:");
+    for ((what, _), found) in SITUATIONS.iter().zip(situations) {
+        println!("    {what}: {found}");
         comparison.count((found < wanted).then(|| format!("FAILED: these are fewer than {wanted}")));
     }
     let _ = std::panic::take_hook();

@@ -25,6 +25,26 @@ pub fn lines(listing: &str) -> String {
     listing.split(", ").map(|line| format!("{line}\n")).collect()
 }
 
+/// Lines joined by commas.
+pub fn joined(lines: impl IntoIterator<Item = String>) -> String {
+    lines.into_iter().collect::<Vec<String>>().join(", ")
+}
+
+/// The lines of each number below n.
+pub fn each(n: usize, lines: impl Fn(usize) -> String) -> String {
+    joined((0..n).map(lines))
+}
+
+/// So many times these lines.
+pub fn times(n: usize, lines: &str) -> String {
+    each(n, |_| lines.into())
+}
+
+/// These lines, so many times the next, and the last.
+pub fn around(first: &str, n: usize, lines: &str, last: &str) -> String {
+    joined([first.into(), times(n, lines), last.into()])
+}
+
 /// The paper of "One paper whole".
 const WHOLE: &str = "H 2 1 1\nG 0\nK 0 0\nA 0 0 5\nS 0 0 5\nW 0 0 5\nN 0 0\nK 1 0\nR 1 0 5\nL 1 0 5\nU 1 0 5\nN 1 0\nZ 84\n";
 const WHOLE_LISTING: &str = "accepted 10, main 0 5, copy 0 0 5, copy 1 0 5, section 0 3 7, section 1 8 12";

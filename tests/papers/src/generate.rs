@@ -1,7 +1,7 @@
 //! Papers and traces to mark.
 
 use crate::by_a::After;
-use crate::{Counts, Event, Value};
+use crate::{Counts, Course, Event, Value};
 use marker_b::State;
 
 /// SplitMix64: the same seed gives the same papers.
@@ -327,14 +327,19 @@ pub fn close(mut body: Vec<u8>) -> Vec<u8> {
 }
 
 pub fn paper(counts: Counts, guards: Option<&[usize]>, events: &[Event]) -> Vec<u8> {
+    of_lines(counts, guards, events.iter().map(Event::line))
+}
+
+/// The same with any lines for events.
+fn of_lines(counts: Counts, guards: Option<&[usize]>, lines: impl Iterator<Item = String>) -> Vec<u8> {
     let mut text = format!("H {} {} {}\nG", counts.threads, counts.variables, counts.locks);
     match guards {
         None => text += " -",
         Some(list) => list.iter().for_each(|l| text += &format!(" {l}")),
     }
     text += "\n";
-    for e in events {
-        text += &e.line();
+    for line in lines {
+        text += &line;
         text += "\n";
     }
     close(text.into_bytes())
@@ -434,13 +439,18 @@ pub fn long_of(rng: &mut Rng, pool: &[Value], length: usize, bad_percent: usize,
     if orderly {
         counts.locks = counts.locks.max(1);
     }
+    long_with(rng, counts, pool, length, bad_percent, orderly)
+}
+
+/// The same, with these counts. An orderly paper has a lock.
+pub fn long_with(rng: &mut Rng, counts: Counts, pool: &[Value], length: usize, bad_percent: usize, orderly: bool) -> Trace {
     let guarded = counts.locks > 0 && (orderly || rng.chance(65));
     let guards: Option<Vec<usize>> = guarded.then(|| (0..counts.variables).map(|_| rng.below(counts.locks)).collect());
     let mut style = style(rng, pool);
     if orderly {
         style.discipline = 100;
     }
-    let mut state = State::new(counts, guards.as_deref());
+    let mut state = State::new(Course::Full, counts, guards.as_deref());
     let mut events = Vec::new();
     let mut t = 0;
     let mut tries = 0;
@@ -674,7 +684,7 @@ pub fn paper_with_many_k(seed: u64) -> Vec<u8> {
     // in one of five papers thread 0 takes lock 0 again and again and keeps it: no order, and in most of them more than 1,000 K
     let keeps = rng.chance(20);
     let fit = |e: &Event| !keeps || e.thread > 0 || (e.letter, e.place) == (b'K', 0);
-    let mut state = State::new(counts, Some(&guards));
+    let mut state = State::new(Course::Full, counts, Some(&guards));
     let mut events: Vec<Event> = Vec::new();
     let (mut t, mut held) = (0, 0);
     // room for an N for each time that a lock is held, and for the B and W that are due
@@ -692,4 +702,90 @@ pub fn paper_with_many_k(seed: u64) -> Vec<u8> {
         settle(&mut rng, &mut state, &style, &mut events);
     }
     paper(counts, Some(&guards), &events)
+}
+
+/// Lines to stand for the 201st event: some are none, some have an undeclared number, some break a rule of their row in most papers.
+const AFTER_200: [&str; 16] = [
+    "X",
+    "",
+    "A 0 0",
+    "A 0 0 00",
+    "K 0 0 0",
+    "G -",
+    "A 0 0 9223372036854775808",
+    "A 9 0 0",
+    "A 0 16 0",
+    "K 0 8",
+    "N 18446744073709551616 0",
+    "U 0 0 77",
+    "R 0 1 77",
+    "W 0 2 77",
+    "B 0 0 77",
+    "L 0 1 77",
+];
+
+/// A paper about the limits of the short course: 1 to 3 threads, 3 to 5 variables, 1 to 3 locks, and about 200 events.
+pub fn paper_at_short_limits(seed: u64) -> Vec<u8> {
+    let mut rng = Rng::new(seed ^ 0x7777_0000_0000_0000);
+    let counts = Counts {
+        threads: rng.pick(&[1, 2, 2, 2, 2, 3]),
+        variables: rng.pick(&[3, 4, 4, 4, 4, 5]),
+        locks: rng.pick(&[1, 2, 2, 2, 2, 3]),
+    };
+    let most = Course::Short.events() as usize;
+    let number = if rng.chance(30) { most } else { rng.between(most - 5, most + 5) };
+    let orderly = rng.chance(50);
+    let (counts, guards, mut events) = of_length(&mut rng, counts, OF_64_BITS, number, orderly);
+    // an event of the last ten is another
+    if rng.chance(20) {
+        let at = events.len() - 1 - rng.below(10);
+        events[at] = any_event(&mut rng, counts, &[0, 1, 1 << 32]);
+    }
+    let mut lines: Vec<String> = events.iter().map(Event::line).collect();
+    if lines.len() > most && rng.chance(50) {
+        lines[most] = rng.pick(&AFTER_200).to_string();
+    }
+    // counts that no head has, or a lock that is not declared
+    let guards = guards.map(|list| if rng.chance(5) { vec![counts.locks; list.len()] } else { list });
+    let head =
+        if rng.chance(4) { rng.pick(&[Counts { threads: 9, ..counts }, Counts { variables: 17, ..counts }]) } else { counts };
+    let whole = of_lines(head, guards.as_deref(), lines.into_iter());
+    if rng.chance(5) {
+        damage(&mut rng, &whole)
+    } else {
+        whole
+    }
+}
+
+/// Counts, guards and accepted events, so many where that can be: an orderly paper may have more, or no events to go on with.
+pub fn of_length(rng: &mut Rng, counts: Counts, pool: &[Value], number: usize, orderly: bool) -> Trace {
+    let length = number - rng.between(10, 80);
+    let (counts, guards, mut events) = long_with(rng, counts, pool, length, 0, orderly);
+    go_on(rng, counts, guards.as_deref(), &mut events, number, orderly);
+    (counts, guards, events)
+}
+
+/// Goes on to so many events, in an orderly paper by reads and loads alone; or leaves away those behind so many, if it is no orderly one.
+fn go_on(rng: &mut Rng, counts: Counts, guards: Option<&[usize]>, events: &mut Vec<Event>, number: usize, orderly: bool) {
+    if !orderly {
+        events.truncate(number);
+    }
+    let mut state = State::new(Course::Full, counts, guards);
+    for &e in events.iter() {
+        assert_eq!(state.step(e), 0);
+    }
+    // U A L S R W K N P B
+    let weights = if orderly { [0, 0, 1, 0, 1, 0, 0, 0, 0, 0] } else { [1; 10] };
+    let style = Style { weights, discipline: 0, stay: 0, values: vec![0, 1, 1 << 32] };
+    // a thread may have assigns that can neither be stored nor read again
+    for _ in 0..100 * number {
+        if events.len() >= number {
+            break;
+        }
+        let t = rng.below(counts.threads);
+        if let Some(e) = open_event(rng, &state, &style, t, false) {
+            assert_eq!(state.step(e), 0);
+            events.push(e);
+        }
+    }
 }

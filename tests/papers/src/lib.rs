@@ -6,7 +6,8 @@ pub mod compare;
 pub mod expected;
 pub mod generate;
 pub mod locking;
+pub mod short_course;
 pub mod shrink;
 pub mod values;
 
-pub use marker_b::{Counts, Event, Value};
+pub use marker_b::{Counts, Course, Event, Value, COURSES};

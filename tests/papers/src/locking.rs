@@ -1,26 +1,6 @@
 //! Papers about the number of K, with listings worked out by hand. One with an order has at most 1,000, for each K has its N.
 
-use crate::expected::{lines, text, Expected};
-
-/// Lines joined by commas.
-fn joined(lines: impl IntoIterator<Item = String>) -> String {
-    lines.into_iter().collect::<Vec<String>>().join(", ")
-}
-
-/// The lines of each number below n.
-fn each(n: usize, lines: impl Fn(usize) -> String) -> String {
-    joined((0..n).map(lines))
-}
-
-/// So many times these lines.
-fn times(n: usize, lines: &str) -> String {
-    each(n, |_| lines.into())
-}
-
-/// These lines, so many times the next, and the last.
-fn around(first: &str, n: usize, lines: &str, last: &str) -> String {
-    joined([first.into(), times(n, lines), last.into()])
-}
+use crate::expected::{around, each, joined, lines, text, times, Expected};
 
 /// Papers of 2,000 events that have an order: name, events, what the listing has behind main memory. Guard of the variable is lock 0.
 fn ordered() -> Vec<(&'static str, String, String)> {

@@ -1,7 +1,7 @@
 -- `c_api::step_numbers` meets its contract. Assumes nothing.
 use borrow.Author.Needs.{needs}
 use mir.ValLaws.{toZ-ofZ}
-use Rattle.rules.specs.Limits.{valueWidth}
+use Rattle.rules.specs.Limits.{limitsOf, valueWidth}
 use Rattle.c_api.proofs.StepLaws.{none-named, one-named}
 use Rattle.c_api.proofs.step_numbers.Statement.{statement}
 use Rattle.c_api.proofs.step_numbers.Tie as tie
@@ -27,12 +27,12 @@ reply-of-requires c κs = search needs
 returns : tie.Need-returns
 returns c =
     let a = c .before .before .before .before .before .args in
-    none-named (a .s) (a .letter) (a .thread) (a .place) (a .value) _ (toZ-ofZ valueWidth _ (c .before .before .before .before .before .fits .value)) _ (c .before .before .kind-of .ensures) _ (c .before .before .before .line-after .ensures) (c .enum-told .given .1)
+    none-named (limitsOf (a .course)) (a .s) (a .letter) (a .thread) (a .place) (a .value) _ (toZ-ofZ valueWidth _ (c .before .before .before .before .before .fits .value)) _ (c .before .before .kind-of .ensures) _ (c .before .before .before .line-after .ensures) (c .enum-told .given .1)
 
 returns-2 : tie.Need-returns-2
 returns-2 c =
     let a = c .before .before .before .before .before .before .before .before .before .args in
-    one-named (a .s) (a .letter) (a .thread) (a .place) (a .value) _ (toZ-ofZ valueWidth _ (c .before .before .before .before .before .before .before .before .before .fits .value)) _ (c .before .before .before .before .before .before .kind-of .ensures) _
+    one-named (limitsOf (a .course)) (a .s) (a .letter) (a .thread) (a .place) (a .value) _ (toZ-ofZ valueWidth _ (c .before .before .before .before .before .before .before .before .before .fits .value)) _ (c .before .before .before .before .before .before .kind-of .ensures) _
     (c .before .before .before .before .before .before .before .line-after .ensures) _ _ _ (c .before .before .before .before .named .given .1) (c .before .before .step .ensures) (c .reply-of .ensures)
 
 pub step-numbers-spec : {M : Type 1} → statement M

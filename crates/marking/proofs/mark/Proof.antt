@@ -5,7 +5,8 @@ use lib.Seq.{length-take-le}
 use denote.Ref.{now}
 use Rattle.trace.specs.declared.Trace.{Trace}
 use Rattle.trace.proofs.TraceLaws.{lies}
-use Rattle.rules.specs.Limits.{full}
+use Rattle.rules.specs.Limits.{limitsOf}
+use Rattle.rules.proofs.Bounds.{up-to-full}
 use Rattle.marking.proofs.ReadRows.{marks-unfound, marks-found, reads-low}
 use borrow.Author.Needs.{needs}
 use Rattle.marking.proofs.mark.Statement.{statement}
@@ -24,7 +25,7 @@ returns : tie.Need-returns
 returns c =
     let a = c .before .before .before .before .before .before .args in
     let v = c .before .before .found .given in
-    marks-unfound (now (a .bytes)) (c .before .before .before .before .find .result) (c .before .before .before .before .find .ensures) (now (a .what)) (now (a .value)) (v .0 .0) (v .0 .1 .0) (v .1) (c .refuse .result) (c .refuse .ensures)
+    marks-unfound (limitsOf (a .course)) (up-to-full (a .course)) (now (a .bytes)) (c .before .before .before .before .find .result) (c .before .before .before .before .find .ensures) (now (a .what)) (now (a .value)) (v .0 .0) (v .0 .1 .0) (v .1) (c .refuse .result) (c .refuse .ensures)
 
 enum-told : tie.Need-enum-told
 enum-told c = search needs
@@ -32,21 +33,21 @@ enum-told c = search needs
 slice-aggregate-read-lines : tie.Need-slice-aggregate-read-lines
 slice-aggregate-read-lines c =
     let s = now (c .before .before .before .before .before .before .args .bytes) in
-    sym (length-take-le _ s (omega (arith, lies full s .end, ap (λ (q : Trace). q .to) (c .before .before .before .before .find .ensures))))
+    sym (length-take-le _ s (omega (arith, lies (limitsOf (c .before .before .before .before .before .before .args .course)) s .end, ap (λ (q : Trace). q .to) (c .before .before .before .before .find .ensures))))
 
 read-lines-requires : tie.Need-read-lines-requires
 read-lines-requires c κs = search needs
 
 mark-read-requires : tie.Need-mark-read-requires
 mark-read-requires c κs =
-    reads-low _ _ _ _ _ _ _ (c .before .before .before .before .before .read-lines .ensures)
+    reads-low _ _ _ _ _ _ _ _ (c .before .before .before .before .before .read-lines .ensures)
 
 returns-2 : tie.Need-returns-2
 returns-2 c =
     let a = c .before .before .before .before .before .before .before .before .before .before .before .before .before .before .before .args in
     let t = c .before .before .before .before .before .before .before .before .before .before .before .before .before .find in
     let r = c .before .before .before .before .before .before .read-lines in
-    marks-found (now (a .bytes)) (t .result) (t .ensures) (now (a .what)) (r .last .1 .1 .1 .0) (now (a .value)) (r .last .1 .1 .1 .1 .0) (r .result) (c .mark-read .result) (c .before .before .before .before .before .before .before .before .before .before .before .enum-told .given .1) (r .ensures) (c .mark-read .ensures)
+    marks-found (limitsOf (a .course)) (up-to-full (a .course)) (now (a .bytes)) (t .result) (t .ensures) (now (a .what)) (r .last .1 .1 .1 .1 .0) (now (a .value)) (r .last .1 .1 .1 .1 .1 .0) (r .result) (c .mark-read .result) (c .before .before .before .before .before .before .before .before .before .before .before .enum-told .given .1) (r .ensures) (c .mark-read .ensures)
 
 pub mark-spec : {M : Type 1} → statement M
 mark-spec =

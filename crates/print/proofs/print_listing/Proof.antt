@@ -5,7 +5,7 @@ use mathlib.Core.Path.{sym}
 use denote.Ref.{now}
 use lib.ListN.{replicate, length-replicate}
 use lib.Seq.{length-take-le}
-use Rattle.report.proofs.Reported.{written-in, not-short, written-is}
+use Rattle.report.proofs.Reported.{written-in, enough-lent, written-is}
 use borrow.Author.Needs.{needs}
 use Rattle.print.proofs.print_listing.Statement.{statement}
 use Rattle.print.proofs.print_listing.Tie as tie
@@ -23,19 +23,20 @@ mark-lent-requires : tie.Need-mark-lent-requires
 mark-lent-requires c κs = search needs
 
 array-share-prefix-out : tie.Need-array-share-prefix-out
-array-share-prefix-out c = written-in _ _ _ _ _ (c .before .before .before .mark-lent .result) _ _ _ (c .before .before .before .mark-lent .ensures .reports)
+array-share-prefix-out c = written-in (c .before .before .before .before .before .before .before .before .before .before .args .course) _ _ _ _ _ (c .before .before .before .mark-lent .result) _ _ _ (c .before .before .before .mark-lent .ensures .reports)
 
 slice-aggregate-write-all : tie.Need-slice-aggregate-write-all
-slice-aggregate-write-all c = sym (length-take-le _ _ (written-in _ _ _ _ _ (c .before .before .before .before .mark-lent .result) _ _ _ (c .before .before .before .before .mark-lent .ensures .reports)))
+slice-aggregate-write-all c = sym (length-take-le _ _ (written-in (c .before .before .before .before .before .before .before .before .before .before .before .args .course) _ _ _ _ _ (c .before .before .before .before .mark-lent .result) _ _ _ (c .before .before .before .before .mark-lent .ensures .reports)))
 
 write-all-requires : tie.Need-write-all-requires
 write-all-requires c κs = search needs
 
 returns : tie.Need-returns
 returns c =
+    let a = c .before .before .before .before .before .before .before .before .before .before .before .before .args in
     let m = c .before .before .before .before .before .mark-lent in
-    written-is (now (c .before .before .before .before .before .before .before .before .before .before .before .before .args .s)) 2000 (replicate 32768 0) (replicate 1000 0) (replicate 1000 0) (m .result) _ _ _ (m .ensures .reports)
-    (not-short 2000 (replicate 32768 0) (replicate 1000 0) (replicate 1000 0) (omega arith) (omega (arith, length-replicate {A = ℕ} 32768 0)) (omega (arith, length-replicate {A = ℕ} 1000 0))
+    written-is (a .course) (now (a .s)) 2000 (replicate 32768 0) (replicate 1000 0) (replicate 1000 0) (m .result) _ _ _ (m .ensures .reports)
+    (enough-lent (a .course) 2000 (replicate 32768 0) (replicate 1000 0) (replicate 1000 0) (omega arith) (omega (arith, length-replicate {A = ℕ} 32768 0)) (omega (arith, length-replicate {A = ℕ} 1000 0))
     (omega (arith, length-replicate {A = ℕ} 1000 0)))
 
 pub print-listing-spec : {M : Type 1} → statement M

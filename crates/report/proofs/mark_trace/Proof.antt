@@ -16,42 +16,42 @@ array-share-prefix-what c =
     let a = c .before .before .before .before .before .before .before .before .before .before .before .before .before .before .before .before .before .before .before .args in
     let l = c .before .before .before .before .before .before .before .mark-lent in
     let c′ = rw (c .before .before .before .before .before .before .before .before .before .before .before .before .before .lesser .ensures) at (l .ensures) in
-    front-whats (now (a .bytes)) (now (a .whats)) (now (a .values)) _ _ (now (a .out)) (now (a .list)) (now (a .scratch)) (l .result) _ _ _ _ _ c′ .inside
+    front-whats (a .course) (now (a .bytes)) (now (a .whats)) (now (a .values)) _ _ (now (a .out)) (now (a .list)) (now (a .scratch)) (l .result) _ _ _ _ _ c′ .inside
 
 slice-aggregate-copy-whats : tie.Need-slice-aggregate-copy-whats
 slice-aggregate-copy-whats c =
     let a = c .before .before .before .before .before .before .before .before .before .before .before .before .before .before .before .before .before .before .before .before .args in
     let l = c .before .before .before .before .before .before .before .before .mark-lent in
     let c′ = rw (c .before .before .before .before .before .before .before .before .before .before .before .before .before .before .lesser .ensures) at (l .ensures) in
-    front-whats (now (a .bytes)) (now (a .whats)) (now (a .values)) _ _ (now (a .out)) (now (a .list)) (now (a .scratch)) (l .result) _ _ _ _ _ c′ .count
+    front-whats (a .course) (now (a .bytes)) (now (a .whats)) (now (a .values)) _ _ (now (a .out)) (now (a .list)) (now (a .scratch)) (l .result) _ _ _ _ _ c′ .count
 
 copy-whats-requires : tie.Need-copy-whats-requires
 copy-whats-requires c κs =
     let a = c .before .before .before .before .before .before .before .before .before .before .before .before .before .before .before .before .before .before .before .before .args in
     let l = c .before .before .before .before .before .before .before .before .mark-lent in
     let c′ = rw (c .before .before .before .before .before .before .before .before .before .before .before .before .before .before .lesser .ensures) at (l .ensures) in
-    front-whats (now (a .bytes)) (now (a .whats)) (now (a .values)) _ _ (now (a .out)) (now (a .list)) (now (a .scratch)) (l .result) _ _ _ _ _ c′ .room
+    front-whats (a .course) (now (a .bytes)) (now (a .whats)) (now (a .values)) _ _ (now (a .out)) (now (a .list)) (now (a .scratch)) (l .result) _ _ _ _ _ c′ .room
 
 array-share-prefix-value : tie.Need-array-share-prefix-value
 array-share-prefix-value c =
     let a = c .before .before .before .before .before .before .before .before .before .before .before .before .before .before .before .before .before .before .before .before .before .before .before .before .args in
     let l = c .before .before .before .before .before .before .before .before .before .before .before .before .mark-lent in
     let c′ = rw (c .before .before .before .before .before .before .before .before .before .before .before .before .before .before .before .before .before .before .lesser .ensures) at (l .ensures) in
-    front-values (now (a .bytes)) (now (a .whats)) (now (a .values)) _ _ (now (a .out)) (now (a .list)) (now (a .scratch)) (l .result) _ _ _ _ _ c′ .inside
+    front-values (a .course) (now (a .bytes)) (now (a .whats)) (now (a .values)) _ _ (now (a .out)) (now (a .list)) (now (a .scratch)) (l .result) _ _ _ _ _ c′ .inside
 
 slice-aggregate-copy-values : tie.Need-slice-aggregate-copy-values
 slice-aggregate-copy-values c =
     let a = c .before .before .before .before .before .before .before .before .before .before .before .before .before .before .before .before .before .before .before .before .before .before .before .before .before .args in
     let l = c .before .before .before .before .before .before .before .before .before .before .before .before .before .mark-lent in
     let c′ = rw (c .before .before .before .before .before .before .before .before .before .before .before .before .before .before .before .before .before .before .before .lesser .ensures) at (l .ensures) in
-    front-values (now (a .bytes)) (now (a .whats)) (now (a .values)) _ _ (now (a .out)) (now (a .list)) (now (a .scratch)) (l .result) _ _ _ _ _ c′ .count
+    front-values (a .course) (now (a .bytes)) (now (a .whats)) (now (a .values)) _ _ (now (a .out)) (now (a .list)) (now (a .scratch)) (l .result) _ _ _ _ _ c′ .count
 
 copy-values-requires : tie.Need-copy-values-requires
 copy-values-requires c κs =
     let a = c .before .before .before .before .before .before .before .before .before .before .before .before .before .before .before .before .before .before .before .before .before .before .before .before .before .args in
     let l = c .before .before .before .before .before .before .before .before .before .before .before .before .before .mark-lent in
     let c′ = rw (c .before .before .before .before .before .before .before .before .before .before .before .before .before .before .before .before .before .before .before .lesser .ensures) at (l .ensures) in
-    front-values (now (a .bytes)) (now (a .whats)) (now (a .values)) _ _ (now (a .out)) (now (a .list)) (now (a .scratch)) (l .result) _ _ _ _ _ c′ .room
+    front-values (a .course) (now (a .bytes)) (now (a .whats)) (now (a .values)) _ _ (now (a .out)) (now (a .list)) (now (a .scratch)) (l .result) _ _ _ _ _ c′ .room
 
 same-length : tie.Need-same-length
 same-length c = search needs
@@ -73,7 +73,7 @@ returns c =
     let a = c .before .before .before .before .before .before .before .before .before .before .before .before .before .before .before .before .before .before .before .before .before .before .before .before .before .before .before .args in
     let l = c .before .before .before .before .before .before .before .before .before .before .before .before .before .before .before .mark-lent in
     let c′ = rw (c .before .before .before .before .before .before .before .before .before .before .before .before .before .before .before .before .before .before .before .before .before .lesser .ensures) at (l .ensures) in
-    fills (now (a .bytes)) (now (a .whats)) (now (a .values)) _ _ (now (a .out)) (now (a .list)) (now (a .scratch)) (l .result) _ _ _ _ _ c′ _ _ (c .before .before .before .before .before .before .copy-whats .ensures) (c .before .copy-values .ensures)
+    fills (a .course) (now (a .bytes)) (now (a .whats)) (now (a .values)) _ _ (now (a .out)) (now (a .list)) (now (a .scratch)) (l .result) _ _ _ _ _ c′ _ _ (c .before .before .before .before .before .before .copy-whats .ensures) (c .before .copy-values .ensures)
 
 pub mark-trace-spec : {M : Type 1} → statement M
 mark-trace-spec =

@@ -1,6 +1,6 @@
 -- `report::mark_unordered` meets its contract: 7, a refusal, or records and listing of an accepted trace.
 use denote.Ref.{now}
-use Rattle.report.proofs.Briefed.{brief-short, short-brief, refused-brief, front-whats, front-values, accepted-brief}
+use Rattle.report.proofs.Briefed.{brief-little, little-brief, refused-brief, front-whats, front-values, accepted-brief}
 use borrow.Author.Needs.{needs}
 use Rattle.report.proofs.mark_unordered.Statement.{statement}
 use Rattle.report.proofs.mark_unordered.Tie as tie
@@ -8,17 +8,17 @@ use Rattle.report.proofs.mark_unordered.Tie as tie
 lesser-requires : tie.Need-lesser-requires
 lesser-requires c κs = search needs
 
-is-short-requires : tie.Need-is-short-requires
-is-short-requires c κs = search needs
+is-lent-short-requires : tie.Need-is-lent-short-requires
+is-lent-short-requires c κs = search needs
 
-short-requires : tie.Need-short-requires
-short-requires c κs = search needs
+lent-short-requires : tie.Need-lent-short-requires
+lent-short-requires c κs = search needs
 
 returns : tie.Need-returns
 returns c =
     let a = c .before .before .before .before .before .before .before .args in
-    let e = brief-short (now (a .whats)) (now (a .values)) (now (a .out)) _ _ _ (c .before .before .before .lesser .ensures) (c .before .before .is-short .ensures) (c .before .if1 .taken) in
-    short-brief (now (a .bytes)) (now (a .whats)) (now (a .values)) (now (a .out)) (c .short .result) e (c .short .ensures)
+    let e = brief-little (a .course) (now (a .whats)) (now (a .values)) (now (a .out)) _ _ _ (c .before .before .before .lesser .ensures) (c .before .before .is-lent-short .ensures) (c .before .if1 .taken) in
+    little-brief (a .course) (now (a .bytes)) (now (a .whats)) (now (a .values)) (now (a .out)) (c .lent-short .result) e (c .lent-short .ensures)
 
 mark-requires : tie.Need-mark-requires
 mark-requires c κs = search needs
@@ -39,8 +39,8 @@ returns-2 : tie.Need-returns-2
 returns-2 c =
     let a = c .before .before .before .before .before .before .before .before .before .before .before .before .before .before .before .before .args in
     let m = c .before .before .before .before .before .before .before .mark in
-    let e = brief-short (now (a .whats)) (now (a .values)) (now (a .out)) _ _ _ (c .before .before .before .before .before .before .before .before .before .before .before .before .lesser .ensures) (c .before .before .before .before .before .before .before .before .before .before .before .is-short .ensures) (c .before .before .before .before .before .before .before .before .before .before .if1 .left) in
-    refused-brief (now (a .bytes)) (now (a .whats)) (now (a .values)) (now (a .out)) e _ _ (m .result) _ _ (m .ensures) _ _ (c .before .before .write-refused .result) _ (c .before .before .before .before .before .said .given .1) (c .before .before .write-refused .ensures)
+    let e = brief-little (a .course) (now (a .whats)) (now (a .values)) (now (a .out)) _ _ _ (c .before .before .before .before .before .before .before .before .before .before .before .before .lesser .ensures) (c .before .before .before .before .before .before .before .before .before .before .before .is-lent-short .ensures) (c .before .before .before .before .before .before .before .before .before .before .if1 .left) in
+    refused-brief (a .course) (now (a .bytes)) (now (a .whats)) (now (a .values)) (now (a .out)) e _ _ (m .result) _ _ (m .ensures) _ _ (c .before .before .write-refused .result) _ (c .before .before .before .before .before .said .given .1) (c .before .before .write-refused .ensures)
 
 enum-told : tie.Need-enum-told
 enum-told c = search needs
@@ -49,43 +49,43 @@ array-share-prefix-what : tie.Need-array-share-prefix-what
 array-share-prefix-what c =
     let a = c .before .before .before .before .before .before .before .before .before .before .before .before .args in
     let m = c .before .before .before .mark in
-    let e = brief-short (now (a .whats)) (now (a .values)) (now (a .out)) _ _ _ (c .before .before .before .before .before .before .before .before .lesser .ensures) (c .before .before .before .before .before .before .before .is-short .ensures) (c .before .before .before .before .before .before .if1 .left) in
-    front-whats (now (a .bytes)) (now (a .whats)) (now (a .values)) (now (a .out)) e _ _ (m .result) _ _ (m .ensures) (c .before .enum-told .given .1) .inside
+    let e = brief-little (a .course) (now (a .whats)) (now (a .values)) (now (a .out)) _ _ _ (c .before .before .before .before .before .before .before .before .lesser .ensures) (c .before .before .before .before .before .before .before .is-lent-short .ensures) (c .before .before .before .before .before .before .if1 .left) in
+    front-whats (a .course) (now (a .bytes)) (now (a .whats)) (now (a .values)) (now (a .out)) e _ _ (m .result) _ _ (m .ensures) (c .before .enum-told .given .1) .inside
 
 slice-aggregate-copy-whats : tie.Need-slice-aggregate-copy-whats
 slice-aggregate-copy-whats c =
     let a = c .before .before .before .before .before .before .before .before .before .before .before .before .before .args in
     let m = c .before .before .before .before .mark in
-    let e = brief-short (now (a .whats)) (now (a .values)) (now (a .out)) _ _ _ (c .before .before .before .before .before .before .before .before .before .lesser .ensures) (c .before .before .before .before .before .before .before .before .is-short .ensures) (c .before .before .before .before .before .before .before .if1 .left) in
-    front-whats (now (a .bytes)) (now (a .whats)) (now (a .values)) (now (a .out)) e _ _ (m .result) _ _ (m .ensures) (c .before .before .enum-told .given .1) .count
+    let e = brief-little (a .course) (now (a .whats)) (now (a .values)) (now (a .out)) _ _ _ (c .before .before .before .before .before .before .before .before .before .lesser .ensures) (c .before .before .before .before .before .before .before .before .is-lent-short .ensures) (c .before .before .before .before .before .before .before .if1 .left) in
+    front-whats (a .course) (now (a .bytes)) (now (a .whats)) (now (a .values)) (now (a .out)) e _ _ (m .result) _ _ (m .ensures) (c .before .before .enum-told .given .1) .count
 
 copy-whats-requires : tie.Need-copy-whats-requires
 copy-whats-requires c κs =
     let a = c .before .before .before .before .before .before .before .before .before .before .before .before .before .args in
     let m = c .before .before .before .before .mark in
-    let e = brief-short (now (a .whats)) (now (a .values)) (now (a .out)) _ _ _ (c .before .before .before .before .before .before .before .before .before .lesser .ensures) (c .before .before .before .before .before .before .before .before .is-short .ensures) (c .before .before .before .before .before .before .before .if1 .left) in
-    front-whats (now (a .bytes)) (now (a .whats)) (now (a .values)) (now (a .out)) e _ _ (m .result) _ _ (m .ensures) (c .before .before .enum-told .given .1) .room
+    let e = brief-little (a .course) (now (a .whats)) (now (a .values)) (now (a .out)) _ _ _ (c .before .before .before .before .before .before .before .before .before .lesser .ensures) (c .before .before .before .before .before .before .before .before .is-lent-short .ensures) (c .before .before .before .before .before .before .before .if1 .left) in
+    front-whats (a .course) (now (a .bytes)) (now (a .whats)) (now (a .values)) (now (a .out)) e _ _ (m .result) _ _ (m .ensures) (c .before .before .enum-told .given .1) .room
 
 array-share-prefix-value : tie.Need-array-share-prefix-value
 array-share-prefix-value c =
     let a = c .before .before .before .before .before .before .before .before .before .before .before .before .before .before .before .before .before .args in
     let m = c .before .before .before .before .before .before .before .before .mark in
-    let e = brief-short (now (a .whats)) (now (a .values)) (now (a .out)) _ _ _ (c .before .before .before .before .before .before .before .before .before .before .before .before .before .lesser .ensures) (c .before .before .before .before .before .before .before .before .before .before .before .before .is-short .ensures) (c .before .before .before .before .before .before .before .before .before .before .before .if1 .left) in
-    front-values (now (a .bytes)) (now (a .whats)) (now (a .values)) (now (a .out)) e _ _ (m .result) _ _ (m .ensures) (c .before .before .before .before .before .before .enum-told .given .1) .inside
+    let e = brief-little (a .course) (now (a .whats)) (now (a .values)) (now (a .out)) _ _ _ (c .before .before .before .before .before .before .before .before .before .before .before .before .before .lesser .ensures) (c .before .before .before .before .before .before .before .before .before .before .before .before .is-lent-short .ensures) (c .before .before .before .before .before .before .before .before .before .before .before .if1 .left) in
+    front-values (a .course) (now (a .bytes)) (now (a .whats)) (now (a .values)) (now (a .out)) e _ _ (m .result) _ _ (m .ensures) (c .before .before .before .before .before .before .enum-told .given .1) .inside
 
 slice-aggregate-copy-values : tie.Need-slice-aggregate-copy-values
 slice-aggregate-copy-values c =
     let a = c .before .before .before .before .before .before .before .before .before .before .before .before .before .before .before .before .before .before .args in
     let m = c .before .before .before .before .before .before .before .before .before .mark in
-    let e = brief-short (now (a .whats)) (now (a .values)) (now (a .out)) _ _ _ (c .before .before .before .before .before .before .before .before .before .before .before .before .before .before .lesser .ensures) (c .before .before .before .before .before .before .before .before .before .before .before .before .before .is-short .ensures) (c .before .before .before .before .before .before .before .before .before .before .before .before .if1 .left) in
-    front-values (now (a .bytes)) (now (a .whats)) (now (a .values)) (now (a .out)) e _ _ (m .result) _ _ (m .ensures) (c .before .before .before .before .before .before .before .enum-told .given .1) .count
+    let e = brief-little (a .course) (now (a .whats)) (now (a .values)) (now (a .out)) _ _ _ (c .before .before .before .before .before .before .before .before .before .before .before .before .before .before .lesser .ensures) (c .before .before .before .before .before .before .before .before .before .before .before .before .before .is-lent-short .ensures) (c .before .before .before .before .before .before .before .before .before .before .before .before .if1 .left) in
+    front-values (a .course) (now (a .bytes)) (now (a .whats)) (now (a .values)) (now (a .out)) e _ _ (m .result) _ _ (m .ensures) (c .before .before .before .before .before .before .before .enum-told .given .1) .count
 
 copy-values-requires : tie.Need-copy-values-requires
 copy-values-requires c κs =
     let a = c .before .before .before .before .before .before .before .before .before .before .before .before .before .before .before .before .before .before .args in
     let m = c .before .before .before .before .before .before .before .before .before .mark in
-    let e = brief-short (now (a .whats)) (now (a .values)) (now (a .out)) _ _ _ (c .before .before .before .before .before .before .before .before .before .before .before .before .before .before .lesser .ensures) (c .before .before .before .before .before .before .before .before .before .before .before .before .before .is-short .ensures) (c .before .before .before .before .before .before .before .before .before .before .before .before .if1 .left) in
-    front-values (now (a .bytes)) (now (a .whats)) (now (a .values)) (now (a .out)) e _ _ (m .result) _ _ (m .ensures) (c .before .before .before .before .before .before .before .enum-told .given .1) .room
+    let e = brief-little (a .course) (now (a .whats)) (now (a .values)) (now (a .out)) _ _ _ (c .before .before .before .before .before .before .before .before .before .before .before .before .before .before .lesser .ensures) (c .before .before .before .before .before .before .before .before .before .before .before .before .before .is-lent-short .ensures) (c .before .before .before .before .before .before .before .before .before .before .before .before .if1 .left) in
+    front-values (a .course) (now (a .bytes)) (now (a .whats)) (now (a .values)) (now (a .out)) e _ _ (m .result) _ _ (m .ensures) (c .before .before .before .before .before .before .before .enum-told .given .1) .room
 
 write-memories-requires : tie.Need-write-memories-requires
 write-memories-requires c κs = search needs
@@ -103,16 +103,16 @@ returns-3 : tie.Need-returns-3
 returns-3 c =
     let a = c .before .before .before .before .before .before .before .before .before .before .before .before .before .before .before .before .before .before .before .before .before .before .before .before .args in
     let m = c .before .before .before .before .before .before .before .before .before .before .before .before .before .before .before .mark in
-    let e = brief-short (now (a .whats)) (now (a .values)) (now (a .out)) _ _ _ (c .before .before .before .before .before .before .before .before .before .before .before .before .before .before .before .before .before .before .before .before .lesser .ensures) (c .before .before .before .before .before .before .before .before .before .before .before .before .before .before .before .before .before .before .before .is-short .ensures) (c .before .before .before .before .before .before .before .before .before .before .before .before .before .before .before .before .before .before .if1 .left) in
-    accepted-brief (now (a .bytes)) (now (a .whats)) (now (a .values)) (now (a .out)) e _ _ (m .result) _ _ (m .ensures) (c .before .before .before .before .before .before .before .before .before .before .before .before .before .enum-told .given .1) (c .before .before .write-memories .result) _ _ _ (c .before .before .before .before .before .before .before .before .before .before .copy-whats .ensures) (c .before .before .before .before .before .copy-values .ensures) (c .before .before .write-memories .ensures)
+    let e = brief-little (a .course) (now (a .whats)) (now (a .values)) (now (a .out)) _ _ _ (c .before .before .before .before .before .before .before .before .before .before .before .before .before .before .before .before .before .before .before .before .lesser .ensures) (c .before .before .before .before .before .before .before .before .before .before .before .before .before .before .before .before .before .before .before .is-lent-short .ensures) (c .before .before .before .before .before .before .before .before .before .before .before .before .before .before .before .before .before .before .if1 .left) in
+    accepted-brief (a .course) (now (a .bytes)) (now (a .whats)) (now (a .values)) (now (a .out)) e _ _ (m .result) _ _ (m .ensures) (c .before .before .before .before .before .before .before .before .before .before .before .before .before .enum-told .given .1) (c .before .before .write-memories .result) _ _ _ (c .before .before .before .before .before .before .before .before .before .before .copy-whats .ensures) (c .before .before .before .before .before .copy-values .ensures) (c .before .before .write-memories .ensures)
 
 pub mark-unordered-spec : {M : Type 1} → statement M
 mark-unordered-spec =
     tie.close
     (tie.spec
     lesser-requires
-    is-short-requires
-    short-requires
+    is-lent-short-requires
+    lent-short-requires
     returns
     mark-requires
     enum-known-said

@@ -1,13 +1,20 @@
-use mathlib.Core.Path.{refl}
+use mathlib.Core.Path.{ap}
+use mathlib.Core.Bool.{_&&_}
+use lib.Dec.{leb}
+use Rattle.rules.specs.declared.Counts.{Counts}
 use Rattle.rules.specs.Limits.{allowed}
+use borrow.Author.Needs.{needs}
 use Rattle.rules.proofs.is_allowed.Statement.{statement}
 use Rattle.rules.proofs.is_allowed.Tie as tie
-use Rattle.rules.proofs.is_allowed.Reads as reads
-use Rattle.rules.proofs.is_allowed.Lts as lts
+
+most-counts-requires : tie.Need-most-counts-requires
+most-counts-requires c κs = search needs
 
 returns : tie.Need-returns
 unfolding allowed
-returns c = refl
+returns c =
+    let h = c .before .before .before .before .before .before .before .before .before .args .h in
+    ap (λ (b : Counts). leb 1 (h .threads) && leb (h .threads) (b .threads) && leb 1 (h .variables) && leb (h .variables) (b .variables) && leb (h .locks) (b .locks)) (c .before .before .before .before .before .before .before .before .most-counts .ensures)
 
 pub is-allowed-spec : {M : Type 1} → statement M
-is-allowed-spec = tie.close (tie.spec returns)
+is-allowed-spec = tie.close (tie.spec most-counts-requires returns)

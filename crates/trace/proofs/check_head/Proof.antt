@@ -1,6 +1,7 @@
 -- `trace::check_head` meets its contract: three numbers, and counts that are allowed.
 use mathlib.Core.Path.{sym, _∙_}
 use borrow.Author.Needs.{needs}
+use Rattle.trace.proofs.TraceLaws.{counts-right, counts-wrong}
 use Rattle.trace.proofs.check_head.Statement.{statement}
 use Rattle.trace.proofs.check_head.Tie as tie
 
@@ -47,10 +48,14 @@ no-head-requires-4 : tie.Need-no-head-requires-4
 no-head-requires-4 c κs = search needs
 
 returns-4 : tie.Need-returns-4
-returns-4 c = rw (c .before .before .before .before .before .before .before .before .before .t .given .1, c .before .before .before .before .before .before .v .given .1, c .before .before .before .l .given .1, sym (c .before .is-allowed .ensures) ∙ c .if1 .taken)
+returns-4 c =
+    rw (c .before .before .before .before .before .before .before .before .before .t .given .1, c .before .before .before .before .before .before .v .given .1, c .before .before .before .l .given .1)
+    (counts-right _ (sym (c .before .is-allowed .ensures) ∙ c .if1 .taken))
 
 returns-5 : tie.Need-returns-5
-returns-5 c = rw (c .before .before .before .before .before .before .before .before .before .before .t .given .1, c .before .before .before .before .before .before .before .v .given .1, c .before .before .before .before .l .given .1, sym (c .before .before .is-allowed .ensures) ∙ c .before .if1 .left) (c .no-head4 .ensures)
+returns-5 c =
+    rw (c .before .before .before .before .before .before .before .before .before .before .t .given .1, c .before .before .before .before .before .before .before .v .given .1, c .before .before .before .before .l .given .1)
+    (c .no-head4 .ensures ∙ counts-wrong _ (sym (c .before .before .is-allowed .ensures) ∙ c .before .if1 .left))
 
 pub check-head-spec : {M : Type 1} → statement M
 check-head-spec =

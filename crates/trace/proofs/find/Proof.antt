@@ -1,5 +1,5 @@
--- `trace::find` meets its contract: 1, 2, 3 and 6 in this order.
-use Rattle.rules.specs.Limits.{full}
+-- `trace::find` meets its contract: 1, 2, 3, over the limits, and 6 in this order.
+use Rattle.rules.specs.Limits.{limitsOf}
 use mathlib.Core.Path.{sym, ap, _∙_}
 use Prim.Native.Nat.{_-_}
 use native.Mathlib.Omega.{arith}
@@ -19,7 +19,7 @@ refuse-requires c κs = search needs
 returns : tie.Need-returns
 returns c =
     let a = c .before .before .before .args in
-    c .refuse .ensures ∙ trace-long full (now (a .s)) (c .before .if1 .taken)
+    c .refuse .ensures ∙ trace-long (limitsOf (a .course)) (now (a .s)) (c .before .if1 .taken)
 
 find-trailer-requires : tie.Need-find-trailer-requires
 find-trailer-requires c κs = search needs
@@ -50,16 +50,16 @@ returns-2 : tie.Need-returns-2
 returns-2 c =
     let a = c .before .before .before .before .before .before .args in
     c .refuse2 .ensures
-    ∙ ap (λ (t : Trailer). behindTrailer full (now (a .s)) t) (sym (sym (c .before .before .before .find-trailer .ensures) ∙ c .before .enum-told .given .1))
-    ∙ trace-short full (now (a .s)) (omega arith)
+    ∙ ap (λ (t : Trailer). behindTrailer (limitsOf (a .course)) (now (a .s)) t) (sym (sym (c .before .before .before .find-trailer .ensures) ∙ c .before .enum-told .given .1))
+    ∙ trace-short (limitsOf (a .course)) (now (a .s)) (omega arith)
 
 returns-3 : tie.Need-returns-3
 returns-3 c =
     let a = c .before .before .before .before .before .before .before .before .args in
     let e = c .before .before .before .e .given in
     c .find-first .ensures
-    ∙ ap (λ (t : Trailer). behindTrailer full (now (a .s)) t) (sym (sym (c .before .before .before .before .before .find-trailer .ensures) ∙ e .1))
-    ∙ trace-short full (now (a .s)) (omega arith)
+    ∙ ap (λ (t : Trailer). behindTrailer (limitsOf (a .course)) (now (a .s)) t) (sym (sym (c .before .before .before .before .before .find-trailer .ensures) ∙ e .1))
+    ∙ trace-short (limitsOf (a .course)) (now (a .s)) (omega arith)
 
 pub find-spec : {M : Type 1} → statement M
 find-spec =

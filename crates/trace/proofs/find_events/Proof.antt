@@ -1,5 +1,5 @@
 -- `trace::find_events` meets its contract: the part lies in the bytes.
-use Rattle.rules.specs.Limits.{full}
+use Rattle.rules.specs.Limits.{limitsOf}
 use mathlib.Core.Path.{ap}
 use Prim.Native.Nat.{_-_}
 use native.Mathlib.Omega.{arith}
@@ -17,19 +17,19 @@ find-requires c κs = search needs
 sub-result : tie.Need-sub-result
 sub-result c =
     let a = c .before .before .args in
-    let w = lies full (now (a .s)) in
+    let w = lies (limitsOf (a .course)) (now (a .s)) in
     omega (arith, w .start, w .end, ap (λ (q : Trace). q .from) (c .find .ensures), ap (λ (q : Trace). q .to) (c .find .ensures))
 
 part-result-start : tie.Need-part-result-start
 part-result-start c =
     let a = c .before .before .args in
-    let w = lies full (now (a .s)) in
+    let w = lies (limitsOf (a .course)) (now (a .s)) in
     omega (arith, w .start, w .end, ap (λ (q : Trace). q .from) (c .find .ensures), ap (λ (q : Trace). q .to) (c .find .ensures))
 
 part-result-end : tie.Need-part-result-end
 part-result-end c =
     let a = c .before .before .args in
-    let w = lies full (now (a .s)) in
+    let w = lies (limitsOf (a .course)) (now (a .s)) in
     omega (arith, w .start, w .end, ap (λ (q : Trace). q .from) (c .find .ensures), ap (λ (q : Trace). q .to) (c .find .ensures))
 
 returns : tie.Need-returns

@@ -10,6 +10,7 @@ mod long_orders;
 mod marking;
 mod old_papers;
 mod ordering;
+mod short_course;
 mod short_lists;
 mod traces;
 mod values;

@@ -5,17 +5,17 @@ use crate::rules::{assign_owed, fresh, held, owed};
 use crate::{Outcome, Verdict};
 
 /// Kinds that finish something are drawn more often, so that sections are short.
-const KINDS: [Kind; 16] = [U, U, A, L, S, S, R, W, W, K, N, N, N, P, B, B];
+pub(super) const KINDS: [Kind; 16] = [U, U, A, L, S, S, R, W, W, K, N, N, N, P, B, B];
 /// More K and P, so that early stores wait over an N.
 const WAITING: [Kind; 16] = [U, U, A, L, S, R, W, K, K, K, N, N, N, P, P, B];
 
 /// What a walk draws its events from.
-struct Scope<'a> {
-    counts: Counts,
-    guards: &'a [u32],
-    kinds: [Kind; 16],
+pub(super) struct Scope<'a> {
+    pub(super) counts: Counts,
+    pub(super) guards: &'a [u32],
+    pub(super) kinds: [Kind; 16],
     /// An A or P has a multiple of this value.
-    unit: Value,
+    pub(super) unit: Value,
 }
 
 /// A random event whose value is the one that 18 asks for.
@@ -42,7 +42,7 @@ fn denied(guards: &[u32], es: &[Event], e: &Event) -> bool {
 
 /// A walk of accepted events that 20 and 21 do not deny, and how often 23 refused one.
 /// "In a paper L can then no longer meet 15 or 16".
-fn walk(seed: u64, scope: &Scope, steps: usize) -> (Vec<Event>, usize) {
+pub(super) fn walk(seed: u64, scope: &Scope, steps: usize) -> (Vec<Event>, usize) {
     let Scope { counts, guards, .. } = *scope;
     let mut dice = Dice(seed);
     let mut dead = 0;

@@ -7,6 +7,16 @@ fn main() {
     let args: Vec<u64> = std::env::args().skip(1).map(|a| a.parse().expect("a number")).collect();
     let arg = |i: usize, usual: u64| args.get(i).copied().unwrap_or(usual);
     let (random, large, short) = (arg(0, 20_000), arg(1, 40), arg(2, 4) as usize);
-    let size = Size { seed: 1, random, damaged: random / 2, large, large_by_a: large, many_k: large, aimed: 40, short };
+    let size = Size {
+        seed: 1,
+        random,
+        damaged: random / 2,
+        large,
+        large_by_a: large,
+        many_k: large,
+        at_short_limits: random / 4,
+        aimed: 40,
+        short,
+    };
     close(run(against_a(marker_b::mark), size));
 }

@@ -1,7 +1,7 @@
-//! Writes papers and their listings by marker A, NAME.txt and NAME.out: `papers DIR [RANDOM]`, the papers with known listings and
-//! some random ones.
+//! Writes papers and their listings, NAME.txt, NAME.out and, for the short course, NAME.short: `papers DIR [RANDOM]`, the papers with known
+//! listings and some random ones. The listings that are not known are marker A's.
 
-use papers::{by_a, expected, generate};
+use papers::{by_a, expected, generate, short_course, Course};
 use std::path::Path;
 
 fn main() {
@@ -9,17 +9,23 @@ fn main() {
     let dir = args.next().expect("a folder");
     let random: u64 = args.next().map_or(0, |a| a.parse().expect("a number"));
     std::fs::create_dir_all(&dir).expect("the folder");
-    let write = |name: &str, paper: &[u8], listing: &str| {
-        std::fs::write(Path::new(&dir).join(format!("{name}.txt")), paper).expect("the paper");
-        std::fs::write(Path::new(&dir).join(format!("{name}.out")), listing).expect("the listing");
+    let write = |name: &str, paper: &[u8], listing: &str, short: &str| {
+        for (end, bytes) in [("txt", paper), ("out", listing.as_bytes()), ("short", short.as_bytes())] {
+            std::fs::write(Path::new(&dir).join(format!("{name}.{end}")), bytes).expect(name);
+        }
     };
-    for e in expected::papers() {
+    let short = |paper: &[u8]| by_a::mark(Course::Short, paper);
+    let plain = expected::papers().into_iter().map(|e| {
+        let short = short(&e.paper);
+        (e, short)
+    });
+    for (e, short) in plain.chain(short_course::papers()) {
         let words: Vec<String> =
             e.name.split(|c: char| !c.is_ascii_alphanumeric()).filter(|w| !w.is_empty()).map(str::to_ascii_lowercase).collect();
-        write(&words.join("-"), &e.paper, &e.listing);
+        write(&words.join("-"), &e.paper, &e.listing, &short);
     }
     for seed in 1..=random {
         let paper = if seed % 3 == 0 { generate::damaged_paper(seed) } else { generate::random_paper(seed) };
-        write(&format!("seed-{seed:05}"), &paper, &by_a::mark(&paper));
+        write(&format!("seed-{seed:05}"), &paper, &by_a::mark(Course::Full, &paper), &short(&paper));
     }
 }
