@@ -15,11 +15,13 @@ extern "C" {
 #define DABZHONI_ASSERT _Static_assert
 #endif
 
-/* How many threads (1 to 8), variables (1 to 16) and locks (0 to 8) are declared; in the short course 1 to 2, 1 to 4 and 0 to 2. */
+/* How many threads (1 to 8), variables (1 to 16) and locks (0 to 8) are declared; in the short course 1 to 2, 1 to 4 and 0 to 2. Which of the
+   variables are volatile: volatiles[v] is of variable v, and false where v is not declared. */
 struct dabzhoni_counts {
   size_t threads;
   size_t variables;
   size_t locks;
+  bool volatiles[16];
 };
 
 /* A queue of at most eight: its oldest is at place first (modulo 8). */
@@ -28,19 +30,26 @@ struct dabzhoni_ring {
   uint8_t len;
 };
 
-/* What is kept for one thread and variable. */
+/* What is kept for one thread and variable, volatile or not. loaded is the position of the latest load's read, used that of the read that was
+   loaded at the latest use, assigned that of the latest A. after_load and after_assign: the thread's latest event on the variable, R and W
+   left aside, is an L, an A. */
 struct dabzhoni_cell {
   int64_t copy;
   int64_t announced;
   size_t source;
   size_t written;
+  size_t loaded;
+  size_t used;
+  size_t assigned;
   struct dabzhoni_ring reads;
   struct dabzhoni_ring stores;
   bool fresh;
   bool pending;
+  bool after_load;
+  bool after_assign;
 };
 
-/* An outstanding read or store. */
+/* An outstanding read or store. The position of a store is that of its assign, of an early one its own. */
 struct dabzhoni_slot {
   int64_t value;
   size_t position;
@@ -52,8 +61,8 @@ struct dabzhoni_hold {
   uint32_t depth;
 };
 
-/* The state. The cell of thread t and variable v is number 16 * t + v; its eight places begin at 8 times that number. source, written,
-   position and locked are positions: an event's number among those so far, from 1, or 0. Padding is no part of the state: after
+/* The state. The cell of thread t and variable v is number 16 * t + v; its eight places begin at 8 times that number. source, written, loaded,
+   used, assigned, position and locked are positions: an event's number among those so far, from 1, or 0. Padding is no part of the state: after
    dabzhoni_initial and after an accepted event it may be anything. A refusal leaves it as it was in all tests; no contract speaks of it. */
 struct dabzhoni_state {
   struct dabzhoni_counts counts;
@@ -77,7 +86,8 @@ DABZHONI_ASSERT(sizeof(bool) == 1, "a bool is one byte");
 DABZHONI_ASSERT(offsetof(struct dabzhoni_counts, threads) == 0, "layout of the counts");
 DABZHONI_ASSERT(offsetof(struct dabzhoni_counts, variables) == 8, "layout of the counts");
 DABZHONI_ASSERT(offsetof(struct dabzhoni_counts, locks) == 16, "layout of the counts");
-DABZHONI_ASSERT(sizeof(struct dabzhoni_counts) == 24, "layout of the counts");
+DABZHONI_ASSERT(offsetof(struct dabzhoni_counts, volatiles) == 24, "layout of the counts");
+DABZHONI_ASSERT(sizeof(struct dabzhoni_counts) == 40, "layout of the counts");
 DABZHONI_ASSERT(offsetof(struct dabzhoni_ring, first) == 0, "layout of a queue");
 DABZHONI_ASSERT(offsetof(struct dabzhoni_ring, len) == 1, "layout of a queue");
 DABZHONI_ASSERT(sizeof(struct dabzhoni_ring) == 2, "layout of a queue");
@@ -85,11 +95,16 @@ DABZHONI_ASSERT(offsetof(struct dabzhoni_cell, copy) == 0, "layout of a cell");
 DABZHONI_ASSERT(offsetof(struct dabzhoni_cell, announced) == 8, "layout of a cell");
 DABZHONI_ASSERT(offsetof(struct dabzhoni_cell, source) == 16, "layout of a cell");
 DABZHONI_ASSERT(offsetof(struct dabzhoni_cell, written) == 24, "layout of a cell");
-DABZHONI_ASSERT(offsetof(struct dabzhoni_cell, reads) == 32, "layout of a cell");
-DABZHONI_ASSERT(offsetof(struct dabzhoni_cell, stores) == 34, "layout of a cell");
-DABZHONI_ASSERT(offsetof(struct dabzhoni_cell, fresh) == 36, "layout of a cell");
-DABZHONI_ASSERT(offsetof(struct dabzhoni_cell, pending) == 37, "layout of a cell");
-DABZHONI_ASSERT(sizeof(struct dabzhoni_cell) == 40, "layout of a cell");
+DABZHONI_ASSERT(offsetof(struct dabzhoni_cell, loaded) == 32, "layout of a cell");
+DABZHONI_ASSERT(offsetof(struct dabzhoni_cell, used) == 40, "layout of a cell");
+DABZHONI_ASSERT(offsetof(struct dabzhoni_cell, assigned) == 48, "layout of a cell");
+DABZHONI_ASSERT(offsetof(struct dabzhoni_cell, reads) == 56, "layout of a cell");
+DABZHONI_ASSERT(offsetof(struct dabzhoni_cell, stores) == 58, "layout of a cell");
+DABZHONI_ASSERT(offsetof(struct dabzhoni_cell, fresh) == 60, "layout of a cell");
+DABZHONI_ASSERT(offsetof(struct dabzhoni_cell, pending) == 61, "layout of a cell");
+DABZHONI_ASSERT(offsetof(struct dabzhoni_cell, after_load) == 62, "layout of a cell");
+DABZHONI_ASSERT(offsetof(struct dabzhoni_cell, after_assign) == 63, "layout of a cell");
+DABZHONI_ASSERT(sizeof(struct dabzhoni_cell) == 64, "layout of a cell");
 DABZHONI_ASSERT(offsetof(struct dabzhoni_slot, value) == 0, "layout of a slot");
 DABZHONI_ASSERT(offsetof(struct dabzhoni_slot, position) == 8, "layout of a slot");
 DABZHONI_ASSERT(sizeof(struct dabzhoni_slot) == 16, "layout of a slot");
@@ -97,14 +112,14 @@ DABZHONI_ASSERT(offsetof(struct dabzhoni_hold, holder) == 0, "layout of a hold")
 DABZHONI_ASSERT(offsetof(struct dabzhoni_hold, depth) == 8, "layout of a hold");
 DABZHONI_ASSERT(sizeof(struct dabzhoni_hold) == 16, "layout of a hold");
 DABZHONI_ASSERT(offsetof(struct dabzhoni_state, counts) == 0, "layout of the state");
-DABZHONI_ASSERT(offsetof(struct dabzhoni_state, events) == 24, "layout of the state");
-DABZHONI_ASSERT(offsetof(struct dabzhoni_state, cells) == 32, "layout of the state");
-DABZHONI_ASSERT(offsetof(struct dabzhoni_state, reads) == 5152, "layout of the state");
-DABZHONI_ASSERT(offsetof(struct dabzhoni_state, stores) == 21536, "layout of the state");
-DABZHONI_ASSERT(offsetof(struct dabzhoni_state, locked) == 37920, "layout of the state");
-DABZHONI_ASSERT(offsetof(struct dabzhoni_state, holds) == 37984, "layout of the state");
-DABZHONI_ASSERT(offsetof(struct dabzhoni_state, memory) == 38112, "layout of the state");
-DABZHONI_ASSERT(sizeof(struct dabzhoni_state) == 38240, "layout of the state");
+DABZHONI_ASSERT(offsetof(struct dabzhoni_state, events) == 40, "layout of the state");
+DABZHONI_ASSERT(offsetof(struct dabzhoni_state, cells) == 48, "layout of the state");
+DABZHONI_ASSERT(offsetof(struct dabzhoni_state, reads) == 8240, "layout of the state");
+DABZHONI_ASSERT(offsetof(struct dabzhoni_state, stores) == 24624, "layout of the state");
+DABZHONI_ASSERT(offsetof(struct dabzhoni_state, locked) == 41008, "layout of the state");
+DABZHONI_ASSERT(offsetof(struct dabzhoni_state, holds) == 41072, "layout of the state");
+DABZHONI_ASSERT(offsetof(struct dabzhoni_state, memory) == 41200, "layout of the state");
+DABZHONI_ASSERT(sizeof(struct dabzhoni_state) == 41328, "layout of the state");
 DABZHONI_ASSERT(offsetof(struct dabzhoni_reply, line) == 8, "layout of a reply");
 DABZHONI_ASSERT(sizeof(struct dabzhoni_reply) == 16, "layout of a reply");
 
@@ -143,8 +158,8 @@ struct dabzhoni_marked dabzhoni_mark_unordered(const uint8_t *paper, size_t pape
                                                int64_t *values, size_t values_len, uint8_t *out, size_t out_len);
 
 /* The short course: at most 2 threads, 4 variables, 2 locks and 200 events. The two entries above have one each for its papers, lent the
-   same lengths. Refusal 25 is over these limits: at line 1, after 3 and before 6, where the head declares more; in place of 9 at line 203,
-   that of the 201st event. Any other trace is answered as above. */
+   same lengths. Refusal 25 is over these limits: at line 1, after 3 and before 6, where the head declares more; in place of 9 at the line of
+   the 201st event, 203, or 204 behind a V line. Any other trace is answered as above. */
 struct dabzhoni_marked dabzhoni_mark_short(const uint8_t *paper, size_t paper_len, uint32_t *what, size_t what_len, int64_t *values,
                                            size_t values_len, uint8_t *out, size_t out_len, uint64_t *order, size_t order_len,
                                            uint64_t *scratch, size_t scratch_len);
@@ -153,17 +168,19 @@ struct dabzhoni_marked dabzhoni_mark_short_unordered(const uint8_t *paper, size_
                                                      int64_t *values, size_t values_len, uint8_t *out, size_t out_len);
 
 /* The state before the first event, in both courses. The memory must be a state already, as zeros are: each bool in it is 0 or 1.
-   Counts out of range are kept, and each step is then refused by 8. The pointer is not null and is aligned to 8 bytes, and nothing else
-   reads or writes the state during the call. */
+   Counts out of range are kept, and each step is then refused by 8. No variable is volatile: for a trace with a V line the caller sets
+   counts.volatiles afterwards, before the first step; with the flag of an undeclared variable set each step is refused by 8. The pointer
+   is not null and is aligned to 8 bytes, and nothing else reads or writes the state during the call. */
 void dabzhoni_initial(struct dabzhoni_state *state, size_t threads, size_t variables, size_t locks);
 
-/* One event: its letter, thread, variable or lock, and value (not looked at for K and N). 8, 9, 5, then the letter's row, each with
-   the events so far plus 3 as its line, and 0 for 8. A letter that is none of the ten is 4, before all others. A refusal leaves the
-   state as it was. The pointer is not null and is aligned to 8 bytes, and nothing else reads or writes the state during the call. */
+/* One event: its letter, thread, variable or lock, and value (not looked at for K and N). 8, 9, 5, then the letter's row, on a volatile
+   variable led by 26, 27 and 28; each with the events so far plus 3 as its line, or plus 4 where a variable is volatile, and 0 for 8. A
+   letter that is none of the ten is 4, before all others. A refusal leaves the state as it was. The pointer is not null and is aligned to
+   8 bytes, and nothing else reads or writes the state during the call. */
 struct dabzhoni_reply dabzhoni_step(struct dabzhoni_state *state, uint8_t letter, size_t thread, size_t place, int64_t value);
 
 /* The same for the short course: counts above 2, 4 and 2 or more than 200 events so far are 8 too, and 25, in place of 9, is that 200
-   events are already in. Any other state is answered and changed as above. */
+   events are already in: at line 203, or 204 where a variable is volatile. Any other state is answered and changed as above. */
 struct dabzhoni_reply dabzhoni_step_short(struct dabzhoni_state *state, uint8_t letter, size_t thread, size_t place, int64_t value);
 
 #ifdef __cplusplus

@@ -37,11 +37,13 @@ printf '' | paper empty
 { printf H; times $many ' '; } | paper head-without-end
 { printf H; times $many ' '; printf '\nG -\n'; } | closed | paper head-of-spaces
 { printf 'H 2 2 2\nG'; times $many ' '; echo; } | closed | paper guards-of-spaces
+{ printf 'H 2 2 2\nG -\nV'; times $many ' '; echo; } | closed | paper volatiles-of-spaces
 { printf 'H 2 2 2\nG -\n'; times $many ' '; echo; } | closed | paper event-of-spaces
 { printf 'H 2 2 2\nG -\nA'; times $many ' '; echo; } | closed | paper event-of-a-letter-and-spaces
 { printf 'H 2 2 2\nG -\nZ'; times $many ' '; echo; } | paper trailer-of-spaces
 { printf 'H '; digits; printf ' 1 1\nG -\n'; } | closed | paper digits-in-the-head
 { printf 'H 1 1 1\nG '; digits; echo; } | closed | paper digits-in-a-guard
+{ printf 'H 1 1 1\nG -\nV 0 '; digits; echo; } | closed | paper digits-in-a-volatile
 { printf 'H 1 1 1\nG -\nA '; digits; printf ' 0 0\n'; } | closed | paper digits-in-a-thread
 { printf 'H 1 1 1\nG -\nA 0 '; digits; printf ' 0\n'; } | closed | paper digits-in-a-variable
 { printf 'H 1 1 1\nG -\nK 0 '; digits; echo; } | closed | paper digits-in-a-lock
@@ -68,6 +70,11 @@ awk 'BEGIN {
         print "N", t, 0
     }
 }' | closed | paper long-listing
+# 2,000 events on volatile variables, all of them volatile
+awk 'BEGIN {
+    printf "H 8 16 8\nG -\nV"; for (v = 0; v < 16; v++) printf " " v; print ""
+    for (i = 0; i < 2000; i++) print substr("RLUASW", i % 6 + 1, 1), int(i / 6) % 8, int(i / 48) % 16, 0
+}' | closed | paper volatile-events
 # an order that is denied at the trailer
 awk 'BEGIN { print "H 8 1 8\nG 0"; for (i = 0; i < 2000; i++) print "K", i % 8, i % 8 }' | closed | paper locks-held-at-the-end
 
@@ -75,6 +82,8 @@ awk 'BEGIN { print "H 8 1 8\nG 0"; for (i = 0; i < 2000; i++) print "K", i % 8, 
 awk 'BEGIN { print "H 2 4 2\nG -"; for (i = 0; i < 200; i++) print "A", i % 2, i % 4, "-92233720368547" (75808 - i) }' |
     closed | paper short-200-events
 awk 'BEGIN { print "H 2 4 2\nG -"; for (i = 0; i < 201; i++) print "K", 0, i % 2 }' | closed | paper short-201-events
+awk 'BEGIN { print "H 2 4 2\nG -\nV 0 1 2 3"; for (i = 0; i < 201; i++) print substr("RLU", i % 3 + 1, 1), int(i / 3) % 2, int(i / 6) % 4, 0 }' |
+    closed | paper short-volatile-events
 awk 'BEGIN {
     print "H 2 4 2\nG 0 0 0 0"; for (i = 0; i < 86; i++) print "K 0 0\nN 0 0"
     for (t = 0; t < 2; t++) {
@@ -124,11 +133,11 @@ papers() {
 }
 papers mark
 papers mark_short --short
-for name in 2000-events 2001-events last-event-refused long-listing locks-held-at-the-end; do
+for name in 2000-events 2001-events last-event-refused long-listing volatile-events locks-held-at-the-end; do
     $A < "$work/$name.paper" | head -n 1 > "$work/a"
     entry step "$work/$name.paper" "$work/a"
 done
-for name in short-200-events short-201-events short-long-listing short-locks-held-at-the-end; do
+for name in short-200-events short-201-events short-volatile-events short-long-listing short-locks-held-at-the-end; do
     $A --short < "$work/$name.paper" | head -n 1 > "$work/a"
     entry step_short "$work/$name.paper" "$work/a"
 done

@@ -64,7 +64,7 @@ fn by_mix() {
     }
     for (threads, variables, locks) in [(2, 2, 2), (8, 16, 8)] {
         let name = format!("guarded, {threads} threads, {variables} variables, {locks} locks");
-        row(&name, &mixes::ordered(2000, 5, |counts| counts == Counts { threads, variables, locks }));
+        row(&name, &mixes::ordered(2000, 5, |counts| counts == Counts::new(threads, variables, locks)));
     }
     row("guarded, all letters in turn", &[mixes::regular(2000)]);
     row("K, N: empty sections", &mixes::sections());
@@ -74,6 +74,11 @@ fn by_mix() {
     row("R, L: reads and loads", &mixes::loads());
     row("A, S, W: long values", &mixes::stores());
     row("A, S, W: the longest values", &mixes::longest());
+    for seed in 1..=2 {
+        row(&format!("volatile variables, random, seed {seed}"), &mixes::volatile_randoms(seed, 2000, 5));
+    }
+    row("volatile variables, guarded", &mixes::volatile_ordered(2000, 5));
+    row("volatile variables, R, L, U and A, S, W in turn", &[mixes::volatile_regular(2000)]);
 }
 
 fn by_length() {

@@ -1,7 +1,7 @@
 //! The papers. All are accepted.
 
 use papers::generate::{self, Rng};
-use papers::{Counts, Course, Value};
+use papers::{short_course, Counts, Course, Value};
 use std::iter::{once, repeat_n, repeat_with};
 
 pub type Paper = Vec<u8>;
@@ -34,6 +34,36 @@ pub fn randoms(seed: u64, length: usize, number: usize) -> Vec<Paper> {
     (0..number).map(|_| random(&mut rng, length)).collect()
 }
 
+/// Counts, guards and events with volatile variables and values of 32 bits, and about so many events.
+fn volatile(rng: &mut Rng, length: usize, orderly: bool) -> generate::Trace {
+    let mut counts = generate::long_counts(rng, orderly);
+    counts.volatiles = generate::some_volatiles(rng, counts.variables);
+    generate::long_with(rng, counts, OF_32_BITS, length, 0, orderly)
+}
+
+/// So many random papers with volatile variables from a seed, each of so many events.
+pub fn volatile_randoms(seed: u64, length: usize, number: usize) -> Vec<Paper> {
+    let mut rng = Rng::new(seed);
+    let made = || {
+        let (counts, guards, events) = volatile(&mut rng, length, false);
+        events.get(..length).map(|front| generate::paper(counts, guards.as_deref(), front))
+    };
+    repeat_with(made).flatten().take(number).collect()
+}
+
+/// So many papers with volatile variables that have an order, of up to so many events and not much fewer.
+pub fn volatile_ordered(length: usize, number: usize) -> Vec<Paper> {
+    let mut rng = Rng::new(9);
+    let made = || {
+        let (counts, guards, events) = volatile(&mut rng, length - length / 10, true);
+        generate::paper(counts, guards.as_deref(), &events)
+    };
+    let enough = |p: &Paper| {
+        (length - length / 10..=length).contains(&events(p)) && marker_b::mark(Course::Full, p).contains("\nsection ")
+    };
+    repeat_with(made).filter(enough).take(number).collect()
+}
+
 /// Papers that have an order, with values of 32 bits, of up to so many events and not much fewer, whose counts are fit.
 pub fn ordered(length: usize, number: usize, fit: impl Fn(Counts) -> bool) -> Vec<Paper> {
     let long = |seed, length| generate::long_of(&mut Rng::new(seed), OF_32_BITS, length, 0, true);
@@ -64,9 +94,9 @@ pub fn is_accepted(p: &Paper) -> bool {
     marker_b::mark(Course::Full, p).starts_with("accepted")
 }
 
-/// How many events a paper has.
+/// How many events a paper has: its lines but the head, the `G` line, the `V` line and the trailer.
 pub fn events(paper: &Paper) -> usize {
-    paper.iter().filter(|&&b| b == 10).count() - 3
+    paper.iter().filter(|&&b| b == 10).count() - 3 - usize::from(short_course::has_v_line(paper))
 }
 
 /// The same paper with no guards.
@@ -134,6 +164,22 @@ pub fn regular(length: usize) -> Paper {
         }
         lines.push(format!("N {t} {l}"));
         main[v] = 3;
+    }
+    paper(LARGEST, "G 0 1 2 3 4 5 6 7 0 1 2 3 4 5 6 7", lines.into_iter())
+}
+
+/// Sections of eight events by all threads on all variables, which are volatile. The paper has an order.
+pub fn volatile_regular(length: usize) -> Paper {
+    let mut main = [0; 16];
+    let mut lines = vec![String::from("V 0 1 2 3 4 5 6 7 8 9 10 11 12 13 14 15")];
+    for i in 0..length / 8 {
+        let (t, v, l, x) = (i % 8, i % 16, i % 8, 37 * i as Value);
+        lines.push(format!("K {t} {l}"));
+        for (letters, value) in [("RLU", main[v]), ("ASW", x)] {
+            lines.extend(letters.chars().map(|letter| format!("{letter} {t} {v} {value}")));
+        }
+        lines.push(format!("N {t} {l}"));
+        main[v] = x;
     }
     paper(LARGEST, "G 0 1 2 3 4 5 6 7 0 1 2 3 4 5 6 7", lines.into_iter())
 }

@@ -33,7 +33,7 @@ static void expect(const char *what, bool ok) {
   if (!ok) printf("%s, %s: FAILED\n", course->name, what);
 }
 
-/* ---- steps: the short traces of document 01, traces of 02 (a), (d) and (g), refusals 4, 5, 8, 9 and 25, states that no events reach */
+/* ---- steps: the short traces of document 01, traces of 02 (a), (d), (f) and (g), refusals 4, 5, 8, 9 and 25, states that no events reach */
 
 static struct dabzhoni_state state;
 
@@ -51,20 +51,30 @@ static struct dabzhoni_reply event(const char *text) {
   return r;
 }
 
-/* The events of a trace, apart by semicolons; the last is answered number, in its own line. */
-static void trace(const char *text, size_t number) {
+/* The state before the first event, in memory that had another; these variables are volatile, a digit each ('?' is 15). */
+static void begin(size_t threads, size_t variables, size_t locks, const char *volatiles) {
+  memset(&state, 1, sizeof state);
+  dabzhoni_initial(&state, threads, variables, locks);
+  for (size_t v = 0; v < 16; v++) expect("no variable is volatile at first", !state.counts.volatiles[v]);
+  for (; *volatiles; volatiles++) state.counts.volatiles[*volatiles - '0'] = true;
+}
+
+/* The events of a trace, apart by semicolons, with these volatile variables; the last is answered number, in its own line. */
+static void volatile_trace(const char *volatiles, const char *text, size_t number) {
   char all[400], *each;
   size_t n = 0;
   struct dabzhoni_reply r = {0, 0};
-  dabzhoni_initial(&state, 2, 2, 2);
+  begin(2, 2, 2, volatiles);
   strcpy(all, text);
   for (each = strtok(all, ";"); each; each = strtok(NULL, ";")) {
     if (n) expect(text, r.number == 0 && r.line == 0);
     r = event(each);
     n++;
   }
-  expect(text, r.number == number && r.line == (number ? n + 2 : 0));
+  expect(text, r.number == number && r.line == (number ? n + (*volatiles ? 3 : 2) : 0));
 }
+
+static void trace(const char *text, size_t number) { volatile_trace("", text, number); }
 
 static void reply(const char *what, const char *text, size_t number, size_t line) {
   struct dabzhoni_reply r = event(text);
@@ -111,9 +121,9 @@ static void wide_values(void) {
 
 /* Positions with the low 32 bits of one in range: 8. */
 static void wide_positions(void) {
-  size_t *const positions[] = {&state.cells[0].source, &state.cells[0].written, &state.reads[8 * 16].position, &state.stores[8].position,
-                               &state.locked[1]};
-  trace("A 0 0 5;S 0 0 5;W 0 0 5;R 1 0 5;A 0 1 1;S 0 1 1;K 1 0", 0);
+  size_t *const positions[] = {&state.cells[0].source, &state.cells[0].written, &state.cells[0].assigned, &state.cells[17].loaded,
+                               &state.cells[17].used, &state.reads[8 * 16].position, &state.stores[8].position, &state.locked[1]};
+  trace("A 0 0 5;S 0 0 5;W 0 0 5;R 1 0 5;R 1 1 0;L 1 1 0;U 1 1 0;A 0 1 1;S 0 1 1;K 1 0", 0);
   for (size_t i = 0; i < sizeof positions / sizeof *positions; i++) {
     size_t position = *positions[i];
     expect("position", position > 0 && position <= state.events);
@@ -124,6 +134,100 @@ static void wide_positions(void) {
     *positions[i] = position;
   }
   reply("positions in range", "A 0 0 5", 0, 0);
+}
+
+/* 26, 27 and 28, the lines of a state with a volatile variable, and what is kept for them. */
+static void volatiles(void) {
+  volatile_trace("01", "R 0 0 0;L 0 0 0;U 0 0 0", 0);
+  volatile_trace("01", "A 0 0 5;S 0 0 5;W 0 0 5", 0);
+  volatile_trace("01", "U 0 0 0", 26);
+  volatile_trace("1", "U 0 0 0", 17);
+  volatile_trace("01", "R 0 0 0;L 0 0 0;U 0 0 0;U 0 0 0", 26);
+  volatile_trace("01", "R 0 0 0;R 0 0 0;L 0 0 0;L 0 0 0", 26);
+  volatile_trace("01", "R 0 0 0;L 0 0 0;A 0 0 5", 26);
+  volatile_trace("01", "R 0 0 0;L 0 0 0;R 0 0 0;U 0 0 0", 0);
+  volatile_trace("01", "A 0 0 5;A 0 0 6", 26);
+  volatile_trace("01", "A 0 0 5;L 0 0 0", 26);
+  volatile_trace("01", "A 0 0 5;P 0 0 5", 26);
+  volatile_trace("01", "A 0 0 5;B 0 0 5", 26);
+  volatile_trace("01", "A 0 0 5;S 0 0 5;S 0 0 5", 26);
+  volatile_trace("01", "A 0 0 1;S 0 0 1;A 0 0 2;W 0 0 1;S 0 0 2", 0);
+  volatile_trace("01", "P 0 0 5", 28);
+  volatile_trace("01", "B 0 0 5", 28);
+  volatile_trace("1", "P 0 0 5;W 0 0 5;B 0 0 5", 0);
+  volatile_trace("01", "R 0 0 0;L 0 0 0;A 0 1 5;U 0 0 0", 27);
+  volatile_trace("0", "R 0 0 0;L 0 0 0;A 0 1 5;U 0 0 0", 0);
+  volatile_trace("01", "R 0 0 0;L 0 0 0;A 0 1 5;S 0 1 5;U 0 0 0", 27);
+  volatile_trace("01", "R 0 0 0;A 0 1 5;S 0 1 5;W 0 1 5;L 0 0 0;U 0 0 0", 27);
+  volatile_trace("01", "A 0 1 5;S 0 1 5;W 0 1 5;R 0 0 0;L 0 0 0;U 0 0 0", 0);
+  volatile_trace("01", "R 0 0 0;R 0 1 0;L 0 1 0;U 0 1 0;L 0 0 0;U 0 0 0", 27);
+  volatile_trace("01", "R 0 0 0;R 0 1 0;L 0 1 0;L 0 0 0;U 0 0 0;U 0 1 0", 0);
+  volatile_trace("01", "A 0 0 1;S 0 0 1;A 0 1 2;S 0 1 2;W 0 1 2", 27);
+  volatile_trace("01", "A 0 0 1;A 0 1 2;S 0 1 2;W 0 1 2", 27);
+  volatile_trace("01", "A 0 0 1;A 0 1 2;S 0 1 2;S 0 0 1;W 0 0 1;W 0 1 2", 0);
+  volatile_trace("01", "A 0 1 2;W 0 0 0", 10);
+  volatile_trace("01", "A 0 0 5;R 0 0 0", 23);
+
+  /* what is kept, of a variable that is volatile and of one that is not */
+  for (int i = 0; i < 2; i++) {
+    volatile_trace(i ? "0" : "", "R 0 0 0;R 0 0 0;L 0 0 0", 0);
+    const struct dabzhoni_cell *c = &state.cells[0];
+    expect("after a load", c->loaded == 1 && c->used == 0 && c->assigned == 0 && c->after_load && !c->after_assign);
+    reply("use", "U 0 0 0", 0, 0);
+    expect("after a use", c->loaded == 1 && c->used == 1 && !c->after_load && !c->after_assign);
+    reply("the second load", "L 0 0 0", 0, 0);
+    reply("the second use", "U 0 0 0", 0, 0);
+    expect("after the second use", c->loaded == 2 && c->used == 2);
+    reply("assign", "A 0 0 5", 0, 0);
+    expect("after an assign", c->assigned == 7 && !c->after_load && c->after_assign);
+    reply("lock", "K 1 1", 0, 0);
+    reply("store", "S 0 0 5", 0, 0);
+    expect("after a store", c->assigned == 7 && !c->after_load && !c->after_assign);
+    expect("a store has its assign's position", state.stores[0].position == 7 && state.stores[0].value == 5);
+  }
+  trace("K 1 1;P 0 0 5;A 0 0 6;B 0 0 5", 0);
+  expect("an early store has its own position", state.stores[0].position == 2);
+  expect("a B is no A", state.cells[0].assigned == 3 && !state.cells[0].after_assign);
+
+  /* lines, and 8 */
+  begin(2, 2, 2, "1");
+  reply("no letter", "X 0 0 0", 4, 4);
+  reply("thread", "A 2 0 0", 5, 4);
+  for (uint32_t i = 0; i < course->events; i++) course->step(&state, 'A', 1, 0, i);
+  reply("one event more", "U 0 1 0", course->over, course->events + 4);
+  begin(2, 2, 2, "2");
+  reply("a volatile variable that is not declared", "A 0 0 0", 8, 0);
+  reply("no letter, a volatile variable that is not declared", "X 0 0 0", 4, 4);
+  begin(2, course->variables, 2, course == &FULL ? "?" : "3");
+  reply("the last variable volatile", "A 0 0 0", 0, 0);
+
+  /* states that no events reach */
+  trace("R 0 0 0;L 0 0 0;R 0 0 0", 0);
+  state.counts.volatiles[0] = true;
+  state.cells[0].after_assign = true;
+  reply("after a load and an assign", "U 0 0 0", 26, 7);
+  state.cells[0].after_assign = false;
+  state.cells[0].written = 1;
+  reply("its own write at its read", "U 0 0 0", 27, 7);
+  state.cells[0].written = 0;
+  state.cells[0].used = 1;
+  reply("its read used already", "U 0 0 0", 27, 7);
+  state.cells[0].used = 0;
+  state.cells[0].fresh = true;
+  reply("its own fresh assign", "U 0 0 0", 27, 7);
+  state.cells[0].fresh = false;
+  state.cells[1].used = 3;
+  reply("a late use of a plain variable", "U 0 0 0", 0, 0);
+  volatile_trace("01", "A 0 0 1;S 0 0 1", 0);
+  state.cells[0].fresh = true;
+  state.cells[0].assigned = 0;
+  reply("its own fresh assign before its store's", "W 0 0 1", 27, 6);
+  state.cells[0].assigned = 1;
+  reply("its own fresh assign at its store's", "W 0 0 1", 0, 0);
+  volatile_trace("0", "R 0 0 0", 0);
+  state.cells[0].pending = true;
+  reply("announced assign that is owed", "B 0 0 0", 28, 5);
+  reply("early store with an assign owed", "P 0 0 0", 28, 5);
 }
 
 static void steps(void) {
@@ -314,6 +418,36 @@ static const struct paper PAPERS[] = {
      .ordering = "unordered 5 22\n",
      .denial = 22,
      .denial_line = 5},
+    {.name = "a volatile variable",
+     .text = "H 2 1 1\nG 0\nV 0\nK 0 0\nA 0 0 5\nS 0 0 5\nW 0 0 5\nN 0 0\nK 1 0\nR 1 0 5\nL 1 0 5\nU 1 0 5\nN 1 0\nZ 88\n",
+     .memories = "accepted 10\nmain 0 5\ncopy 0 0 5\ncopy 1 0 5\n",
+     .ordering = "section 0 4 8\nsection 1 9 13\n",
+     .sections = 2,
+     .entries = {8 << 12 | 4, 1 << 24 | 13 << 12 | 9}},
+    {.name = "a V line alone", .text = "H 1 1 0\nG -\nV 0\nZ 16\n", .memories = "accepted 0\nmain 0 0\n"},
+    {.name = "an empty V line", .text = "H 1 1 0\nG -\nV\nZ 14\n", .memories = "refused 3 6\n", .number = 6, .line = 3},
+    {.name = "a wrong V line", .text = "H 1 2 0\nG -\nV 1 0\nZ 18\n", .memories = "refused 3 6\n", .number = 6, .line = 3},
+    {.name = "25 before 6 at line 3", .text = "H 3 1 0\nG -\nV 1\nZ 16\n", .memories = "refused 3 6\n", .number = 6, .line = 3, .over = 1},
+    {.name = "a V line in line 4", .text = "H 1 1 0\nG -\nA 0 0 5\nV 0\nZ 24\n", .memories = "refused 4 4\n", .number = 4, .line = 4},
+    {.name = "26", .text = "H 1 1 0\nG -\nV 0\nU 0 0 0\nZ 24\n", .memories = "refused 4 26\n", .number = 26, .line = 4},
+    {.name = "27",
+     .text = "H 1 2 0\nG -\nV 0 1\nR 0 0 0\nL 0 0 0\nA 0 1 5\nU 0 0 0\nZ 50\n",
+     .memories = "refused 7 27\n",
+     .number = 27,
+     .line = 7},
+    {.name = "28", .text = "H 1 1 0\nG -\nV 0\nP 0 0 5\nZ 24\n", .memories = "refused 4 28\n", .number = 28, .line = 4},
+    {.name = "20 behind a V line",
+     .text = "H 1 1 1\nG 0\nV 0\nA 0 0 5\nZ 24\n",
+     .memories = "accepted 1\nmain 0 0\ncopy 0 0 5\n",
+     .ordering = "unordered 4 20\n",
+     .denial = 20,
+     .denial_line = 4},
+    {.name = "22 behind a V line",
+     .text = "H 1 1 1\nG 0\nV 0\nK 0 0\nZ 22\n",
+     .memories = "accepted 1\nmain 0 0\n",
+     .ordering = "unordered 5 22\n",
+     .denial = 22,
+     .denial_line = 5},
     {.name = "2", .text = "", .memories = "refused 0 2\n", .number = 2},
     {.name = "3", .text = "H 9 1 0\nG -\nZ 12\n", .memories = "refused 1 3\n", .number = 3, .line = 1},
     {.name = "6", .text = "H 1 1 0\nG 0\nZ 12\n", .memories = "refused 2 6\n", .number = 6, .line = 2},
@@ -333,10 +467,11 @@ static void part(const struct paper *p, const char *what, bool ok) {
   expect(what, ok);
 }
 
-/* Whether the rows hold the records of n event lines, from line 3 of the text on, and nothing else is touched. */
+/* Whether the rows hold the records of n event lines, from line 3 of the text on or behind its V line, and nothing else is touched. */
 static bool recorded(const char *text, size_t n) {
   bool ok = true;
   text = strchr(text, 10);
+  if (n && strchr(text + 1, 10)[1] == 'V') text = strchr(text + 1, 10);
   for (size_t i = 0; i < n; i++) {
     char letter;
     unsigned thread, place;
@@ -364,8 +499,8 @@ static void said(const char *name, struct dabzhoni_marked m, struct dabzhoni_mar
 /* What is said of a paper in the course. */
 static struct paper in_course(struct paper p) {
   if (course == &FULL || !p.over) return p;
-  return (struct paper){
-      .name = p.name, .text = p.text, .memories = p.over == 1 ? "refused 1 25\n" : "refused 203 25\n", .number = 25, .line = p.over};
+  const char *memories = p.over == 1 ? "refused 1 25\n" : p.over == 203 ? "refused 203 25\n" : "refused 204 25\n";
+  return (struct paper){.name = p.name, .text = p.text, .memories = memories, .number = 25, .line = p.over};
 }
 
 static void mark(const struct paper *full) {
@@ -448,10 +583,11 @@ static void thousand_locks(void) {
                        .over = 203});
 }
 
-/* One section of 200 events, and this line behind them. */
-static void two_hundred(const char *line, struct paper p) {
+/* One section of 200 events, with this V line or none, and this line behind them. */
+static void two_hundred(const char *volatiles, const char *line, struct paper p) {
   static char text[1300];
   char *end = add(text, 1, "H 2 4 2\nG 0 0 0 0");
+  end = add(end, *volatiles ? 1 : 0, volatiles);
   end = add(end, 100, "K 1 0");
   end = add(end, 100, "N 1 0");
   end = add(end, *line ? 1 : 0, line);
@@ -466,19 +602,33 @@ static void about_two_hundred(void) {
   struct paper p = {.memories = accepted, .ordering = "section 1 3 202\n", .sections = 1, .entries = {1 << 24 | 202 << 12 | 3}};
   sprintf(accepted, "accepted 200\n%s", MAIN);
   p.name = "200 events";
-  two_hundred("", p);
+  two_hundred("", "", p);
   sprintf(accepted, "accepted 201\n%s", MAIN);
   p.name = "201 events";
   p.over = 203;
-  two_hundred("R 0 0 0", p);
-  two_hundred("X", (struct paper){.name = "4 at line 203", .memories = "refused 203 4\n", .number = 4, .line = 203});
-  two_hundred("A 2 0 0", (struct paper){.name = "25 before 5", .memories = "refused 203 5\n", .number = 5, .line = 203, .over = 203});
-  two_hundred("N 1 0", (struct paper){.name = "25 before 12", .memories = "refused 203 12\n", .number = 12, .line = 203, .over = 203});
+  two_hundred("", "R 0 0 0", p);
+  two_hundred("", "X", (struct paper){.name = "4 at line 203", .memories = "refused 203 4\n", .number = 4, .line = 203});
+  two_hundred("", "A 2 0 0", (struct paper){.name = "25 before 5", .memories = "refused 203 5\n", .number = 5, .line = 203, .over = 203});
+  two_hundred("", "N 1 0", (struct paper){.name = "25 before 12", .memories = "refused 203 12\n", .number = 12, .line = 203, .over = 203});
+
+  static const char VOLATILES[] = "V 0 2";
+  p = (struct paper){.memories = accepted, .ordering = "section 1 4 203\n", .sections = 1, .entries = {1 << 24 | 203 << 12 | 4}};
+  sprintf(accepted, "accepted 200\n%s", MAIN);
+  p.name = "200 events behind a V line";
+  two_hundred(VOLATILES, "", p);
+  sprintf(accepted, "accepted 201\n%s", MAIN);
+  p.name = "201 events behind a V line";
+  p.over = 204;
+  two_hundred(VOLATILES, "R 0 0 0", p);
+  two_hundred(VOLATILES, "X", (struct paper){.name = "4 at line 204", .memories = "refused 204 4\n", .number = 4, .line = 204});
+  two_hundred(VOLATILES, "U 0 2 0",
+              (struct paper){.name = "25 before 26", .memories = "refused 204 26\n", .number = 26, .line = 204, .over = 204});
 }
 
 static void all(const struct course *c) {
   course = c;
   steps();
+  volatiles();
   wide_values();
   wide_positions();
   for (size_t i = 0; i < sizeof PAPERS / sizeof *PAPERS; i++) {

@@ -30,6 +30,7 @@ static struct dabzhoni_marked marked;
 
 static struct dabzhoni_state state;
 static size_t threads, variables, locks;
+static bool volatiles[16];
 static size_t events, taken;
 static struct event {
   char letter;
@@ -54,6 +55,7 @@ static void *mark_unordered(void *p) {
 
 static void *initial(void *p) {
   dabzhoni_initial(&state, threads, variables, locks);
+  memcpy(state.counts.volatiles, volatiles, sizeof volatiles);
   return p;
 }
 
@@ -91,12 +93,17 @@ static void need(const char *entry, void *(*f)(void *), size_t size) {
   fprintf(stderr, "dabzhoni_%s %zu\n", entry, used - touched(nothing, size));
 }
 
-/* Counts and events of the paper, each line of the form of an event. */
+/* Counts, volatile variables and events of the paper, each line of the form of an event. */
 static void read_events(void) {
   const char *at = (const char *)paper;
   if (sscanf(at, "H %zu %zu %zu", &threads, &variables, &locks) != 3) exit(2);
   at = strchr(at, 10) + 1;
-  for (at = strchr(at, 10) + 1; *at != 'Z' && events < 2001; at = strchr(at, 10) + 1) {
+  at = strchr(at, 10) + 1;
+  if (*at == 'V') {
+    for (at++; *at == ' ';) volatiles[strtoul(at, (char **)&at, 10) % 16] = true;
+    at++;
+  }
+  for (; *at != 'Z' && events < 2001; at = strchr(at, 10) + 1) {
     struct event *e = &list[events++];
     if (sscanf(at, "%c %zu %zu %" SCNd64, &e->letter, &e->thread, &e->place, &e->value) < 3) exit(2);
   }

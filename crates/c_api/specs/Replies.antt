@@ -7,9 +7,10 @@ use Rattle.rules.specs.declared.Verdict.{Verdict}
 use Rattle.rules.specs.declared.Named.{Named}
 use Rattle.rules.specs.declared.Named.the-variants.{Nothing, Of}
 use Rattle.rules.specs.Events.{kindOf}
-use Rattle.rules.specs.Limits.{Limits, lineAfter}
+use Rattle.rules.specs.Limits.{Limits, noVolatiles, lineAfter}
 use Rattle.rules.specs.Rules.{told, numberIn, lineIn}
 use Rattle.state.specs.declared.State.{State}
+use Rattle.state.specs.State.{start}
 use Rattle.machine.specs.declared.Answer.{Answer}
 use Rattle.machine.specs.Stepped.{stepped}
 use Rattle.ordering.specs.declared.Ordering.{Ordering}
@@ -26,6 +27,10 @@ unfoldable pub replyOf : Verdict → Reply
 replyOf v = record { number = numberIn (told v); line = lineIn (told v) }
 
 -- ---- one step
+
+-- the state before the first event, with these counts and no variable volatile
+abbrev pub initialOf : ℕ → ℕ → ℕ → State
+initialOf t v l = start (record { threads = t; variables = v; locks = l; volatiles = noVolatiles })
 
 abbrev pub answered : Answer → StepReply
 answered a = record { reply = replyOf (a .verdict); state = a .state }

@@ -2,8 +2,7 @@
 // plain numbers. include/dabzhoni.h declares these functions and the layout of the state.
 ghost use mathlib.Core.Path.{_≡_};
 ghost use Rattle.rules.specs.Limits.{full, short, limitsOf};
-ghost use Rattle.state.specs.State.{start};
-ghost use Rattle.c_api.specs.Replies.{replyOf, stepReply, orderReply, markReply, MarkReplies, BriefReplies};
+ghost use Rattle.c_api.specs.Replies.{initialOf, replyOf, stepReply, orderReply, markReply, MarkReplies, BriefReplies};
 use ordering::Ordering;
 use report::Report;
 use rules::Counts;
@@ -83,17 +82,25 @@ pub fn step_numbers(
     }
 }
 
-// Makes the state before the first event.
-#[no_mangle]
-pub extern "C" fn dabzhoni_initial(s: &mut State, threads: usize, variables: usize, locks: usize)
-    ensures { λ _. ⌜ now (s .exit) ≡ start (record { threads = threads; variables = variables; locks = locks }) ⌝ }
+// The state before the first event, with no variable volatile.
+pub fn initial_numbers(threads: usize, variables: usize, locks: usize) -> State
+    ensures { λ r. ⌜ r ≡ initialOf threads variables locks ⌝ }
 {
     let h = Counts {
         threads: threads,
         variables: variables,
         locks: locks,
+        volatiles: [false; 16],
     };
-    *s = state::initial(h);
+    state::initial(h)
+}
+
+// Makes the state before the first event.
+#[no_mangle]
+pub extern "C" fn dabzhoni_initial(s: &mut State, threads: usize, variables: usize, locks: usize)
+    ensures { λ _. ⌜ now (s .exit) ≡ initialOf threads variables locks ⌝ }
+{
+    *s = initial_numbers(threads, variables, locks);
 }
 
 // One step over the state that the caller keeps, changed in place, in the full course.

@@ -134,6 +134,15 @@ fn event(thread: usize, kind: Kind) {
     show(&out, k);
 }
 
+fn counts(threads: usize, variables: usize, locks: usize) -> Counts {
+    Counts {
+        threads: threads,
+        variables: variables,
+        locks: locks,
+        volatiles: [false; 16],
+    }
+}
+
 fn head(h: Counts) {
     let mut out = [35u8; 128];
     let k = writer::write_head(&mut out, h);
@@ -146,6 +155,12 @@ fn guards(given: bool, ns: &[usize]) {
     show(&out, k);
 }
 
+fn volatiles(ns: &[usize]) {
+    let mut out = [35u8; 514];
+    let k = writer::write_volatiles(&mut out, ns);
+    show(&out, k);
+}
+
 fn trailer(n: usize) {
     let mut out = [35u8; 128];
     let k = writer::write_trailer(&mut out, n);
@@ -154,11 +169,7 @@ fn trailer(n: usize) {
 
 // The paper of document 01.
 fn canonical() {
-    let h = Counts {
-        threads: 2,
-        variables: 1,
-        locks: 1,
-    };
+    let h = counts(2, 1, 1);
     let locks: [usize; 1] = [0];
     head(h);
     guards(true, &locks);
@@ -178,6 +189,10 @@ fn canonical() {
 fn limits() {
     let locks: [usize; 1] = [0];
     guards(false, &locks);
+    let first: [usize; 1] = [0];
+    let all: [usize; 16] = [0, 1, 2, 3, 4, 5, 6, 7, 8, 9, 10, 11, 12, 13, 14, 15];
+    volatiles(&first);
+    volatiles(&all);
     event(7, Kind::Assign(15, -9223372036854775808));
     event(7, Kind::Load(15, 9223372036854775807));
     event(0, Kind::PrescientStore(15, -1));
@@ -190,11 +205,7 @@ fn little_room() {
     let mut out = [35u8; 97];
     let mut narrow = [35u8; 35];
     let mut last = [35u8; 33];
-    let h = Counts {
-        threads: 2,
-        variables: 1,
-        locks: 1,
-    };
+    let h = counts(2, 1, 1);
     let locks: [usize; 1] = [0];
     let e = Event {
         thread: 0,
@@ -205,7 +216,8 @@ fn little_room() {
     let b = writer::write_event(&mut out, e);
     let c = writer::write_guards(&mut narrow, true, &locks);
     let d = writer::write_trailer(&mut last, 84);
-    let ns = [a, b, c, d];
+    let f = writer::write_volatiles(&mut last, &locks);
+    let ns = [a, b, c, d, f];
     row(&ns);
     byte(&out, 0);
     byte(&narrow, 0);
@@ -228,16 +240,8 @@ fn marked(h: Counts, what: &[u32], values: &[Value]) {
 }
 
 fn rows() {
-    let h = Counts {
-        threads: 2,
-        variables: 2,
-        locks: 2,
-    };
-    let none = Counts {
-        threads: 0,
-        variables: 2,
-        locks: 2,
-    };
+    let h = counts(2, 2, 2);
+    let none = counts(0, 2, 2);
     // A 0 0, S 0 0, W 0 0, with the greatest value
     let stored: [u32; 3] = [4259840, 5439488, 5701632];
     let most: [Value; 3] = [9223372036854775807; 3];
@@ -255,6 +259,20 @@ fn rows() {
     marked(none, &stored, &most);
     marked(h, &loaded, &differ);
     marked(h, &long, &fives);
+}
+
+// Variable 1 is volatile: its second assign is 26, at line 5. A volatile variable that is not declared: 3.
+fn volatile_rows() {
+    let mut h = counts(1, 2, 1);
+    h.volatiles[1] = true;
+    let fives: [Value; 2] = [5; 2];
+    // A 0 0 twice; A 0 1 twice
+    let other = [4259840u32; 2];
+    let again = [4259841u32; 2];
+    marked(h, &other, &fives);
+    marked(h, &again, &fives);
+    h.volatiles[2] = true;
+    marked(h, &other, &fives);
 }
 
 // ---- The part of a trace that holds its events.
@@ -350,23 +368,34 @@ fn short_steps(h: Counts) {
     s = step_in(Course::Short, s, 0, Kind::Lock(0));
     s = step(s, 0, Kind::Lock(0));
     held(s);
-    let many = Counts {
-        threads: 3,
-        variables: 2,
-        locks: 2,
-    };
+    let many = counts(3, 2, 2);
     s = state::initial(many);
     s = step_in(Course::Short, s, 0, Kind::Lock(0));
     held(s);
 }
 
+// A volatile variable: lines are one further down. A use without its load, a second assign, an early store; then 8 for a volatile variable that is not
+// declared.
+fn volatile_steps() {
+    let mut h = counts(1, 2, 1);
+    h.volatiles[0] = true;
+    let mut s = state::initial(h);
+    s = step(s, 0, Kind::Use(0, 0));
+    s = step(s, 0, Kind::Assign(0, 5));
+    s = step(s, 0, Kind::Assign(0, 6));
+    s = step(s, 0, Kind::Store(0, 5));
+    s = step(s, 0, Kind::PrescientStore(0, 5));
+    s = step(s, 0, Kind::Write(0, 5));
+    h.volatiles[2] = true;
+    s.counts = h;
+    s = step(s, 0, Kind::Lock(0));
+    held(s);
+}
+
 fn steps() {
     io::write_all(STDOUT_FILENO, b"steps in place\n");
-    let h = Counts {
-        threads: 2,
-        variables: 2,
-        locks: 2,
-    };
+    let h = counts(2, 2, 2);
+    volatile_steps();
     locks(h);
     kinds(h);
     short_steps(h);
@@ -410,11 +439,7 @@ fn listed(e: Event) {
 fn fill(places: usize, what: &[u32], values: &[Value], n: usize)
     requires { ⌜ places ≤ 5 ⌝ }
 {
-    let h = Counts {
-        threads: 1,
-        variables: 2,
-        locks: 1,
-    };
+    let h = counts(1, 2, 1);
     let e = filler();
     let rows = filled([e; 5], places, h, what, values, n);
     listed(rows[0]);
@@ -585,9 +610,11 @@ fn main() {
     little_room();
     io::write_all(STDOUT_FILENO, b"rows of records\n");
     rows();
+    volatile_rows();
     io::write_all(STDOUT_FILENO, b"the events of a trace\n");
     part(Course::Full, paper);
     part(Course::Full, b"Z 0\n");
+    part(Course::Full, b"H 1 1 0\nG -\nV 0\nA 0 0 5\nZ 24\n");
     part(Course::Short, paper);
     part(Course::Short, b"H 1 5 1\nG -\nK 0 0\nZ 18\n");
     steps();

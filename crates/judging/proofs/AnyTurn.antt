@@ -1,7 +1,7 @@
 -- All turns one after the other judge an event by its row and leave the state after it.
 use Prim.Native.Nat.{ℕ, zero, suc, _+_, _*_, _≤_, _<_}
 use native.Mathlib.Omega.{arith}
-use mathlib.Core.Path.{_≡_, refl, _∙_}
+use mathlib.Core.Path.{_≡_, refl, sym, _∙_}
 use borrow.Author.Tests.{ne-eqb}
 use lib.ListN.{getD, set}
 use Rattle.rules.specs.declared.Event.{Event}
@@ -19,6 +19,9 @@ use Rattle.state.proofs.LeafLaws.{place-is, slot-is, cell-read}
 use Rattle.judging.specs.declared.Turn.{Turn}
 use Rattle.judging.specs.Computed.Checks.{oldestOf}
 use Rattle.judging.specs.Computed.Turns.{cellTurn, readsWith, readsTurn, storesWith, storesTurn, lockTurn, partsAt, eitherOf, turnOf, someOf}
+use Rattle.judging.specs.Computed.Leads.{leadAt}
+use Rattle.judging.proofs.Rows.{trailing, judge-split}
+use Rattle.judging.proofs.Leads.{lead-is}
 use Rattle.judging.proofs.Turned.{By, cell-rule, reads-rule, stores-rule, lock-rule, oldest-is, hold-same}
 
 either-none : (a : ℕ) → eitherOf a 0 ≡ a
@@ -42,7 +45,7 @@ module _ (s : State) (t line : ℕ) where
   abbrev by : (k : Kind) → By (of k) t (place k) (letter k) (value k)
   by k = record { thread = refl; place = refl; letter = refl; value = refl }
 
-  judged : (k : Kind) → Within t k → s .counts .threads ≤ 8 → turnIn s (of k) .rule ≡ judge (s .counts) (wordsIn s) (of k)
+  judged : (k : Kind) → Within t k → s .counts .threads ≤ 8 → turnIn s (of k) .rule ≡ trailing (s .counts) (wordsIn s) (of k)
   unfolding turnOf cellTurn readsTurn readsWith storesTurn storesWith lockTurn varOf lockOf
   judged (kind.Use v x) w h = either-none _ ∙ cell-rule s (of (kind.Use v x)) (by (kind.Use v x)) w tt refl refl
   judged (kind.Assign v x) w h = either-none _ ∙ cell-rule s (of (kind.Assign v x)) (by (kind.Assign v x)) w tt refl refl
@@ -68,9 +71,23 @@ module _ (s : State) (t line : ℕ) where
   next (kind.PrescientStore v x) = refl
   next (kind.PrescientAssign v x) = refl
 
+  -- the place behind the last store: S has the position that the cell has before the event
+  sent : (k : Kind) → turnIn s (of k) .store ≡ storeAfter (partsAt s t (varOf k) (lockOf k) .stores .behind) (letter k) (value k) (cellIn s (of k) .assigned) (s .events + 1)
+  unfolding turnOf cellTurn readsTurn readsWith storesTurn storesWith storeAfter nextCell
+  sent (kind.Use v x) = refl
+  sent (kind.Assign v x) = refl
+  sent (kind.Load v x) = refl
+  sent (kind.Store v x) = refl
+  sent (kind.Read v x) = refl
+  sent (kind.Write v x) = refl
+  sent (kind.Lock l) = refl
+  sent (kind.Unlock l) = refl
+  sent (kind.PrescientStore v x) = refl
+  sent (kind.PrescientAssign v x) = refl
+
 module _ (s : State) (e : Event) (w : Within (e .thread) (e .kind)) where
-  pub any-rule : s .counts .threads ≤ 8 → turnIn s e .rule ≡ judge (s .counts) (wordsIn s) e
-  any-rule h = judged s (e .thread) (e .line) (e .kind) w h
+  pub any-rule : s .counts .threads ≤ 8 → s .counts .variables ≤ 16 → eitherOf (leadAt s (e .thread) (varOf (e .kind)) (letter (e .kind))) (turnIn s e .rule) ≡ judge (s .counts) (wordsIn s) e
+  any-rule h m = (λ j. eitherOf (lead-is s e w m j) (judged s (e .thread) (e .line) (e .kind) w h j)) ∙ sym (judge-split (s .counts) (wordsIn s) e)
 
   number : at s e ≡ 16 * e .thread + varOf (e .kind)
   number = place-is (e .thread) (varOf (e .kind)) (w .thread) (w .variable) refl
@@ -108,7 +125,7 @@ module _ (s : State) (e : Event) (w : Within (e .thread) (e .kind)) where
     events = s .events + 1;
     cells = ((λ j. set (s .cells) (at s e) (next s (e .thread) (e .line) (e .kind) j)) ∙ (λ j. set (s .cells) (number j) (nextCell (s .events + 1) (oldest j) (letter (e .kind)) (value (e .kind)) (cell-is j)))) j;
     reads = set (s .reads) (read-end j) (readAfter (getD (s .reads) (read-end j) noSlot) (letter (e .kind)) (value (e .kind)) (s .events + 1));
-    stores = set (s .stores) (store-end j) (storeAfter (getD (s .stores) (store-end j) noSlot) (letter (e .kind)) (value (e .kind)) (s .events + 1));
+    stores = ((λ j. set (s .stores) (slotPlace (at s e) (cellIn s e .stores) (cellIn s e .stores .len)) (sent s (e .thread) (e .line) (e .kind) j)) ∙ (λ j. set (s .stores) (store-end j) (storeAfter (getD (s .stores) (store-end j) noSlot) (letter (e .kind)) (value (e .kind)) (cell-is j .assigned) (s .events + 1)))) j;
     locked = set (s .locked) (e .thread) (lockedAfter (getD (s .locked) (e .thread) 0) (letter (e .kind)) (s .events + 1));
     holds = set (s .holds) (lockOf (e .kind)) (hold-same (getD (s .holds) (lockOf (e .kind)) noHold) (e .thread) (letter (e .kind)) (w .thread) deep j);
     memory = set (s .memory) (varOf (e .kind)) (mainAfter (getD (s .memory) (varOf (e .kind)) noMain) (letter (e .kind)) (value (e .kind)));

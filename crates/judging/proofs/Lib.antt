@@ -1,3 +1,5 @@
 pub mod Locks
+pub mod Rows
 pub mod Turned
+pub mod Leads
 pub mod AnyTurn

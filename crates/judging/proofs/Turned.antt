@@ -1,20 +1,20 @@
--- What a turn answers from the parts of a state is the row of the rules for that state's words, and the parts put back are the state after the
--- event. Each law takes an equation for what the code read and for what the turn answered.
+-- What a turn answers from the parts of a state is the row of the rules for that state's words, its leading checks left aside, and the parts put back
+-- are the state after the event. Each law takes an equation for what the code read and for what the turn answered.
 use Prim.Native.Nat.{ℕ, _+_, _*_, _%_, _≤_, _<_}
 use native.Mathlib.Omega.{arith}
 use mathlib.Core.Path.{_≡_, refl, sym, ap, _∙_, subst}
-use mathlib.Core.Bool.{Bool, true, false, cond, or-false}
+use mathlib.Core.Bool.{Bool, true, false, not, cond, _&&_, or-false, false≢true}
 use mathlib.Core.List.{List, [], _∷_}
 use lib.Dec.{T, eqb, ltb}
-use lib.IntN.{ℤ}
+use lib.IntN.{ℤ, pos}
 use lib.ListN.{getD, set}
 use lib.Seq.{set-getD}
-use borrow.Author.Tests.{lt-ltb}
+use borrow.Author.Tests.{lt-ltb, eqb-true}
 use Rattle.rules.specs.declared.Event.{Event}
 use Rattle.rules.specs.declared.Slot.{Slot}
 use Rattle.rules.specs.Events.{A, B, K, L, N, P, R, S, U, W, letter, place, value, among, is}
 use Rattle.rules.specs.Words.{first}
-use Rattle.rules.specs.Rules.{some, noPartner, lockTaken, notHeld, pendingBars, notFresh, notStored, readBeforeWrite, unwritten, notWritten, notUsable, differs, eightAlready, deadRead, breaks, rows, rowIn, firstBroken, judge}
+use Rattle.rules.specs.Rules.{some, noPartner, lockTaken, notHeld, pendingBars, notFresh, notStored, readBeforeWrite, unwritten, notWritten, notUsable, differs, eightAlready, deadRead, breaks, rows, rowIn, firstBroken}
 use Rattle.rules.proofs.Laws.{is-true}
 use Rattle.state.specs.declared.Ring.{Ring}
 use Rattle.state.specs.declared.Cell.{Cell}
@@ -33,8 +33,9 @@ use Rattle.judging.specs.declared.ReadsTurn.{ReadsTurn}
 use Rattle.judging.specs.declared.StoresTurn.{StoresTurn}
 use Rattle.judging.specs.declared.LockTurn.{LockTurn}
 use Rattle.judging.specs.Computed.Checks.{oldestOf, rowOf}
-use Rattle.judging.specs.Computed.Turns.{holdFor, useRule, cellTurn, readsWith, readsTurn, storesWith, storesTurn, lockTurn, awaitsWrite, someOf}
+use Rattle.judging.specs.Computed.Turns.{holdFor, afterUse, isUsed, useRule, cellTurn, readsWith, readsTurn, storesWith, storesTurn, lockTurn, awaitsWrite, someOf}
 use Rattle.judging.proofs.Locks.{others-same}
+use Rattle.judging.proofs.Rows.{trailing}
 
 -- an event by its numbers
 pub record By (e : Event) (t v k : ℕ) (x : ℤ) : Type 0 where
@@ -52,11 +53,36 @@ pub lock-place : {e : Event} {t v k : ℕ} {x : ℤ} → By e t v k x → T (amo
 unfolding lockOf
 lock-place {k = k} n h = n .place ∙ rw (subst (λ (m : ℕ). among (K ∷ N ∷ []) m ≡ true) (n .letter) (is-true {b = among (K ∷ N ∷ []) k} h)) refl
 
--- ---- the rule of a turn is the row's
+-- ---- the rule of a turn is the row's, its leading checks left aside
 
 stored-same : (s : State) (t n : ℕ) → some n (λ v. awaitsWrite (cellAt s t v)) ≡ some n (λ v. unwritten (wordsIn s) t v)
 unfolding unwritten wordsIn storesAt
 stored-same s t n = ap (λ (f : ℕ → Bool). some n f) (λ i. λ v. ltb (cond (cellAt s t v .pending) 1 0) (sym (queued-length (s .stores) (16 * t + v) (cellAt s t v .stores)) i))
+
+-- a cell that U leaves as it is
+used-same : (c : Cell) → isUsed c ≡ true → afterUse c ≡ c
+unfolding isUsed afterUse nextCell
+used-same c q = by (c .«after_load») refl (c .«after_assign») refl (eqb (c .used) (c .loaded)) refl q
+  where
+    by : (a : Bool) → c .«after_load» ≡ a → (b : Bool) → c .«after_assign» ≡ b → (d : Bool) → eqb (c .used) (c .loaded) ≡ d → not a && not b && d ≡ true → afterUse c ≡ c
+    by false l false a true u q = λ j. record {
+      copy = c .copy;
+      announced = c .announced;
+      source = c .source;
+      written = c .written;
+      loaded = c .loaded;
+      used = sym (eqb-true (c .used) (c .loaded) u) j;
+      assigned = c .assigned;
+      reads = c .reads;
+      stores = c .stores;
+      fresh = c .fresh;
+      pending = c .pending;
+      «after_load» = sym l j;
+      «after_assign» = sym a j;
+    }
+    by true l b a d u q = absurd (false≢true q)
+    by false l true a d u q = absurd (false≢true q)
+    by false l false a false u q = absurd (false≢true q)
 
 module _ (s : State) (e : Event) where
   abbrev own : Cell
@@ -71,27 +97,27 @@ module _ (s : State) (e : Event) where
   abbrev hold : Hold
   hold = getD (s .holds) (place (e .kind)) noHold
 
-  cell-judged : T (among (U ∷ A ∷ B ∷ []) (letter (e .kind))) → cellTurn own locked (letter (e .kind)) (value (e .kind)) (s .events + 1) .rule ≡ judge (s .counts) (wordsIn s) e
-  unfolding cellTurn rowOf judge rows rowIn firstBroken breaks noPartner notUsable differs deadRead is wordsIn readsAt
-  cell-judged h = by-letters (λ k. letter (e .kind) ≡ k → cellTurn own locked k (value (e .kind)) (s .events + 1) .rule ≡ judge (s .counts) (wordsIn s) e)
+  cell-judged : T (among (U ∷ A ∷ B ∷ []) (letter (e .kind))) → cellTurn own locked (letter (e .kind)) (value (e .kind)) (s .events + 1) .rule ≡ trailing (s .counts) (wordsIn s) e
+  unfolding cellTurn rowOf rows rowIn firstBroken breaks noPartner notUsable differs deadRead is wordsIn readsAt
+  cell-judged h = by-letters (λ k. letter (e .kind) ≡ k → cellTurn own locked k (value (e .kind)) (s .events + 1) .rule ≡ trailing (s .counts) (wordsIn s) e)
       (U ∷ A ∷ B ∷ []) ((λ q. simp (q, or-false)), ((λ q. simp (q, queued-none, or-false)), ((λ q. simp q), tt))) (letter (e .kind)) h refl
 
   reads-judged : (b : Slot) → T (among (R ∷ L ∷ []) (letter (e .kind)))
-      → readsWith own (first (readsAt s (e .thread) (place (e .kind)))) b main (letter (e .kind)) (value (e .kind)) (s .events + 1) .rule ≡ judge (s .counts) (wordsIn s) e
-  unfolding readsWith rowOf judge rows rowIn firstBroken breaks noPartner pendingBars notStored notWritten readBeforeWrite differs eightAlready deadRead is wordsIn readsAt storesAt
-  reads-judged b h = by-letters (λ k. letter (e .kind) ≡ k → readsWith own (first (readsAt s (e .thread) (place (e .kind)))) b main k (value (e .kind)) (s .events + 1) .rule ≡ judge (s .counts) (wordsIn s) e)
+      → readsWith own (first (readsAt s (e .thread) (place (e .kind)))) b main (letter (e .kind)) (value (e .kind)) (s .events + 1) .rule ≡ trailing (s .counts) (wordsIn s) e
+  unfolding readsWith rowOf rows rowIn firstBroken breaks noPartner pendingBars notStored notWritten readBeforeWrite differs eightAlready deadRead is wordsIn readsAt storesAt
+  reads-judged b h = by-letters (λ k. letter (e .kind) ≡ k → readsWith own (first (readsAt s (e .thread) (place (e .kind)))) b main k (value (e .kind)) (s .events + 1) .rule ≡ trailing (s .counts) (wordsIn s) e)
       (R ∷ L ∷ []) ((λ q. simp (q, queued-length, queued-none, or-false)), ((λ q. simp (q, queued-none, or-false)), tt)) (letter (e .kind)) h refl
 
   stores-judged : (b : Slot) → T (among (S ∷ P ∷ W ∷ []) (letter (e .kind)))
-      → storesWith own (first (storesAt s (e .thread) (place (e .kind)))) b main locked (letter (e .kind)) (value (e .kind)) (s .events + 1) .rule ≡ judge (s .counts) (wordsIn s) e
-  unfolding storesWith rowOf judge rows rowIn firstBroken breaks noPartner pendingBars notFresh notUsable differs eightAlready deadRead is wordsIn readsAt storesAt
-  stores-judged b h = by-letters (λ k. letter (e .kind) ≡ k → storesWith own (first (storesAt s (e .thread) (place (e .kind)))) b main locked k (value (e .kind)) (s .events + 1) .rule ≡ judge (s .counts) (wordsIn s) e)
+      → storesWith own (first (storesAt s (e .thread) (place (e .kind)))) b main locked (letter (e .kind)) (value (e .kind)) (s .events + 1) .rule ≡ trailing (s .counts) (wordsIn s) e
+  unfolding storesWith rowOf rows rowIn firstBroken breaks noPartner pendingBars notFresh notUsable differs eightAlready deadRead is wordsIn readsAt storesAt
+  stores-judged b h = by-letters (λ k. letter (e .kind) ≡ k → storesWith own (first (storesAt s (e .thread) (place (e .kind)))) b main locked k (value (e .kind)) (s .events + 1) .rule ≡ trailing (s .counts) (wordsIn s) e)
       (S ∷ P ∷ W ∷ []) ((λ q. simp (q, queued-length, or-false)), ((λ q. simp (q, queued-length, queued-none, or-false)), ((λ q. simp (q, queued-none, or-false)), tt))) (letter (e .kind)) h refl
 
   lock-judged : e .thread < 8 → s .counts .threads ≤ 8 → T (among (K ∷ N ∷ []) (letter (e .kind)))
-      → lockTurn hold locked (s .counts .threads) (someOf s (e .thread) (s .counts .variables)) (e .thread) (letter (e .kind)) (s .events + 1) .rule ≡ judge (s .counts) (wordsIn s) e
-  unfolding lockTurn someOf rowOf judge rows rowIn firstBroken breaks lockTaken notHeld pendingBars notStored notWritten is wordsIn
-  lock-judged l m h = by-letters (λ k. letter (e .kind) ≡ k → lockTurn hold locked (s .counts .threads) (someOf s (e .thread) (s .counts .variables)) (e .thread) k (s .events + 1) .rule ≡ judge (s .counts) (wordsIn s) e)
+      → lockTurn hold locked (s .counts .threads) (someOf s (e .thread) (s .counts .variables)) (e .thread) (letter (e .kind)) (s .events + 1) .rule ≡ trailing (s .counts) (wordsIn s) e
+  unfolding lockTurn someOf rowOf rows rowIn firstBroken breaks lockTaken notHeld pendingBars notStored notWritten is wordsIn
+  lock-judged l m h = by-letters (λ k. letter (e .kind) ≡ k → lockTurn hold locked (s .counts .threads) (someOf s (e .thread) (s .counts .variables)) (e .thread) k (s .events + 1) .rule ≡ trailing (s .counts) (wordsIn s) e)
       (K ∷ N ∷ []) ((λ q. simp (q, others-same hold (s .counts .threads) (e .thread) l m, or-false)), ((λ q. simp (q, stored-same s (e .thread) (s .counts .variables))), tt)) (letter (e .kind)) h refl
 
 -- ---- what an event leaves as it was, by its letter
@@ -181,7 +207,7 @@ module _ (s : State) (e : Event) {t v k : ℕ} {x : ℤ} (n : By e t v k x) (w :
     cell-turned : r ≡ cellTurn (cellAt s t v) (getD (s .locked) t 0) k x p
     cell-turned = er ∙ (λ j. cellTurn (cell-is (U ∷ A ∷ B ∷ []) tt h ei j) (getD (s .locked) t 0) k x p)
 
-    pub cell-rule : r .rule ≡ judge (s .counts) (wordsIn s) e
+    pub cell-rule : r .rule ≡ trailing (s .counts) (wordsIn s) e
     cell-rule = ap (λ (z : CellTurn). z .rule) cell-turned
         ∙ (λ j. cellTurn (cellAt s (n .thread j) (n .place j)) (getD (s .locked) (n .thread j) 0) (n .letter j) (n .value j) p .rule) ∙ cell-judged s e (own-letter (U ∷ A ∷ B ∷ []) h)
 
@@ -204,25 +230,36 @@ module _ (s : State) (e : Event) {t v k : ℕ} {x : ℤ} (n : By e t v k x) (w :
       memory = memory-off s e (off (U ∷ A ∷ B ∷ []) (W ∷ []) tt h) j;
     }
 
-  -- a use, which leaves everything
+  -- a use, which leaves all but the cell
   module _ (h : k ≡ U) where
     used : T (among (U ∷ A ∷ B ∷ []) k)
     used = subst (λ (m : ℕ). T (among (U ∷ A ∷ B ∷ []) m)) (sym h) tt
 
-    pub use-rule : {i : ℕ} → i ≡ cellPlace t v → {r : ℕ} → r ≡ useRule (getD (s .cells) i blank) (getD (s .locked) t 0) x → r ≡ judge (s .counts) (wordsIn s) e
+    pub use-rule : {i : ℕ} → i ≡ cellPlace t v → {r : ℕ} → r ≡ useRule (getD (s .cells) i blank) (getD (s .locked) t 0) x → r ≡ trailing (s .counts) (wordsIn s) e
     use-rule {i} ei er =
         let c = getD (s .cells) i blank in
         let q = getD (s .locked) t 0 in
         let a : useRule c q x ≡ cellTurn c q U x p .rule = unfold useRule cellTurn in refl in
         er ∙ a ∙ ap (λ (m : ℕ). cellTurn c q m x p .rule) (sym h) ∙ cell-rule used ei refl
 
-    pub use-put : _≡_ {A = State} (record { counts = s .counts; events = p; cells = s .cells; reads = s .reads; stores = s .stores; locked = s .locked; holds = s .holds; memory = s .memory }) (stepState s e)
-    use-put =
-        let c = getD (s .cells) (cellPlace t v) blank in
-        let q = getD (s .locked) t 0 in
-        let a : c ≡ cellTurn c q U x p .cell = unfold cellTurn in refl in
-        let b : s .cells ≡ set (s .cells) (cellPlace t v) (cellTurn c q k x p .cell) = sym (set-getD (s .cells) (cellPlace t v) blank) ∙ ap (set (s .cells) (cellPlace t v)) (a ∙ ap (λ (m : ℕ). cellTurn c q m x p .cell) (sym h)) in
-        (λ j. record { counts = s .counts; events = p; cells = b j; reads = s .reads; stores = s .stores; locked = s .locked; holds = s .holds; memory = s .memory }) ∙ cell-put used refl refl
+    use-cell : (c : Cell) → afterUse c ≡ cellTurn c (getD (s .locked) t 0) k x p .cell
+    use-cell c = subst (λ (m : ℕ). afterUse c ≡ cellTurn c (getD (s .locked) t 0) m x p .cell) (sym h) (unfold afterUse cellTurn nextCell in refl)
+
+    module _ {i : ℕ} (ei : i ≡ cellPlace t v) {d : Cell} (ed : d ≡ afterUse (getD (s .cells) i blank)) where
+      pub use-next : d ≡ nextCell p (first (readsAt s t v)) k x (cellAt s t v)
+      use-next = ed ∙ use-cell (getD (s .cells) i blank) ∙ cell-next used ei refl
+
+      pub use-put : _≡_ {A = State} (record { counts = s .counts; events = p; cells = set (s .cells) i d; reads = s .reads; stores = s .stores; locked = s .locked; holds = s .holds; memory = s .memory }) (stepState s e)
+      use-put =
+          let b = ed ∙ use-cell (getD (s .cells) i blank) in
+          (λ j. record { counts = s .counts; events = p; cells = set (s .cells) i (b j); reads = s .reads; stores = s .stores; locked = s .locked; holds = s .holds; memory = s .memory }) ∙ cell-put used ei refl
+
+    -- the same, where it leaves the cell too
+    pub use-kept : {i : ℕ} → i ≡ cellPlace t v → isUsed (getD (s .cells) i blank) ≡ true
+        → _≡_ {A = State} (record { counts = s .counts; events = p; cells = s .cells; reads = s .reads; stores = s .stores; locked = s .locked; holds = s .holds; memory = s .memory }) (stepState s e)
+    use-kept {i} ei q =
+        let b : s .cells ≡ set (s .cells) i (afterUse (getD (s .cells) i blank)) = sym (set-getD (s .cells) i blank) ∙ ap (λ (c : Cell). set (s .cells) i c) (sym (used-same (getD (s .cells) i blank) q)) in
+        (λ j. record { counts = s .counts; events = p; cells = b j; reads = s .reads; stores = s .stores; locked = s .locked; holds = s .holds; memory = s .memory }) ∙ use-put ei refl
 
   module _ (h : T (among (R ∷ L ∷ []) k)) {i : ℕ} (ei : i ≡ cellPlace t v)
       {f b : ℕ} (ef : f ≡ slotPlace i (getD (s .cells) i blank .reads) 0) (eb : b ≡ slotPlace i (getD (s .cells) i blank .reads) (getD (s .cells) i blank .reads .len))
@@ -231,7 +268,7 @@ module _ (s : State) (e : Event) {t v k : ℕ} {x : ℤ} (n : By e t v k x) (w :
     unfolding readsTurn readsAt
     reads-turned = er ∙ (λ j. readsWith (cell-is (R ∷ L ∷ []) tt h ei j) (oldest-in (R ∷ L ∷ []) tt h ei (λ c. c .reads) (s .reads) ef j) (getD (s .reads) b noSlot) (getD (s .memory) v noMain) k x p)
 
-    pub reads-rule : r .rule ≡ judge (s .counts) (wordsIn s) e
+    pub reads-rule : r .rule ≡ trailing (s .counts) (wordsIn s) e
     reads-rule = ap (λ (z : ReadsTurn). z .rule) reads-turned
         ∙ (λ j. readsWith (cellAt s (n .thread j) (n .place j)) (first (readsAt s (n .thread j) (n .place j))) (getD (s .reads) b noSlot) (getD (s .memory) (n .place j) noMain) (n .letter j) (n .value j) p .rule)
         ∙ reads-judged s e (getD (s .reads) b noSlot) (own-letter (R ∷ L ∷ []) h)
@@ -267,7 +304,7 @@ module _ (s : State) (e : Event) {t v k : ℕ} {x : ℤ} (n : By e t v k x) (w :
     unfolding storesTurn storesAt
     stores-turned = er ∙ (λ j. storesWith (cell-is (S ∷ P ∷ W ∷ []) tt h ei j) (oldest-in (S ∷ P ∷ W ∷ []) tt h ei (λ c. c .stores) (s .stores) ef j) (getD (s .stores) b noSlot) (getD (s .memory) v noMain) (getD (s .locked) t 0) k x p)
 
-    pub stores-rule : r .rule ≡ judge (s .counts) (wordsIn s) e
+    pub stores-rule : r .rule ≡ trailing (s .counts) (wordsIn s) e
     stores-rule = ap (λ (z : StoresTurn). z .rule) stores-turned
         ∙ (λ j. storesWith (cellAt s (n .thread j) (n .place j)) (first (storesAt s (n .thread j) (n .place j))) (getD (s .stores) b noSlot) (getD (s .memory) (n .place j) noMain) (getD (s .locked) (n .thread j) 0) (n .letter j) (n .value j) p .rule)
         ∙ stores-judged s e (getD (s .stores) b noSlot) (own-letter (S ∷ P ∷ W ∷ []) h)
@@ -280,7 +317,8 @@ module _ (s : State) (e : Event) {t v k : ℕ} {x : ℤ} (n : By e t v k x) (w :
     stores-on : set (s .stores) b (r .slot) ≡ stepState s e .stores
     unfolding stepState storesWith
     stores-on = let q = behind-in (S ∷ P ∷ W ∷ []) tt h ei (λ c. c .stores) eb in
-        (λ j. set (s .stores) b (stores-turned j .slot)) ∙ (λ j. set (s .stores) (q j) (storeAfter (getD (s .stores) (q j) noSlot) (n .letter j) (n .value j) p))
+        let o = var-own (S ∷ P ∷ W ∷ []) tt h ei in
+        (λ j. set (s .stores) b (stores-turned j .slot)) ∙ (λ j. set (s .stores) (q j) (storeAfter (getD (s .stores) (q j) noSlot) (n .letter j) (n .value j) (cellAt s (n .thread j) (o j) .assigned) p))
 
     main-on : set (s .memory) v (r .main) ≡ stepState s e .memory
     unfolding stepState storesWith
@@ -302,7 +340,7 @@ module _ (s : State) (e : Event) {t v k : ℕ} {x : ℤ} (n : By e t v k x) (w :
     }
 
   module _ (h : T (among (K ∷ N ∷ []) k)) (any : OnSome) {r : LockTurn} (er : r ≡ lockTurn (getD (s .holds) v noHold) (getD (s .locked) t 0) (s .counts .threads) any t k p) where
-    pub lock-rule : any ≡ someOf s t (s .counts .variables) → s .counts .threads ≤ 8 → r .rule ≡ judge (s .counts) (wordsIn s) e
+    pub lock-rule : any ≡ someOf s t (s .counts .variables) → s .counts .threads ≤ 8 → r .rule ≡ trailing (s .counts) (wordsIn s) e
     lock-rule ea m = ap (λ (z : LockTurn). z .rule) er
         ∙ (λ j. lockTurn (getD (s .holds) (n .place j) noHold) (getD (s .locked) (n .thread j) 0) (s .counts .threads) ((ea ∙ ap (λ (u : ℕ). someOf s u (s .counts .variables)) (n .thread)) j) (n .thread j) (n .letter j) p .rule)
         ∙ lock-judged s e (w .thread) m (own-letter (K ∷ N ∷ []) h)
@@ -332,9 +370,9 @@ module _ (s : State) (e : Event) {t v k : ℕ} {x : ℤ} (n : By e t v k x) (w :
 
 -- ---- for what is tallied beside a state
 
--- an event on the reads leaves it
-pub reads-tally : (k : ℕ) → T (among (R ∷ L ∷ []) k) → (p : ℕ) (r : Slot) (x : ℤ) (c : Cell)
+-- a use, and an event on the reads, leave it
+pub kept-tally : (k : ℕ) → T (among (U ∷ R ∷ L ∷ []) k) → (p : ℕ) (r : Slot) (x : ℤ) (c : Cell)
     → (nextCell p r k x c .pending ≡ c .pending) × (nextCell p r k x c .fresh ≡ c .fresh) × (nextCell p r k x c .stores ≡ c .stores)
 unfolding nextCell
-reads-tally k h p r x c = by-letters (λ k. (nextCell p r k x c .pending ≡ c .pending) × (nextCell p r k x c .fresh ≡ c .fresh) × (nextCell p r k x c .stores ≡ c .stores)) (R ∷ L ∷ [])
-    ((refl, refl, refl), ((refl, refl, refl), tt)) k h
+kept-tally k h p r x c = by-letters (λ k. (nextCell p r k x c .pending ≡ c .pending) × (nextCell p r k x c .fresh ≡ c .fresh) × (nextCell p r k x c .stores ≡ c .stores)) (U ∷ R ∷ L ∷ [])
+    ((refl, refl, refl), ((refl, refl, refl), ((refl, refl, refl), tt))) k h

@@ -1,3 +1,5 @@
--- What the functions of this crate compute; `proofs/Turned.antt` proves that it is what the rules and the state's definitions say.
+-- What the functions of this crate compute; `proofs/Turned.antt` and `proofs/Leads.antt` prove that it is what the rules and the
+-- state's definitions say.
 pub mod Checks
+pub mod Leads
 pub mod Turns

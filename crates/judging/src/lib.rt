@@ -1,10 +1,12 @@
-// One event judged from the parts of a state that it looks at, and what it leaves of them. Nothing here sees a whole state; what a turn
-// answers is in specs/Computed/Turns.antt, and proofs/Turned.antt proves that it is the row of the rules and the state after the event.
+// One event judged from the parts of a state that it looks at, and what it leaves of them. Nothing here sees a whole state. What a turn
+// answers is in specs/Computed/Turns.antt, and proofs/Turned.antt proves that it is the row of the rules, the checks that lead it left aside, and
+// the state after the event; those checks are in specs/Computed/Leads.antt and proofs/Leads.antt.
 ghost use mathlib.Core.Path.{_≡_};
 ghost use mathlib.Core.List.{[]};
 ghost use Prim.Native.Nat.{_<_, max};
 ghost use lib.ListN.{getD};
 ghost use Rattle.rules.specs.Events.{A as Assign, B, K, L, N, P, R, S, W};
+ghost use Rattle.rules.specs.Rules.{differ};
 ghost use Rattle.state.specs.State.{noSlot, depthOf};
 ghost use Rattle.state.specs.Step.{pushed, popped, nextCell};
 ghost use Rattle.judging.specs.Computed.Checks.{
@@ -20,10 +22,12 @@ ghost use Rattle.judging.specs.Computed.Checks.{
   unlockChecks,
   prescientStoreChecks,
   prescientAssignChecks,
+  rowOf,
   table,
   firstOf,
 };
-ghost use Rattle.judging.specs.Computed.Turns.{holdFor, useRule, cellTurn, readsTurn, storesTurn, lockTurn, eitherOf, turnOf};
+ghost use Rattle.judging.specs.Computed.Leads.{isAccess, leadChecks, firstLead, leadRule, barsUse, barsWrite, barsEvent};
+ghost use Rattle.judging.specs.Computed.Turns.{holdFor, afterUse, isUsed, useRule, cellTurn, readsTurn, storesTurn, lockTurn, eitherOf, turnOf};
 use rules::Main;
 use rules::Slot;
 use rules::Value;
@@ -271,47 +275,153 @@ fn prescient_assign_checks(c: Cell, x: Value) -> Checks
 // ---- The rows.
 
 // The rows of U, A, L, S, R, W, K, N, P, B; 0 fills a row.
-const ROWS: [[u8; 5]; 10] = [
-    [17, 18, 0, 0, 0],
-    [23, 0, 0, 0, 0],
-    [10, 13, 15, 16, 18],
-    [13, 14, 17, 18, 19],
-    [18, 19, 23, 0, 0],
-    [10, 18, 0, 0, 0],
-    [11, 13, 0, 0, 0],
-    [12, 15, 16, 0, 0],
-    [13, 19, 23, 0, 0],
-    [10, 18, 0, 0, 0],
+const ROWS: [[u8; 8]; 10] = [
+    [26, 27, 28, 17, 18, 0, 0, 0],
+    [26, 27, 28, 23, 0, 0, 0, 0],
+    [26, 27, 28, 10, 13, 15, 16, 18],
+    [26, 27, 28, 13, 14, 17, 18, 19],
+    [26, 27, 28, 18, 19, 23, 0, 0],
+    [26, 27, 28, 10, 18, 0, 0, 0],
+    [26, 27, 28, 11, 13, 0, 0, 0],
+    [26, 27, 28, 12, 15, 16, 0, 0],
+    [26, 27, 28, 13, 19, 23, 0, 0],
+    [26, 27, 28, 10, 18, 0, 0, 0],
 ];
 
 // The row at a place of the table.
-fn row_at(i: usize) -> [u8; 5]
+fn row_at(i: usize) -> [u8; 8]
     requires { ⌜ i < 10 ⌝ }
     ensures { λ r. ⌜ r ≡ getD table i [] ⌝ }
 {
     ROWS[i]
 }
 
-// The number of a row at its first broken check; 0 where none is.
-fn first_of(b: Checks, row: [u8; 5]) -> u8
+// The number of a row at its first broken check, the three that lead it left aside; 0 where none is.
+fn first_of(b: Checks, row: [u8; 8]) -> u8
     ensures { λ r. ⌜ r ≡ firstOf b row ⌝ }
 {
     if b.first {
-        return row[0];
-    }
-    if b.second {
-        return row[1];
-    }
-    if b.third {
-        return row[2];
-    }
-    if b.fourth {
         return row[3];
     }
-    if b.fifth {
+    if b.second {
         return row[4];
     }
+    if b.third {
+        return row[5];
+    }
+    if b.fourth {
+        return row[6];
+    }
+    if b.fifth {
+        return row[7];
+    }
     0
+}
+
+// The row of a letter; zeros for every other byte.
+fn row_of(k: u8) -> [u8; 8]
+    ensures { λ r. ⌜ r ≡ rowOf k ⌝ }
+{
+    match k {
+        b'U' => row_at(0),
+        b'A' => row_at(1),
+        b'L' => row_at(2),
+        b'S' => row_at(3),
+        b'R' => row_at(4),
+        b'W' => row_at(5),
+        b'K' => row_at(6),
+        b'N' => row_at(7),
+        b'P' => row_at(8),
+        b'B' => row_at(9),
+        _ => [0; 8],
+    }
+}
+
+// ---- The checks that lead each row, of an event on a volatile variable.
+
+// Which of 26, 27 and 28 are broken.
+struct Lead {
+    pub neighbour: bool,
+    pub order: bool,
+    pub prescient: bool,
+}
+
+fn differ(a: bool, b: bool) -> bool
+    ensures { λ r. ⌜ r ≡ differ a b ⌝ }
+{
+    if a { !b } else { b }
+}
+
+// Whether a letter is that of a thread's own event on a variable, R and W left aside.
+fn is_access(k: u8) -> bool
+    ensures { λ r. ⌜ r ≡ isAccess k ⌝ }
+{
+    (k == b'U') | (k == b'A') | (k == b'L') | (k == b'S') | (k == b'P') | (k == b'B')
+}
+
+// Letter k on a volatile variable; `order` is what 27 asks of all variables.
+fn lead_checks(c: Cell, order: bool, k: u8) -> Lead
+    ensures { λ r. ⌜ r ≡ leadChecks c order k ⌝ }
+{
+    let load = differ(k == b'U', c.after_load);
+    let assign = differ(k == b'S', c.after_assign);
+    Lead {
+        neighbour: is_access(k) & (load | assign),
+        order: order,
+        prescient: (k == b'P') | (k == b'B'),
+    }
+}
+
+// The number of a row at its first broken leading check; 0 where none is.
+fn first_lead(b: Lead, row: [u8; 8]) -> u8
+    ensures { λ r. ⌜ r ≡ firstLead b row ⌝ }
+{
+    if b.neighbour {
+        return row[0];
+    }
+    if b.order {
+        return row[1];
+    }
+    if b.prescient {
+        return row[2];
+    }
+    0
+}
+
+// What letter k breaks of the checks that lead its row, on a volatile variable.
+pub fn lead_rule(c: Cell, order: bool, k: u8) -> u8
+    ensures { λ r. ⌜ r ≡ leadRule c order k ⌝ }
+{
+    let b = lead_checks(c, order, k);
+    let row = row_of(k);
+    first_lead(b, row)
+}
+
+// Whether a volatile variable bars a use whose read is at `read`: it has an assign that is not written, or its write or the read of its use is
+// not before that.
+fn bars_use(c: Cell, read: usize) -> bool
+    ensures { λ r. ⌜ r ≡ barsUse c read ⌝ }
+{
+    let o = c.stores;
+    c.fresh | (o.len != 0) | !(c.written < read) | !(c.used < read)
+}
+
+// Whether it bars a write whose assign is at a: it has an assign before a that is not written. `front` is the slot at the first place of its stores.
+fn bars_write(c: Cell, front: Slot, a: usize) -> bool
+    ensures { λ r. ⌜ r ≡ barsWrite c front a ⌝ }
+{
+    let o = c.stores;
+    ((o.len != 0) & (front.position < a)) | (c.fresh & (c.assigned < a))
+}
+
+// Whether the volatile variable of cell `other` bars letter k on that of cell c. Each has its slot at the first place of its stores.
+pub fn bars_event(c: Cell, front: Slot, other: Cell, first: Slot, k: u8) -> bool
+    ensures { λ r. ⌜ r ≡ barsEvent c front other first k ⌝ }
+{
+    let o = c.stores;
+    let used = bars_use(other, c.loaded);
+    let written = bars_write(other, first, front.position);
+    ((k == b'U') & used) | ((k == b'W') & ((o.len != 0) & written))
 }
 
 // ---- What an event leaves. `p` is its position.
@@ -322,6 +432,24 @@ fn later(a: usize, b: usize) -> usize
     if a < b { b } else { a }
 }
 
+// Whether U leaves a cell as it is.
+pub fn is_used(c: Cell) -> bool
+    ensures { λ r. ⌜ r ≡ isUsed c ⌝ }
+{
+    !c.after_load & !c.after_assign & (c.used == c.loaded)
+}
+
+// U, wherever it stands and whatever its value.
+pub fn used(c: Cell) -> Cell
+    ensures { λ r. ⌜ r ≡ afterUse c ⌝ }
+{
+    let mut d = c;
+    d.used = c.loaded;
+    d.after_load = false;
+    d.after_assign = false;
+    d
+}
+
 fn assigned(c: Cell, x: Value, p: usize) -> Cell
     ensures { λ r. ⌜ r ≡ nextCell p noSlot Assign x c ⌝ }
 {
@@ -329,6 +457,9 @@ fn assigned(c: Cell, x: Value, p: usize) -> Cell
     d.copy = x;
     d.fresh = true;
     d.source = p;
+    d.assigned = p;
+    d.after_load = false;
+    d.after_assign = true;
     d
 }
 
@@ -340,6 +471,8 @@ fn prescient_assigned(c: Cell, x: Value, p: usize) -> Cell
     d.fresh = false; // its store has gone out already
     d.pending = false;
     d.source = p;
+    d.after_load = false;
+    d.after_assign = false;
     d
 }
 
@@ -353,6 +486,9 @@ fn loaded(c: Cell, s: Slot, x: Value, p: usize) -> Cell
     d.copy = x;
     d.reads = rest;
     d.source = later(c.source, s.position);
+    d.loaded = s.position;
+    d.after_load = true;
+    d.after_assign = false;
     d
 }
 
@@ -374,6 +510,8 @@ fn stored(c: Cell, x: Value, p: usize) -> Cell
     let mut d = c;
     d.fresh = false;
     d.stores = more;
+    d.after_load = false;
+    d.after_assign = false;
     d
 }
 
@@ -386,6 +524,8 @@ fn prescient_stored(c: Cell, x: Value, p: usize) -> Cell
     d.pending = true;
     d.announced = x;
     d.stores = more;
+    d.after_load = false;
+    d.after_assign = false;
     d
 }
 
@@ -438,7 +578,7 @@ fn left(a: Hold, t: usize) -> Hold
 
 // ---- The turns. A letter that is none of a turn's breaks nothing there and leaves everything.
 
-// U: what it breaks. It leaves everything.
+// U: what it breaks.
 pub fn use_rule(c: Cell, locked: usize, x: Value) -> u8
     ensures { λ r. ⌜ r ≡ useRule c locked x ⌝ }
 {
@@ -454,6 +594,7 @@ pub fn cell_turn(c: Cell, locked: usize, k: u8, x: Value, p: usize) -> CellTurn
     let mut turn = CellTurn { rule: 0, cell: c };
     if k == b'U' {
         turn.rule = use_rule(c, locked, x);
+        turn.cell = used(c);
     } else if k == b'A' {
         let b = assign_checks(c);
         let row = row_at(1);
@@ -506,7 +647,7 @@ pub fn reads_turn(
     turn
 }
 
-// S, P, W: the stores of the cell, and its variable in main memory.
+// S, P, W: the stores of the cell, and its variable in main memory. S has the position of its assign.
 pub fn stores_turn(
     c: Cell,
     front: Slot,
@@ -525,10 +666,6 @@ pub fn stores_turn(
         slot: behind,
         main: main,
     };
-    let new = Slot {
-        value: x,
-        position: p,
-    };
     if k == b'W' {
         let q = c.stores;
         let s = oldest(q, front);
@@ -541,12 +678,20 @@ pub fn stores_turn(
     } else if k == b'S' {
         let b = store_checks(c, locked, x);
         let row = row_at(3);
+        let new = Slot {
+            value: x,
+            position: c.assigned,
+        };
         turn.rule = first_of(b, row);
         turn.cell = stored(c, x, p);
         turn.slot = new;
     } else if k == b'P' {
         let b = prescient_store_checks(c);
         let row = row_at(8);
+        let new = Slot {
+            value: x,
+            position: p,
+        };
         turn.rule = first_of(b, row);
         turn.cell = prescient_stored(c, x, p);
         turn.slot = new;
@@ -626,7 +771,7 @@ pub struct Turn {
 }
 
 // The first number that is not 0.
-fn either(a: u8, b: u8) -> u8
+pub fn either(a: u8, b: u8) -> u8
     ensures { λ r. ⌜ r ≡ eitherOf a b ⌝ }
 {
     if a == 0 { b } else { a }

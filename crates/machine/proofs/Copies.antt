@@ -4,6 +4,7 @@ use native.Mathlib.Omega.{arith}
 use mathlib.Core.Path.{_≡_, refl, sym, ap, _∙_}
 use mathlib.Core.Bool.{Bool, false}
 use lib.Dec.{ltb}
+use mathlib.Core.List.{List, []}
 use lib.IntN.{ℤ, pos}
 use lib.ListN.{length, getD}
 use Rattle.rules.specs.declared.Cached.{Cached}
@@ -33,6 +34,12 @@ copy-at s i h p q =
 pub mains-all : (s : State) → length (s .memory) ≡ 16 → s .memory ≡ memoriesOf (wordsIn s) .main
 unfolding memoriesOf wordsIn
 mains-all s n = filled (mainIn (wordsIn s)) noMain (s .memory) 16 n (λ j h. unfold wordsIn in refl)
+
+-- main memory beside the copies
+pub memories-of : (s : State) → length (s .memory) ≡ 16 → {cs : List Cached} → cs ≡ memoriesOf (wordsIn (stateOf (s .cells) (s .locked) [])) .copies
+    → _≡_ {A = Outcome} (record { verdict = said accepted; memories = record { main = s .memory; copies = cs } }) (record { verdict = said accepted; memories = memoriesOf (wordsIn (stateOf (s .cells) (s .locked) (s .memory))) })
+unfolding memoriesOf wordsIn cellAt
+memories-of s n b = λ i. record { verdict = said accepted; memories = record { main = mains-all (stateOf (s .cells) (s .locked) (s .memory)) n i; copies = b i } }
 
 -- the memories hang on the cells, the last locks and main memory alone
 pub memories-in : (s : State) → _≡_ {A = Outcome} (record { verdict = said accepted; memories = memoriesOf (wordsIn (stateOf (s .cells) (s .locked) (s .memory))) }) (outcomeOf (unchanged s accepted))

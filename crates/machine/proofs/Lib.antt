@@ -1,4 +1,5 @@
 pub mod Steps
+pub mod Assigns
 pub mod Unreached
 pub mod OneStep
 pub mod Tallies

@@ -23,7 +23,8 @@ use Rattle.state.proofs.Kept.{range, range-full, room, within}
 use Rattle.judging.specs.declared.OnSome.{OnSome}
 use Rattle.judging.specs.declared.Parts.{Parts}
 use Rattle.judging.specs.declared.Turn.{Turn}
-use Rattle.judging.specs.Computed.Turns.{partsAt, turnOf, someOf}
+use Rattle.judging.specs.Computed.Leads.{leadWith, leadAt}
+use Rattle.judging.specs.Computed.Turns.{partsAt, eitherOf, turnOf, someOf}
 use Rattle.judging.proofs.AnyTurn.{at, cellIn, turnIn, any-rule, any-put}
 use Rattle.machine.specs.declared.Answer.{Answer}
 use Rattle.machine.specs.declared.Judged.{Judged}
@@ -72,7 +73,7 @@ module _ (m : Limits) (s : State) (e : Event) (u : UpToFull m) (r : inRange m s 
 -- ---- a turn
 
 -- the variable and the lock of an event
-lock-among : (k : ℕ) → among (K ∷ N ∷ []) k ≡ isLockLetter k
+pub lock-among : (k : ℕ) → among (K ∷ N ∷ []) k ≡ isLockLetter k
 unfolding isLockLetter
 lock-among k = rw (eqb-turn K k, eqb-turn N k, or-false) refl
 
@@ -100,12 +101,16 @@ module _ (s : State) (e : Event) (u : Turnable s e) {k v l : ℕ} {x : ℤ} (ek 
   t = e .thread
 
   module _ {a : Parts} {any : OnSome} {r : Turn} (ea : a ≡ partsAt s t v l) (ey : any ≡ someOf s t (s .counts .variables)) (er : r ≡ turnOf a (s .counts .threads) any t k x (s .events + 1))
+      {m n : ℕ} (em : m ≡ leadWith (s .counts) (a .cell) (s .cells) (s .stores) t v k) (en : n ≡ eitherOf m (r .rule))
       {i rb sb : ℕ} (ei : i ≡ cellPlace t v) (erb : rb ≡ slotPlace i (a .cell .reads) (a .cell .reads .len)) (esb : sb ≡ slotPlace i (a .cell .stores) (a .cell .stores .len)) where
     parts-are : a ≡ partsAt s t (varOf (e .kind)) (lockOf (e .kind))
     parts-are = ea ∙ (λ j. partsAt s t (ev j) (el j))
 
     turn-is : r ≡ turnIn s e
     turn-is = er ∙ (λ j. turnOf (parts-are j) (s .counts .threads) (ey j) t (ek j) (ex j) (s .events + 1))
+
+    rule-is : n ≡ eitherOf (leadAt s t (varOf (e .kind)) (letter (e .kind))) (turnIn s e .rule)
+    rule-is = en ∙ (λ j. eitherOf ((em ∙ (λ l. leadWith (s .counts) (parts-are l .cell) (s .cells) (s .stores) t (ev l) (ek l))) j) (turn-is j .rule))
 
     place-is : i ≡ at s e
     place-is = ei ∙ ap (cellPlace t) ev
@@ -117,7 +122,7 @@ module _ (s : State) (e : Event) (u : Turnable s e) {k v l : ℕ} {x : ℤ} (ek 
     store-end = esb ∙ (λ j. slotPlace (place-is j) (parts-are j .cell .stores) (parts-are j .cell .stores .len))
 
     pub turn-taken : _≡_ {A = Judged} (record {
-      rule = r .rule;
+      rule = n;
       state = record {
         counts = s .counts;
         events = s .events + 1;
@@ -130,7 +135,7 @@ module _ (s : State) (e : Event) (u : Turnable s e) {k v l : ℕ} {x : ℤ} (ek 
       };
     }) (record { rule = judge (s .counts) (wordsIn s) e; state = stepState s e })
     turn-taken = (λ j. record {
-      rule = turn-is j .rule;
+      rule = rule-is j;
       state = record {
         counts = s .counts;
         events = s .events + 1;
@@ -141,4 +146,4 @@ module _ (s : State) (e : Event) (u : Turnable s e) {k v l : ℕ} {x : ℤ} (ek 
         holds = set (s .holds) (el j) (turn-is j .hold);
         memory = set (s .memory) (ev j) (turn-is j .main);
       };
-    }) ∙ (λ j. record { rule = any-rule s e (u .within) (bounds s e u .0) j; state = any-put s e (u .within) (shallow s (u .ranged) (u .room) (lockOf (e .kind)) (u .within .lock)) j })
+    }) ∙ (λ j. record { rule = any-rule s e (u .within) (bounds s e u .0) (bounds s e u .1) j; state = any-put s e (u .within) (shallow s (u .ranged) (u .room) (lockOf (e .kind)) (u .within .lock)) j })

@@ -204,6 +204,9 @@ pub lock-arm : (k : ℕ) → isLockLetter k ≡ true → T (among (K ∷ N ∷ [
 unfolding isLockLetter
 lock-arm k e = let z : among (K ∷ N ∷ []) k ≡ true = rw (eqb-turn K k, eqb-turn N k, or-false) e in subst T (sym z) tt
 
+pub use-arm : (k : ℕ) → k ≡ U → T (among (U ∷ R ∷ L ∷ []) k)
+use-arm k e = subst (λ (m : ℕ). T (among (U ∷ R ∷ L ∷ []) m)) (sym e) tt
+
 pub reads-arm : (k : ℕ) → (eqb k R || eqb k L) ≡ true → T (among (R ∷ L ∷ []) k)
 reads-arm k e = let z : among (R ∷ L ∷ []) k ≡ true = rw (eqb-turn R k, eqb-turn L k, or-false) e in subst T (sym z) tt
 

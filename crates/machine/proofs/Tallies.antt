@@ -13,7 +13,7 @@ use lib.Seq.{getD-set-same, getD-set-other, set-getD}
 use borrow.Author.Tests.{lt-ltb, ltb-true, eqb-true, eqb-false}
 use Rattle.rules.specs.declared.Counts.{Counts}
 use Rattle.rules.specs.declared.Slot.{Slot}
-use Rattle.rules.specs.Events.{L, R, among}
+use Rattle.rules.specs.Events.{L, R, U, among}
 use Rattle.rules.specs.Memories.{from}
 use Rattle.rules.specs.Rules.{some}
 use Rattle.rules.proofs.From.{length-from, from-at, from-all}
@@ -26,7 +26,7 @@ use Rattle.state.proofs.LeafLaws.{place-is}
 use Rattle.state.proofs.Stands.{start-cell}
 use Rattle.judging.specs.declared.OnSome.{OnSome}
 use Rattle.judging.specs.Computed.Turns.{awaitsWrite, someOf}
-use Rattle.judging.proofs.Turned.{reads-tally}
+use Rattle.judging.proofs.Turned.{kept-tally}
 use Rattle.machine.specs.declared.Tally.{Tally}
 use Rattle.machine.specs.Computed.Tallies.{number, noTally, tallyOf, moved, tallyAfter, Small, someIn}
 
@@ -242,10 +242,10 @@ module _ (s s′ : State) (t v : ℕ) {i : ℕ} (d : Cell) (len : length (s .cel
   pub tallied-at : (ts : List Tally) → Tallied s ts → {a : Tally} → a ≡ tallyAfter (getD ts t noTally) (getD (s .cells) i blank) d → Tallied s′ (set ts t a)
   tallied-at ts r {a} e = tallied-set s s′ t v d len ht hv hn same changed-at ts r a (e ∙ ap (λ (j : ℕ). tallyAfter (getD ts t noTally) (getD (s .cells) j blank) d) (place-is t v ht hv ei))
 
-  -- R and L leave what is tallied
-  pub tallied-reads : (k p : ℕ) (r : Slot) (x : ℤ) → T (among (R ∷ L ∷ []) k) → d ≡ nextCell p r k x (cellAt s t v) → (ts : List Tally) → Tallied s ts → Tallied s′ ts
-  tallied-reads k p r x h e ts f =
-      let q = reads-tally k h p r x (cellAt s t v) in
+  -- U, R and L leave what is tallied
+  pub tallied-kept-at : (k p : ℕ) (r : Slot) (x : ℤ) → T (among (U ∷ R ∷ L ∷ []) k) → d ≡ nextCell p r k x (cellAt s t v) → (ts : List Tally) → Tallied s ts → Tallied s′ ts
+  tallied-kept-at k p r x h e ts f =
+      let q = kept-tally k h p r x (cellAt s t v) in
       let c = was-own s s′ t v d len ht hv hn same changed-at in
       tallied-kept s s′ t v d len ht hv hn same changed-at ts f (
         ap (λ (z : Cell). z .pending) e ∙ q .0 ∙ ap (λ (z : Cell). z .pending) c,

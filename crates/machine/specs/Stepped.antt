@@ -16,7 +16,8 @@ use Rattle.machine.specs.declared.Answer.{Answer}
 abbrev pub unchanged : State → Marked → Answer
 unchanged s k = record { verdict = said k; state = s }
 
--- an event that is refused with this number, or accepted where it is 0. For one step the line is the events so far plus 3.
+-- an event that is refused with this number, or accepted where it is 0. The line is that of the event in a paper: the events so far
+-- plus 3, or plus 4 where a variable is volatile.
 abbrev pub stepWith : State → Event → ℕ → Answer
 stepWith s e zero = record { verdict = said accepted; state = stepState s e }
 stepWith s e (suc n) = unchanged s (refused (suc n) (lineAfter (s .counts) (s .events)))

@@ -5,11 +5,12 @@ ghost use mathlib.Core.Bool.{cond};
 ghost use Prim.Native.Nat.{_≤_, _<_};
 ghost use mathlib.Core.List.{[]};
 ghost use lib.ListN.{length};
-ghost use Rattle.rules.specs.Limits.{full, limitsOf};
+ghost use Rattle.rules.specs.Limits.{full, limitsOf, lineAfter};
 ghost use Rattle.rules.specs.Rules.{judge, accepted, refused, said};
 ghost use Rattle.rules.specs.Memories.{memoriesOf, noMemories};
 ghost use Rattle.state.specs.State.{wordsIn};
 ghost use Rattle.state.specs.Step.{stepState};
+ghost use Rattle.judging.specs.Computed.Leads.{orderAt, leadWith};
 ghost use Rattle.judging.specs.Computed.Turns.{partsAt, awaitsWrite};
 ghost use Rattle.records.specs.Records.{rowLines};
 ghost use Rattle.machine.specs.Stepped.{unchanged, stepped};
@@ -25,6 +26,7 @@ use rules::Course;
 use rules::Event;
 use rules::Main;
 use rules::Memories;
+use rules::Slot;
 use rules::Value;
 use rules::Verdict;
 use state::Cell;
@@ -137,6 +139,62 @@ fn no_tally() -> Tally
     }
 }
 
+// ---- What volatile variables ask for.
+
+// 27: whether a volatile variable bars letter k of thread t on volatile variable v.
+fn volatile_order(
+    h: Counts,
+    cells: [Cell; 128],
+    stores: [Slot; 1024],
+    t: usize,
+    v: usize,
+    k: u8,
+) -> bool
+    ensures { λ r. ⌜ r ≡ orderAt h cells stores t v k ⌝ }
+{
+    let at = state::cell_place(t, v);
+    let c = cells[at];
+    let q = c.stores;
+    let place = state::slot_place(at, q, 0);
+    let front = stores[place];
+    let n = h.variables;
+    let mut any = false;
+    let mut u: usize = 0;
+    while u < n {
+        let i = state::cell_place(t, u);
+        let other = cells[i];
+        let o = other.stores;
+        let j = state::slot_place(i, o, 0);
+        let first = stores[j];
+        let bars = judging::bars_event(c, front, other, first, k);
+        any = (rules::is_volatile(h, u) & bars) | any;
+        u += 1;
+    }
+    any
+}
+
+// What letter k of thread t on variable v breaks of the checks that lead its row; c is the cell of both.
+fn lead_of(
+    h: Counts,
+    c: Cell,
+    cells: [Cell; 128],
+    stores: [Slot; 1024],
+    t: usize,
+    v: usize,
+    k: u8,
+) -> u8
+    ensures { λ r. ⌜ r ≡ leadWith h c cells stores t v k ⌝ }
+{
+    if rules::is_volatile(h, v) {
+        if (k == b'U') | (k == b'W') {
+            let order = volatile_order(h, cells, stores, t, v, k);
+            return judging::lead_rule(c, order, k);
+        }
+        return judging::lead_rule(c, false, k);
+    }
+    0
+}
+
 // ---- A row of events.
 
 // A refusal gives number and line and nothing else.
@@ -157,6 +215,14 @@ fn refuse(number: u8, line: usize) -> Outcome
         verdict: refused,
         memories: memories,
     }
+}
+
+// The refusal of the event after n events.
+fn refuse_after(number: u8, h: Counts, n: u32) -> Outcome
+    ensures { λ r. ⌜ r ≡ record { verdict = said (refused number (lineAfter h n)); memories = noMemories } ⌝ }
+{
+    let line = rules::line_after(h, n);
+    refuse(number, line)
 }
 
 // The copies in the cells of a state, where these are the positions of the threads' last locks.
@@ -182,11 +248,10 @@ fn copies_of(cells: [Cell; 128], locked: [usize; 8]) -> [Cached; 128]
     r
 }
 
-// All is accepted: the memories that these parts of a state give.
-fn accept(cells: [Cell; 128], locked: [usize; 8], main: [Main; 16]) -> Outcome
-    ensures { λ r. ⌜ r ≡ record { verdict = said accepted; memories = memoriesOf (wordsIn (stateOf cells locked main)) } ⌝ }
+// All is accepted, with these memories.
+fn accept(main: [Main; 16], copies: [Cached; 128]) -> Outcome
+    ensures { λ r. ⌜ r ≡ record { verdict = said accepted; memories = record { main = main; copies = copies } } ⌝ }
 {
-    let copies = copies_of(cells, locked);
     let memories = Memories {
         main: main,
         copies: copies,
@@ -203,6 +268,8 @@ fn run(start: State, counted: [Tally; 8], what: &[u32], value: &[Value]) -> Outc
     requires { ⌜ Ready start counted ⌝ ∗ ⌜ length (now value) ≡ length (now what) ⌝ }
     ensures { λ r. ⌜ r ≡ outcomeOf (walk full start (rowLines (start .counts) (now (what .entry)) (now (value .entry)))) ⌝ }
 {
+    // The declared counts, copied once: read from the state they would be copied at each event.
+    let declared = start.counts;
     let mut s = start;
     let mut tallies = counted;
     let mut i: usize = 0;
@@ -214,22 +281,21 @@ fn run(start: State, counted: [Tally; 8], what: &[u32], value: &[Value]) -> Outc
         let v = records::place_in(w);
         let h = s.counts;
         let n = s.events;
-        let line = rules::line_after(h, n);
         if !rules::is_letter(k) {
-            return refuse(4, line);
+            return refuse_after(4, declared, n);
         }
         if 2000 <= n {
-            return refuse(9, line);
+            return refuse_after(9, declared, n);
         }
         if h.threads <= t {
-            return refuse(5, line);
+            return refuse_after(5, declared, n);
         }
         let events = n + 1;
         let p = events as usize;
         if rules::is_lock_letter(k) {
             // A lock, and what the variables of the thread have.
             if h.locks <= v {
-                return refuse(5, line);
+                return refuse_after(5, declared, n);
             }
             let tally = tallies[t];
             let any = some_in(tally);
@@ -237,7 +303,7 @@ fn run(start: State, counted: [Tally; 8], what: &[u32], value: &[Value]) -> Outc
             let last = s.locked[t];
             let lock = judging::lock_turn(hold, last, h.threads, any, t, k, p);
             if lock.rule != 0 {
-                return refuse(lock.rule, line);
+                return refuse_after(lock.rule, declared, n);
             }
             let held = lock.hold;
             s.events = events;
@@ -246,19 +312,35 @@ fn run(start: State, counted: [Tally; 8], what: &[u32], value: &[Value]) -> Outc
             i += 1;
         } else {
             if h.variables <= v {
-                return refuse(5, line);
+                return refuse_after(5, declared, n);
+            }
+            if declared.volatiles[v] {
+                // What leads the row.
+                let place = state::cell_place(t, v);
+                let own = s.cells[place];
+                let lead = lead_of(declared, own, s.cells, s.stores, t, v, k);
+                if lead != 0 {
+                    return refuse_after(lead, declared, n);
+                }
             }
             let at = state::cell_place(t, v);
             let c = s.cells[at];
             if k == b'U' {
-                // Nothing changes.
+                // The cell alone, and nothing that is tallied; one that leaves the cell as it is writes nothing.
                 let last = s.locked[t];
                 let rule = judging::use_rule(c, last, x);
                 if rule != 0 {
-                    return refuse(rule, line);
+                    return refuse_after(rule, declared, n);
                 }
-                s.events = events;
-                i += 1;
+                if judging::is_used(c) {
+                    s.events = events;
+                    i += 1;
+                } else {
+                    let cell = judging::used(c);
+                    s.events = events;
+                    s.cells[at] = cell;
+                    i += 1;
+                }
             } else if (k == b'R') | (k == b'L') {
                 // The reads of the cell.
                 let q = c.reads;
@@ -269,7 +351,7 @@ fn run(start: State, counted: [Tally; 8], what: &[u32], value: &[Value]) -> Outc
                 let main = s.memory[v];
                 let read = judging::reads_turn(c, front, behind, main, k, x, p);
                 if read.rule != 0 {
-                    return refuse(read.rule, line);
+                    return refuse_after(read.rule, declared, n);
                 }
                 let cell = read.cell;
                 let slot = read.slot;
@@ -288,7 +370,7 @@ fn run(start: State, counted: [Tally; 8], what: &[u32], value: &[Value]) -> Outc
                 let last = s.locked[t];
                 let store = judging::stores_turn(c, front, behind, main, last, k, x, p);
                 if store.rule != 0 {
-                    return refuse(store.rule, line);
+                    return refuse_after(store.rule, declared, n);
                 }
                 let cell = store.cell;
                 let slot = store.slot;
@@ -306,7 +388,7 @@ fn run(start: State, counted: [Tally; 8], what: &[u32], value: &[Value]) -> Outc
                 let last = s.locked[t];
                 let alone = judging::cell_turn(c, last, k, x, p);
                 if alone.rule != 0 {
-                    return refuse(alone.rule, line);
+                    return refuse_after(alone.rule, declared, n);
                 }
                 let cell = alone.cell;
                 let tally = tallies[t];
@@ -321,7 +403,8 @@ fn run(start: State, counted: [Tally; 8], what: &[u32], value: &[Value]) -> Outc
     let cells = s.cells;
     let locked = s.locked;
     let main = s.memory;
-    accept(cells, locked, main)
+    let copies = copies_of(cells, locked);
+    accept(main, copies)
 }
 
 // Marks two rows of records, with these counts declared.
@@ -417,6 +500,9 @@ fn take_turn(s: State, e: Event) -> Judged
     let any = some_in(tally_of(s, t));
     let turn = judging::any_turn(parts, h.threads, any, t, k, rules::value_of(kind), p);
     let c = parts.cell;
+    let cells = s.cells;
+    let stores = s.stores;
+    let lead = lead_of(h, c, cells, stores, t, v, k);
     let q = c.reads;
     let o = c.stores;
     let at = state::cell_place(t, v);
@@ -436,7 +522,7 @@ fn take_turn(s: State, e: Event) -> Judged
     next.holds[l] = hold;
     next.memory[v] = main;
     Judged {
-        rule: turn.rule,
+        rule: judging::either(lead, turn.rule),
         state: next,
     }
 }

@@ -20,30 +20,33 @@ use Rattle.lines.specs.Lines.{before}
 use Rattle.trace.specs.declared.Trace.{Trace}
 use Rattle.trace.specs.declared.Trailer.{Trailer}
 use Rattle.trace.specs.declared.Trailer.the-variants as trailer
-use Rattle.trace.specs.Trace.{tooLong, trailerOf, unfound, firstHead, firstOf, behindTrailer, traceOf, eventsOf}
-use Rattle.trace.proofs.TraceLaws.{head-allowed}
+use Rattle.trace.specs.Trace.{tooLong, overLimits, trailerOf, unfound, firstHead, firstOf, behindTrailer, plainTraceOf, traceOf, eventsOf, found}
+use Rattle.trace.proofs.TraceLaws.{head-allowed, trace-unfound, trace-same}
 use Rattle.events.specs.Events.{readings, partLines}
 use Rattle.marking.specs.Marking.{linesIn, markedOf, pastOf, readIn}
 use Rattle.marking.specs.Courses.{OverHead, OverEvents, MarkedAlike, ByLimits, head, events, other}
 use Rattle.marking.proofs.Whole.{none-unfound}
 use Rattle.marking.proofs.Refused.{first-bad}
 
-module _ (m : Limits) (u : UpToFull m) (bytes : m .bytes ≡ full .bytes) (width : m .width ≡ full .width) (s : List ℕ) where
+module _ (m : Limits) (u : UpToFull m) (bytes : m .bytes ≡ full .bytes) (width : m .width ≡ full .width) (volatiles : m .volatiles ≡ full .volatiles) (s : List ℕ) where
   -- ---- the head
 
   -- 25 after 3 for the head (line 1)
   head-found : OverHead m s → told (traceOf m s .verdict) ≡ refused (m .excess) 1
-  unfolding traceOf firstOf
-  head-found o = let q : length s ≤ m .bytes = omega (arith, o .few, bytes) in rw (le-ltb _ _ q, o .trailed, o .right, o .over) refl
+  unfolding plainTraceOf firstOf
+  head-found o =
+      let q : length s ≤ m .bytes = omega (arith, o .few, bytes) in
+      let p : plainTraceOf m s ≡ unfound (overLimits m) = rw (le-ltb _ _ q, o .trailed, o .right, o .over) refl in
+      ap found (trace-unfound m s (overLimits m) p)
 
   head-marked : OverHead m s → markedOf m s ≡ refused (m .excess) 1
   unfolding markedOf
   head-marked o = rw (head-found o) refl
 
   -- otherwise the same is found
-  head-or-same : OverHead m s ⊎ (traceOf m s ≡ traceOf full s)
-  unfolding traceOf firstOf
-  head-or-same = by (ltb (full .bytes) (length s)) refl (trailerOf s) refl
+  plain-or-same : OverHead m s ⊎ (plainTraceOf m s ≡ plainTraceOf full s)
+  unfolding plainTraceOf firstOf
+  plain-or-same = by (ltb (full .bytes) (length s)) refl (trailerOf s) refl
     where
       same : (b : Bool) (t : Trailer) → ltb (full .bytes) (length s) ≡ b → trailerOf s ≡ t → cond b (unfound tooLong) (behindTrailer m s t) ≡ cond b (unfound tooLong) (behindTrailer full s t)
           → cond (ltb (m .bytes) (length s)) (unfound tooLong) (behindTrailer m s (trailerOf s)) ≡ cond (ltb (full .bytes) (length s)) (unfound tooLong) (behindTrailer full s (trailerOf s))
@@ -65,6 +68,13 @@ module _ (m : Limits) (u : UpToFull m) (bytes : m .bytes ≡ full .bytes) (width
       by true z t q = inr (same true t z q refl)
       by false z trailer.Wrong q = inr (same false trailer.Wrong z q refl)
       by false z (trailer.At e) q = last e q z (on e q z (firstHead (take e s) .ok) (allowed m (firstHead (take e s) .head)) refl refl)
+
+  head-or-same : OverHead m s ⊎ (traceOf m s ≡ traceOf full s)
+  head-or-same = by plain-or-same
+    where
+      by : OverHead m s ⊎ (plainTraceOf m s ≡ plainTraceOf full s) → OverHead m s ⊎ (traceOf m s ≡ traceOf full s)
+      by (inl o) = inl o
+      by (inr p) = inr (trace-same m full s volatiles p)
 
   -- ---- the events
 

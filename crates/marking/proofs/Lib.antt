@@ -4,4 +4,5 @@ pub mod ReadRows
 pub mod Stays
 pub mod FullWith
 pub mod Narrow
+pub mod Plain
 pub mod Courses

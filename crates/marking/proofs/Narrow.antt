@@ -4,7 +4,7 @@ use Prim.Native.Nat.{ℕ}
 use native.Mathlib.Omega.{arith}
 use mathlib.Core.Path.{_≡_, refl, sym, ap, subst, _∙_}
 use mathlib.Core.List.{List, [], map, reverse, reverse-reverse}
-use mathlib.Core.Bool.{false, false≢true}
+use mathlib.Core.Bool.{true, false, false≢true}
 use mathlib.Core.Logic.{_⊎_, inl, inr}
 use mathlib.Core.Option.{none, some}
 use lib.Dec.{T}
@@ -56,7 +56,7 @@ same-marked s a = record {
 
 pub same-read : (s : List ℕ) → AllWithin (narrow .width) (linesIn full s) → readIn narrow s ≡ readIn full s
 unfolding readIn
-same-read s a = rw (narrow-lines s, all-within (narrow .width) (linesIn full s) a) (read-with (narrow .scratch) (narrow .width) 0 (linesIn full s))
+same-read s a = rw (narrow-lines s, all-within (narrow .width) (linesIn full s) a) (read-with (narrow .scratch) (narrow .width) true 0 (linesIn full s))
 
 -- ---- every paper
 

@@ -108,8 +108,8 @@ module _ (m : Limits) (u : UpToFull m) where
     same = let r = read-few m 0 lines (omega arith) in mark-same full m h [] es (omega (arith, r, u .events)) r
 
     numbered : Numbered h 0 es
-    unfolding linesIn firstLine
-    numbered = lined-numbered h 0 es (read-lined m 0 (firstLine h) (partLines (eventsOf s (traceOf m s))))
+    unfolding linesIn
+    numbered = lined-numbered h 0 es (subst (λ (j : ℕ). Lined j es) (let z : firstLine h ≡ lineAfter h 0 = omega arith in z) (read-lined m 0 (firstLine h) (partLines (eventsOf s (traceOf m s)))))
 
     -- the rows with the records of the events
     row-is : rowMarked full h (map packed es) (map valueIn es) ≡ markFrom m h [] es

@@ -41,6 +41,7 @@ pub fn refuse(number: u8, line: usize) -> Marking
             threads: 0,
             variables: 0,
             locks: 0,
+            volatiles: [false; 16],
         },
         guards: Guards {
             given: false,

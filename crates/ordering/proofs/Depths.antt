@@ -14,12 +14,11 @@ use Rattle.rules.specs.declared.Counts.{Counts}
 use Rattle.rules.specs.Events.{K, N, isLockLetter, unlocks}
 use Rattle.rules.specs.Words.{depth, pending}
 use Rattle.rules.specs.Rules.{some, wordsOf, legal}
-use Rattle.rules.proofs.Laws.{is-true, and-right, legal-known, legal-row, unlock-held}
+use Rattle.rules.proofs.Laws.{is-true, and-right, legal-known, legal-row, unlock-held, some-ext}
 use Rattle.rules.proofs.Letters.{declared-by}
 use Rattle.sections.specs.Places.{holdsSome}
 use Rattle.sections.specs.Refusals.{unfinished}
 use Rattle.ordering.specs.Computed.Parts.{levelAfter, pendingIn, unfinishedIn}
-use Rattle.ordering.proofs.Loops.{some-ext}
 use Rattle.ordering.proofs.Sums.{total, total-some, total-same, total-more, total-zero, total-moved}
 use Rattle.ordering.proofs.Scanned.{Reads, level-kept, level-step, depth-next, depth-own, depth-other, depth-kept, Owed}
 

@@ -1,4 +1,3 @@
-pub mod Loops
 pub mod Sums
 pub mod Gathering
 pub mod Scanned

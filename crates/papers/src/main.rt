@@ -38,6 +38,15 @@ fn main() {
     full(b"H 1 1 1\nG 0\nK 0 0\nZ 18\n");
     // No events.
     full(b"H 1 1 0\nG -\nZ 12\n");
+    // Two volatile variables, guarded: events start at line 4, and the writes follow the assigns, not their stores.
+    full(
+        b"H 2 2 1\nG 0 0\nV 0 1\nK 0 0\nA 0 0 5\nA 0 1 6\nS 0 1 6\nS 0 0 5\nW 0 0 5\nW 0 1 6\nN 0 0\nK 1 0\nR 1 1 6\nR 1 0 5\nL 1 1 6\nU 1 1 6\nL 1 0 5\nU 1 0 5\nN 1 0\nZ 140\n",
+    );
+    // A line of volatile variables that names one twice; a use without its load; a write before that of an earlier assign; an early store.
+    full(b"H 1 1 0\nG -\nV 0 0\nZ 18\n");
+    full(b"H 1 1 0\nG -\nV 0\nU 0 0 0\nZ 24\n");
+    full(b"H 1 2 0\nG -\nV 0 1\nA 0 0 5\nA 0 1 6\nS 0 1 6\nS 0 0 5\nW 0 1 6\nZ 58\n");
+    full(b"H 1 1 0\nG -\nV 0\nP 0 0 5\nZ 24\n");
     // The most that a head of the short course declares.
     short(b"H 2 4 2\nG -\nZ 12\n");
     // Three threads are over its limits, whatever line 2 is; nine are in no head.

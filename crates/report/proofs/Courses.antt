@@ -21,7 +21,7 @@ use Rattle.report.proofs.Same.{same-report}
 module _ (s : List ℕ) where
   -- A paper is refused with 25 for its head, at line 1, or for its 201st event, at its line; or it has the full marker's report.
   pub short-paper : ByLimits short s (SameReport short s)
-  short-paper = by (over-or-alike short (up-to-full Short) refl refl s)
+  short-paper = by (over-or-alike short (up-to-full Short) refl refl refl s)
     where
       by : ByLimits short s (MarkedAlike short s) → ByLimits short s (SameReport short s)
       by (head o q) = head o q
@@ -30,13 +30,13 @@ module _ (s : List ℕ) where
 
   -- 25 is said exactly of these.
   pub short-exact : (line : ℕ) → markedOf short s ≡ refused 25 line ↔ ((OverHead short s × (line ≡ 1)) ⊎ (OverEvents short s × (line ≡ lineAfter (traceOf full s .head) 200)))
-  short-exact line = excess-exact short (up-to-full Short) refl refl s (never-said s) line
+  short-exact line = excess-exact short (up-to-full Short) refl refl refl s (never-said s) line
 
   -- A paper whose head is not over the limits and which has at most 200 event lines has the full marker's report.
   pub short-same : (OverHead short s → ⊥) → length (linesIn full s) ≤ 200 → SameReport short s
-  short-same n few = same-report short s (within-alike short (up-to-full Short) refl refl s n few)
+  short-same n few = same-report short s (within-alike short (up-to-full Short) refl refl refl s n few)
 
   -- A 201st event line that is no event is 4, behind 200 accepted ones.
   pub short-wrong : (OverHead short s → ⊥) → (earlier : List Event) (rest : List (Option Event)) → linesIn full s ≡ map some earlier ++ (none ∷ rest)
       → length earlier ≡ 200 → T (Accepted full (traceOf full s .head) (reverse earlier)) → markedOf short s ≡ refused 4 (lineAfter (traceOf full s .head) 200)
-  short-wrong n earlier rest q c a = wrong-line short (up-to-full Short) refl refl s n earlier rest q c a
+  short-wrong n earlier rest q c a = wrong-line short (up-to-full Short) refl refl refl s n earlier rest q c a

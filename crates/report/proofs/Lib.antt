@@ -5,4 +5,5 @@ pub mod Briefed
 pub mod Theorems
 pub mod Same
 pub mod Narrow
+pub mod Plain
 pub mod Courses

@@ -2,6 +2,7 @@
 -- is asked for.
 use Prim.Native.Nat.{ℕ}
 use mathlib.Core.Path.{_≡_, refl, ap}
+use mathlib.Core.Bool.{true}
 use mathlib.Core.List.{List, reverse}
 use Rattle.rules.specs.declared.Event.{Event}
 use Rattle.rules.specs.Limits.{Limits, full, fullWith, valueWidth}
@@ -52,5 +53,5 @@ module _ (m : Limits) (s : List ℕ) (a : MarkedAlike m s) where
 
 -- Document 02 (k): "Give the same order from scratch of 1,000 numbers." Whatever scratch the limits ask for, 2,000 places as in document 01 or another
 -- number, a paper has the same verdict, order, listing and records, and the rows that are room for its records hold the same too.
-pub scratch-same : (k : ℕ) (s : List ℕ) → SameReport (fullWith k valueWidth) s × (readIn (fullWith k valueWidth) s ≡ readIn full s)
-scratch-same k s = (same-report (fullWith k valueWidth) s (scratch-alike k s), scratch-read k s)
+pub scratch-same : (k : ℕ) (s : List ℕ) → SameReport (fullWith k valueWidth true) s × (readIn (fullWith k valueWidth true) s ≡ readIn full s)
+scratch-same k s = (same-report (fullWith k valueWidth true) s (scratch-alike k s), scratch-read k s)

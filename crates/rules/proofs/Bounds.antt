@@ -2,7 +2,7 @@
 use Prim.Native.Nat.{ℕ, _≤_, _<_}
 use native.Mathlib.Omega.{arith}
 use mathlib.Core.Path.{_≡_, refl}
-use mathlib.Core.Bool.{Bool, true, false, cond, _&&_}
+use mathlib.Core.Bool.{Bool, true, false, not, cond, _&&_}
 use lib.Dec.{ltb, leb}
 use borrow.Author.Tests.{ltb-true, leb-true, le-leb}
 use Rattle.rules.specs.declared.Event.{Event}
@@ -10,7 +10,7 @@ use Rattle.rules.specs.declared.Counts.{Counts}
 use Rattle.rules.specs.declared.Course.{Course}
 use Rattle.rules.specs.declared.Course.the-variants.{Full, Short}
 use Rattle.rules.specs.Events.{place, onLock}
-use Rattle.rules.specs.Limits.{Limits, UpToFull, full, limitsOf, firstLine, allowed, declared}
+use Rattle.rules.specs.Limits.{Limits, UpToFull, full, limitsOf, anyVolatile, strayVolatile, firstLine, allowed, declared}
 
 false-true : false ≡ true → ⊥
 false-true e = let z : _≡_ {A = ℕ} 0 1 = cc in omega arith
@@ -22,33 +22,36 @@ pub record Declares (m : Limits) (h : Counts) : Type 0 where
   pub some-variables : 1 ≤ h .variables
   pub variables : h .variables ≤ m .variables
   pub locks : h .locks ≤ m .locks
+  pub volatiles : not (strayVolatile h) ≡ true
 
 pub declares : (m : Limits) (h : Counts) → allowed m h ≡ true → Declares m h
 unfolding allowed
 declares m h e =
-    by (leb 1 (h .threads)) refl (leb (h .threads) (m .threads)) refl (leb 1 (h .variables)) refl (leb (h .variables) (m .variables)) refl (leb (h .locks) (m .locks)) refl e
+    by (leb 1 (h .threads)) refl (leb (h .threads) (m .threads)) refl (leb 1 (h .variables)) refl (leb (h .variables) (m .variables)) refl (leb (h .locks) (m .locks)) refl (not (strayVolatile h)) refl e
   where
     by : (p : Bool) → leb 1 (h .threads) ≡ p → (q : Bool) → leb (h .threads) (m .threads) ≡ q → (r : Bool) → leb 1 (h .variables) ≡ r → (s : Bool) → leb (h .variables) (m .variables) ≡ s
-        → (t : Bool) → leb (h .locks) (m .locks) ≡ t → p && q && r && s && t ≡ true → Declares m h
-    by true a true b true c true d true f e = record {
+        → (t : Bool) → leb (h .locks) (m .locks) ≡ t → (u : Bool) → not (strayVolatile h) ≡ u → p && q && r && s && t && u ≡ true → Declares m h
+    by true a true b true c true d true f true g e = record {
       some-threads = leb-true 1 (h .threads) a;
       threads = leb-true (h .threads) (m .threads) b;
       some-variables = leb-true 1 (h .variables) c;
       variables = leb-true (h .variables) (m .variables) d;
       locks = leb-true (h .locks) (m .locks) f;
+      volatiles = g;
     }
-    by true a true b true c true d false f e = absurd (false-true e)
-    by true a true b true c false d t f e = absurd (false-true e)
-    by true a true b false c s d t f e = absurd (false-true e)
-    by true a false b r c s d t f e = absurd (false-true e)
-    by false a q b r c s d t f e = absurd (false-true e)
+    by true a true b true c true d true f false g e = absurd (false-true e)
+    by true a true b true c true d false f u g e = absurd (false-true e)
+    by true a true b true c false d t f u g e = absurd (false-true e)
+    by true a true b false c s d t f u g e = absurd (false-true e)
+    by true a false b r c s d t f u g e = absurd (false-true e)
+    by false a q b r c s d t f u g e = absurd (false-true e)
 
 -- what limits allow, wider ones allow
 pub allowed-full : (m : Limits) (h : Counts) → UpToFull m → allowed m h ≡ true → allowed full h ≡ true
 unfolding allowed
 allowed-full m h u e =
     let d = declares m h e in
-    rw (le-leb 1 (h .threads) (d .some-threads), le-leb (h .threads) 8 (omega (arith, d .threads, u .threads)), le-leb 1 (h .variables) (d .some-variables), le-leb (h .variables) 16 (omega (arith, d .variables, u .variables)), le-leb (h .locks) 8 (omega (arith, d .locks, u .locks)))
+    rw (le-leb 1 (h .threads) (d .some-threads), le-leb (h .threads) 8 (omega (arith, d .threads, u .threads)), le-leb 1 (h .variables) (d .some-variables), le-leb (h .variables) 16 (omega (arith, d .variables, u .variables)), le-leb (h .locks) 8 (omega (arith, d .locks, u .locks)), d .volatiles)
 
 pub allowed-bounds : (h : Counts) → allowed full h ≡ true → (h .threads ≤ 8) × (h .variables ≤ 16) × (h .locks ≤ 8)
 allowed-bounds h e = let d = declares full h e in (d .threads, d .variables, d .locks)
@@ -72,8 +75,16 @@ declared-bounds h e a d = by (ltb (e .thread) (h .threads)) refl (onLock e) d
 -- events start behind the head and the guards
 pub first-line-low : (h : Counts) → 3 ≤ firstLine h
 unfolding firstLine
-first-line-low h = omega arith
+first-line-low h = go (anyVolatile h)
+  where
+    go : (b : Bool) → 3 ≤ cond b 4 3
+    go true = omega arith
+    go false = omega arith
 
 pub first-line-high : (h : Counts) → firstLine h ≤ 4
 unfolding firstLine
-first-line-high h = omega arith
+first-line-high h = go (anyVolatile h)
+  where
+    go : (b : Bool) → cond b 4 3 ≤ 4
+    go true = omega arith
+    go false = omega arith

@@ -20,7 +20,7 @@ use Rattle.rules.proofs.Next.{others, next}
 abbrev pub eventBy : ℕ → ℕ → Kind → Event
 eventBy t n k = record { thread = t; line = n; kind = k }
 
--- the words of a thread and variable, but for its copy
+-- the words of a thread and variable, but for its copy and what the volatile rules ask alone
 pub record Cell : Type 0 where
   pub reads : List Slot
   pub stores : List Slot
@@ -28,9 +28,10 @@ pub record Cell : Type 0 where
   pub pending : Bool
   pub announced : ℤ
   pub lastWrite : ℕ
+  pub lastAssign : ℕ
 
 unfoldable pub cellOf : Words → ℕ → ℕ → Cell
-cellOf w t v = record { reads = w .reads t v; stores = w .stores t v; fresh = w .fresh t v; pending = w .pending t v; announced = w .announced t v; lastWrite = w .lastWrite t v }
+cellOf w t v = record { reads = w .reads t v; stores = w .stores t v; fresh = w .fresh t v; pending = w .pending t v; announced = w .announced t v; lastWrite = w .lastWrite t v; lastAssign = w .lastAssign t v }
 
 abbrev pub slotAt : ℕ → ℤ → Slot
 slotAt p x = record { value = x; position = p }
@@ -38,15 +39,15 @@ slotAt p x = record { value = x; position = p }
 -- the cell of the thread and variable of an event of this kind, after it; p is its position
 abbrev pub changed : ℕ → Kind → Cell → Cell
 changed p (Use v x) c = c
-changed p (Assign v x) c = record { reads = c .reads; stores = c .stores; fresh = true; pending = c .pending; announced = c .announced; lastWrite = c .lastWrite }
-changed p (Load v x) c = record { reads = others (c .reads); stores = c .stores; fresh = c .fresh; pending = c .pending; announced = c .announced; lastWrite = c .lastWrite }
-changed p (Store v x) c = record { reads = c .reads; stores = c .stores ++ (slotAt p x ∷ []); fresh = false; pending = c .pending; announced = c .announced; lastWrite = c .lastWrite }
-changed p (Read v x) c = record { reads = c .reads ++ (slotAt p x ∷ []); stores = c .stores; fresh = c .fresh; pending = c .pending; announced = c .announced; lastWrite = c .lastWrite }
-changed p (Write v x) c = record { reads = c .reads; stores = others (c .stores); fresh = c .fresh; pending = c .pending; announced = c .announced; lastWrite = p }
+changed p (Assign v x) c = record { reads = c .reads; stores = c .stores; fresh = true; pending = c .pending; announced = c .announced; lastWrite = c .lastWrite; lastAssign = p }
+changed p (Load v x) c = record { reads = others (c .reads); stores = c .stores; fresh = c .fresh; pending = c .pending; announced = c .announced; lastWrite = c .lastWrite; lastAssign = c .lastAssign }
+changed p (Store v x) c = record { reads = c .reads; stores = c .stores ++ (slotAt (c .lastAssign) x ∷ []); fresh = false; pending = c .pending; announced = c .announced; lastWrite = c .lastWrite; lastAssign = c .lastAssign }
+changed p (Read v x) c = record { reads = c .reads ++ (slotAt p x ∷ []); stores = c .stores; fresh = c .fresh; pending = c .pending; announced = c .announced; lastWrite = c .lastWrite; lastAssign = c .lastAssign }
+changed p (Write v x) c = record { reads = c .reads; stores = others (c .stores); fresh = c .fresh; pending = c .pending; announced = c .announced; lastWrite = p; lastAssign = c .lastAssign }
 changed p (Lock l) c = c
 changed p (Unlock l) c = c
-changed p (PrescientStore v x) c = record { reads = c .reads; stores = c .stores ++ (slotAt p x ∷ []); fresh = c .fresh; pending = true; announced = x; lastWrite = c .lastWrite }
-changed p (PrescientAssign v x) c = record { reads = c .reads; stores = c .stores; fresh = false; pending = false; announced = c .announced; lastWrite = c .lastWrite }
+changed p (PrescientStore v x) c = record { reads = c .reads; stores = c .stores ++ (slotAt p x ∷ []); fresh = c .fresh; pending = true; announced = x; lastWrite = c .lastWrite; lastAssign = c .lastAssign }
+changed p (PrescientAssign v x) c = record { reads = c .reads; stores = c .stores; fresh = false; pending = false; announced = c .announced; lastWrite = c .lastWrite; lastAssign = c .lastAssign }
 
 -- an event changes the cell of its own thread and variable alone
 cell-next : (w : Words) (t n : ℕ) (k : Kind) (u m : ℕ)

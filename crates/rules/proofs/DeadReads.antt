@@ -15,7 +15,7 @@ use Rattle.rules.specs.declared.Event.{Event}
 use Rattle.rules.specs.declared.Slot.{Slot}
 use Rattle.rules.specs.declared.Counts.{Counts}
 use Rattle.rules.specs.Events.{L, letter, place, is, of, on}
-use Rattle.rules.specs.Limits.{declared}
+use Rattle.rules.specs.Limits.{volatile, declared}
 use Rattle.rules.specs.Words.{first, count, by, reads}
 use Rattle.rules.specs.Rules.{Words, wordsOf, none?, loc, deadRead, breaks, rows, rowIn, firstBroken, judge, legalBy, legal}
 use Rattle.rules.specs.DeadReads.{except, judgeBut, Dead}
@@ -72,7 +72,7 @@ barred-change h w t n (Assign v x) p d = record { waits = d .waits; early = omeg
     go (byAssign f o) = byAssign refl o
     go (byWrite q) = byWrite q
 barred-change h w t n (Load v x) p d = absurd (barred-load h w t n v x p d)
-barred-change h w t n (Store v x) p d = record { waits = d .waits; early = omega (arith, d .early); why = byStore (append-some (cellOf w t v .stores) (slotAt (suc (w .events)) x)) }
+barred-change h w t n (Store v x) p d = record { waits = d .waits; early = omega (arith, d .early); why = byStore (append-some (cellOf w t v .stores) (slotAt (cellOf w t v .lastAssign) x)) }
 barred-change h w t n (Read v x) p d = record { waits = append-some (cellOf w t v .reads) s; early = rw first-same (omega (arith, d .early)); why = go (d .why) }
   where
     s : Slot
@@ -314,16 +314,16 @@ refused-dead h es e l k p = record {
     length-some [] q = absurd (false≢true (sym q))
     length-some (s ∷ ss) q = omega arith
 
--- An event that leaves a read dead, of whichever thread and variable, is refused with 23.
-pub dead-refused : (h : Counts) (es : List Event) (e : Event) → T (legal h es) → (t v : ℕ) → Dead h t v (e ∷ es) → judge h (wordsOf es) e ≡ 23
-dead-refused h es e l t v d = go (judge-only 23 h (wordsOf es) e (legal-by-row (judgeBut 23) h e es (d .goes)))
+-- An event that leaves a read dead, of whichever thread and variable that is not volatile, is refused with 23.
+pub dead-refused : (h : Counts) (es : List Event) (e : Event) → T (legal h es) → (t v : ℕ) → volatile h v ≡ false → Dead h t v (e ∷ es) → judge h (wordsOf es) e ≡ 23
+dead-refused h es e l t v c d = go (judge-only 23 h (wordsOf es) e (legal-by-row (judgeBut 23) h e es (d .goes)))
   where
     go : (judge h (wordsOf es) e ≡ 0) ⊎ (judge h (wordsOf es) e ≡ 23) → judge h (wordsOf es) e ≡ 23
     go (inl q) =
-        let m = all-loadable h (e ∷ es) (legal-cons h e es (legal-by-known (judgeBut 23) h e es (d .goes)) q l) t v in
+        let m = all-loadable h (e ∷ es) (legal-cons h e es (legal-by-known (judgeBut 23) h e es (d .goes)) q l) t v c in
         absurd (omega (arith, d .waits, d .never (m .more) (legal-but 23 h (m .more ++ (e ∷ es)) (m .goes)), m .loads))
     go (inr q) = q
 
--- 23 is said exactly of an event that leaves T a read of V which can never be loaded.
-pub dead-exact : (h : Counts) (es : List Event) (e : Event) → T (legal h es) → declared h e ≡ true → judge h (wordsOf es) e ≡ 23 ↔ Dead h (e .thread) (loc e) (e ∷ es)
-dead-exact h es e l d = (refused-dead h es e l d, dead-refused h es e l (e .thread) (loc e))
+-- On a variable that is not volatile 23 is said exactly of an event that leaves T a read of V which can never be loaded.
+pub dead-exact : (h : Counts) (es : List Event) (e : Event) → T (legal h es) → declared h e ≡ true → volatile h (loc e) ≡ false → judge h (wordsOf es) e ≡ 23 ↔ Dead h (e .thread) (loc e) (e ∷ es)
+dead-exact h es e l d c = (refused-dead h es e l d, dead-refused h es e l (e .thread) (loc e) c)

@@ -1,18 +1,21 @@
 -- Laws of the verdict: what an accepted event does not break.
-use Prim.Native.Nat.{ℕ, zero, suc, _≤_, _<_}
+use Prim.Native.Nat.{ℕ, zero, suc, _+_, _≤_, _<_}
 use native.Mathlib.Omega.{arith}
+use native.Mathlib.Numerals.{add-one}
 use native.Mathlib.Nat.{suc-ne-zero, not-suc-le-zero}
 use borrow.Author.Tests.{eqb-true, eqb-false, eq-eqb, leb-false, lt-leb}
-use mathlib.Core.Path.{_≡_, refl, sym, _∙_, subst}
+use mathlib.Core.Path.{_≡_, refl, sym, ap, ap₂, _∙_, subst}
 use mathlib.Core.Bool.{Bool, true, false, not, cond, _&&_, _||_, or-false}
 use mathlib.Core.List.{List, [], _∷_}
 use lib.Dec.{T, eqb, leb, eqb→eq}
 use lib.ListN.{length}
 use Rattle.rules.specs.declared.Event.{Event}
-use Rattle.rules.specs.Events.{K, L, N, P, R, S, W, letter, among, is}
+use Rattle.rules.specs.declared.Kind.{Kind}
+use Rattle.rules.specs.declared.Kind.the-variants.{Use, Assign, Load, Store, Read, Write, Lock, Unlock, PrescientStore, PrescientAssign}
+use Rattle.rules.specs.Events.{A, B, K, L, N, P, R, S, U, W, letter, among, is}
 use Rattle.rules.specs.declared.Counts.{Counts}
 use Rattle.rules.specs.Limits.{Limits, most, declared}
-use Rattle.rules.specs.Rules.{Words, wordsOf, none?, loc, held, some, noPartner, lockTaken, notHeld, eightAlready, breaks, rows, rowIn, firstBroken, judge, answer, verdict, Accepted, legalBy, legal}
+use Rattle.rules.specs.Rules.{Words, wordsOf, none?, loc, held, some, noPartner, lockTaken, notHeld, notFresh, eightAlready, wrongNeighbour, volatileOrder, prescientVolatile, breaks, rows, rowIn, firstBroken, judge, answer, verdict, Accepted, legalBy, legal}
 
 -- ---- Booleans
 
@@ -175,6 +178,32 @@ pub letter-kept : (n : ℕ) (ks : List ℕ) (c : Counts) (w : Words) (e : Event)
 unfolding is
 letter-kept n ks c w e p r h = row-kept n c w e p (each-among (inRow n) ks (letter (e .kind)) r h)
 
+-- what holds of each of the ten letters holds of a kind's letter
+pub at-letter : (f : ℕ → Bool) → T (f U) × T (f A) × T (f L) × T (f S) × T (f R) × T (f W) × T (f K) × T (f N) × T (f P) × T (f B) → (k : Kind) → T (f (letter k))
+at-letter f h (Use v x) = h .0
+at-letter f h (Assign v x) = h .1
+at-letter f h (Load v x) = h .2
+at-letter f h (Store v x) = h .3
+at-letter f h (Read v x) = h .4
+at-letter f h (Write v x) = h .5
+at-letter f h (Lock l) = h .6
+at-letter f h (Unlock l) = h .7
+at-letter f h (PrescientStore v x) = h .8
+at-letter f h (PrescientAssign v x) = h .9
+
+-- an accepted event keeps the volatile rules, which lead each row
+pub neighbour-kept : (c : Counts) (w : Words) (e : Event) → judge c w e ≡ 0 → wrongNeighbour c w e ≡ false
+unfolding breaks rowIn rows
+neighbour-kept c w e p = row-kept 26 c w e p (at-letter (λ k. among (rowIn rows k) 26) (tt, tt, tt, tt, tt, tt, tt, tt, tt, tt) (e .kind))
+
+pub order-kept : (c : Counts) (w : Words) (e : Event) → judge c w e ≡ 0 → volatileOrder c w e ≡ false
+unfolding breaks rowIn rows
+order-kept c w e p = row-kept 27 c w e p (at-letter (λ k. among (rowIn rows k) 27) (tt, tt, tt, tt, tt, tt, tt, tt, tt, tt) (e .kind))
+
+pub prescient-kept : (c : Counts) (w : Words) (e : Event) → judge c w e ≡ 0 → prescientVolatile c e ≡ false
+unfolding breaks rowIn rows
+prescient-kept c w e p = row-kept 28 c w e p (at-letter (λ k. among (rowIn rows k) 28) (tt, tt, tt, tt, tt, tt, tt, tt, tt, tt) (e .kind))
+
 -- an accepted load has an outstanding read
 pub load-partner : (c : Counts) (w : Words) (e : Event) → judge c w e ≡ 0 → T (is (L ∷ []) e) → none? (w .reads (e .thread) (loc e)) ≡ false
 unfolding breaks noPartner is rowIn rows
@@ -207,6 +236,11 @@ store-room c w e p h = simp (← (letter-is S e h), or-false) at (letter-kept 19
 pub prescient-room : (c : Counts) (w : Words) (e : Event) → judge c w e ≡ 0 → T (is (P ∷ []) e) → leb most (length (w .stores (e .thread) (loc e))) ≡ false
 unfolding breaks eightAlready is rowIn rows
 prescient-room c w e p h = simp (← (letter-is P e h), or-false) at (letter-kept 19 (P ∷ []) c w e p tt h)
+
+-- an accepted store has a fresh assign
+pub store-fresh : (c : Counts) (w : Words) (e : Event) → judge c w e ≡ 0 → T (is (S ∷ []) e) → not (w .fresh (e .thread) (loc e)) ≡ false
+unfolding breaks notFresh is rowIn rows
+store-fresh c w e p h = simp (← (letter-is S e h), or-false) at (letter-kept 14 (S ∷ []) c w e p tt h)
 
 -- ---- an accepted list
 
@@ -333,3 +367,21 @@ pub none-some : (n : ℕ) (f : ℕ → Bool) → ((u : ℕ) → u < n → f u �
 unfolding some
 none-some zero f h = refl
 none-some (suc n) f h = rw (h n (omega arith)) (none-some n f (λ u k. h u (omega arith)))
+
+-- f is the same wherever it is asked
+pub some-ext : (n : ℕ) (f g : ℕ → Bool) → ((i : ℕ) → i < n → f i ≡ g i) → some n f ≡ some n g
+unfolding some
+some-ext zero f g h = refl
+some-ext (suc n) f g h = ap₂ (λ a b. a || b) (h n (omega arith)) (some-ext n f g (λ i k. h i (omega arith)))
+
+-- a loop that searches: at its start, one turn later, and at its end
+pub some-start : (f : ℕ → Bool) → false ≡ some 0 f
+unfolding some
+some-start f = refl
+
+pub some-more : (n : ℕ) (f : ℕ → Bool) {b c : Bool} → b ≡ some n f → c ≡ f n → (c || b) ≡ some (n + 1) f
+unfolding some
+some-more n f p q = rw (add-one n, p, q)
+
+pub some-end : (n : ℕ) (f : ℕ → Bool) {i : ℕ} {b : Bool} → i ≤ n → n ≤ i → b ≡ some i f → b ≡ some n f
+some-end n f {i} h k p = p ∙ ap (λ j. some j f) {x = i} {y = n} (omega arith)

@@ -17,5 +17,9 @@ pub mod Live
 pub mod Loads
 pub mod DeadReads
 pub mod PrescientStores
+pub mod Volatile
+pub mod VolatileOrder
+pub mod VolatileExact
+pub mod Plain
 pub mod Widths
 pub mod Courses

@@ -42,9 +42,9 @@ pub placed-others : (a b : ℕ) (ss : List Slot) → Placed a b ss → Placed a 
 placed-others a b [] p = tt
 placed-others a b (s ∷ ss) p = p .2
 
-pub placed-append : (a b : ℕ) (x : ℤ) (ss : List Slot) → a ≤ b → Placed a b ss → Placed a (suc b) (ss ++ (slotAt (suc b) x ∷ []))
-placed-append a b x [] h p = (omega arith, omega arith, tt)
-placed-append a b x (s ∷ ss) h p = (p .0, omega arith, placed-append a b x ss h (p .2))
+pub placed-append : (a b p : ℕ) (x : ℤ) (ss : List Slot) → a ≤ p → p ≤ b → Placed a b ss → Placed a b (ss ++ (slotAt p x ∷ []))
+placed-append a b p x [] h k q = (h, k, tt)
+placed-append a b p x (s ∷ ss) h k q = (q .0, q .1, placed-append a b p x ss h k (q .2))
 
 placed-none : (a b : ℕ) (ss : List Slot) → none? ss ≡ true → Placed a b ss
 placed-none a b [] h = tt
@@ -113,7 +113,7 @@ live-change h w t (Store v x) r l =
 live-change h w t (Read v x) r l = record {
   written = λ q. not-not (none? (w .stores t v)) (λ p. false≢true (sym (r .0 .live) ∙ dead-stored w t v x p));
   stored = λ q f. not-not (w .pending t v) (λ p. false≢true (sym (r .0 .live) ∙ dead-fresh w t v x f p));
-  placed = placed-append (w .lastWrite t v) (w .events) x (w .reads t v) (l .last) (l .placed);
+  placed = placed-append (w .lastWrite t v) (suc (w .events)) (suc (w .events)) x (w .reads t v) (omega (arith, l .last)) (omega arith) (placed-later (w .lastWrite t v) (w .events) (w .reads t v) (l .placed));
   last = omega (arith, l .last);
 }
 live-change h w t (Write v x) r l = live-none (changed (suc (w .events)) (Write v x) (cellOf w t v)) (suc (w .events)) (not-not (none? (w .reads t v)) (λ q. false≢true (sym (r .0) ∙ l .written q))) (omega arith)

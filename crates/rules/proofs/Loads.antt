@@ -15,7 +15,7 @@ use Rattle.rules.specs.declared.Event.{Event}
 use Rattle.rules.specs.declared.Slot.{Slot}
 use Rattle.rules.specs.declared.Counts.{Counts}
 use Rattle.rules.specs.Events.{L, N, letter, place, among, is, of, on, onLock}
-use Rattle.rules.specs.Limits.{Limits, declared}
+use Rattle.rules.specs.Limits.{Limits, volatile, declared}
 use Rattle.rules.specs.Words.{first, count, inOrder, by, reads, pending, announced}
 use Rattle.rules.specs.Rules.{Words, wordsOf, none?, noPartner, pendingBars, notStored, readBeforeWrite, notWritten, breaks, rows, rowIn, firstBroken, judge, answer, verdict, Accepted, legal, FirstBad}
 use Rattle.rules.specs.DeadReads.{loadsOf, Loadable}
@@ -24,7 +24,7 @@ use Rattle.rules.proofs.Signed.{eqZ-refl}
 use Rattle.rules.proofs.Next.{others, next}
 use Rattle.rules.proofs.Simulation.{legal-next}
 use Rattle.rules.proofs.Cells.{eventBy, cellOf, changed, cell-own, cell-cases}
-use Rattle.rules.proofs.Rows.{Kept, allowed-by}
+use Rattle.rules.proofs.Rows.{Led, Kept, allowed-by}
 use Rattle.rules.proofs.Live.{Placed, AllLive, live, others-some}
 
 -- ---- L meets neither 15 nor 16
@@ -185,12 +185,12 @@ loads-row h t v s rs w l q p f =
     let some : none? (w .reads t v) ≡ false = rw q in
     (record { partner = some; notPending = p; stored = f; written = l t v .written some; after = first-after (w .lastWrite t v) (w .events) (w .reads t v) some (l t v .placed) }, rw q (eqZ-refl (s .value)))
 
-module _ (h : Counts) (t v : ℕ) (a : t < h .threads) (b : v < h .variables) where
+module _ (h : Counts) (t v : ℕ) (a : t < h .threads) (b : v < h .variables) (c : volatile h v ≡ false) where
   -- one event more, which its row allows
-  goes-on : (k : Kind) → place k ≡ v → onLock (eventBy t 0 k) ≡ false → (es : List Event) → T (legal h es) → Kept h (wordsOf es) t k
+  goes-on : (k : Kind) → place k ≡ v → onLock (eventBy t 0 k) ≡ false → (es : List Event) → T (legal h es) → Led h k → Kept h (wordsOf es) t k
       → T (legal h (eventBy t 0 k ∷ es)) × (cellOf (wordsOf (eventBy t 0 k ∷ es)) t v ≡ changed (suc (wordsOf es .events)) k (cellOf (wordsOf es) t v))
-  goes-on k s o es l r = (
-    legal-cons h (eventBy t 0 k) es (unfold declared in rw (o, s, lt-ltb t (h .threads) a, lt-ltb v (h .variables) b)) (allowed-by h (wordsOf es) t 0 k r) l,
+  goes-on k s o es l d r = (
+    legal-cons h (eventBy t 0 k) es (unfold declared in rw (o, s, lt-ltb t (h .threads) a, lt-ltb v (h .variables) b)) (allowed-by h (wordsOf es) t 0 k d r) l,
     subst (λ z. cellOf (wordsOf (eventBy t 0 k ∷ es)) t z ≡ changed (suc (wordsOf es .events)) k (cellOf (wordsOf es) t z)) s
         (ap (λ w. cellOf w t (place k)) (legal-next h (eventBy t 0 k) es l) ∙ cell-own (wordsOf es) t 0 k),
   )
@@ -200,7 +200,7 @@ module _ (h : Counts) (t v : ℕ) (a : t < h .threads) (b : v < h .variables) wh
       → Loadable h t v (length rs) es
   loads-all [] es l q p f = record { more = []; goes = l; loads = unfold count in ap length (sym q ∙ reads-cell es t v); few = omega arith }
   loads-all (s ∷ rs) es l q p f =
-      let g = goes-on (Load v (s .value)) refl (unfold onLock is in refl) es l (loads-row h t v s rs (wordsOf es) (live h es l) q p f) in
+      let g = goes-on (Load v (s .value)) refl (unfold onLock is in refl) es l c (loads-row h t v s rs (wordsOf es) (live h es l) q p f) in
       before-it h t v (length rs) (eventBy t 0 (Load v (s .value))) es
       (loads-all rs (eventBy t 0 (Load v (s .value)) ∷ es) (g .0) (ap (λ c. c .reads) (g .1) ∙ ap others q) (ap (λ c. c .pending) (g .1) ∙ p) (ap (λ c. c .fresh) (g .1) ∙ f))
       (omega (arith, one-load t v 0 (s .value), rest (g .1), sum))
@@ -216,18 +216,19 @@ module _ (h : Counts) (t v : ℕ) (a : t < h .threads) (b : v < h .variables) wh
       → Loadable h t v (cond o (suc (length (reads t v es))) (length (reads t v es))) es
   loads-owed es l q true p =
       let k = PrescientAssign v (cellOf (wordsOf es) t v .announced) in
-      let g = goes-on k refl (unfold onLock is in refl) es l (unfold cellOf wordsOf in (p, eqZ-refl (announced t v es))) in
+      let g = goes-on k refl (unfold onLock is in refl) es l c (unfold cellOf wordsOf in (p, eqZ-refl (announced t v es))) in
       before-it h t v (length (reads t v es)) (eventBy t 0 k) es
       (loads-all (reads t v es) (eventBy t 0 k ∷ es) (g .0) (ap (λ c. c .reads) (g .1) ∙ reads-cell es t v) (ap (λ c. c .pending) (g .1)) (ap (λ c. c .fresh) (g .1)))
       (omega (arith, no-load t v 0 (cellOf (wordsOf es) t v .announced), ap length (sym (reads-cell (eventBy t 0 k ∷ es) t v) ∙ ap (λ c. c .reads) (g .1) ∙ reads-cell es t v)))
   loads-owed es l q false p =
-      let c : cellOf (wordsOf es) t v .pending ≡ false = unfold cellOf wordsOf in p in
-      loads-all (reads t v es) es l (reads-cell es t v) c (cases (cellOf (wordsOf es) t v .fresh) (λ f. absurd (false≢true (sym c ∙ live h es l t v .stored q f))) (λ f. f))
+      let n : cellOf (wordsOf es) t v .pending ≡ false = unfold cellOf wordsOf in p in
+      loads-all (reads t v es) es l (reads-cell es t v) n (cases (cellOf (wordsOf es) t v .fresh) (λ f. absurd (false≢true (sym n ∙ live h es l t v .stored q f))) (λ f. f))
 
--- Each outstanding read may yet be loaded: while V is owed, its store is written, and the coming B clears a fresh assign.
-pub all-loadable : (h : Counts) (es : List Event) → T (legal h es) → (t v : ℕ) → Loadable h t v (loadsOf t v es) es
+-- Each outstanding read of a variable that is not volatile may yet be loaded: while V is owed, its store is written, and the coming B clears a fresh assign.
+-- (On a volatile variable a load waits for the use of the one before it, which 27 may refuse for good.)
+pub all-loadable : (h : Counts) (es : List Event) → T (legal h es) → (t v : ℕ) → volatile h v ≡ false → Loadable h t v (loadsOf t v es) es
 unfolding loadsOf
-all-loadable h es l t v = go (none? (reads t v es)) refl
+all-loadable h es l t v c = go (none? (reads t v es)) refl
   where
     length-none : (ss : List Slot) → none? ss ≡ true → 0 ≡ length ss
     length-none [] q = refl
@@ -238,11 +239,11 @@ all-loadable h es l t v = go (none? (reads t v es)) refl
     go false q =
         let some : none? (cellOf (wordsOf es) t v .reads) ≡ false = rw (reads-cell es t v) q in
         let k = known h es l t v some in
-        loads-owed h t v (k .0) (k .1) es l some (pending t v es) refl
+        loads-owed h t v (k .0) (k .1) c es l some (pending t v es) refl
 
 -- and these events are accepted where the limit leaves room for them
-pub accepted-loadable : (m : Limits) (h : Counts) (es : List Event) → 0 < m .excess → T (Accepted m h es) → (t v : ℕ) → length es + loadsOf t v es ≤ m .events
+pub accepted-loadable : (m : Limits) (h : Counts) (es : List Event) → 0 < m .excess → T (Accepted m h es) → (t v : ℕ) → volatile h v ≡ false → length es + loadsOf t v es ≤ m .events
     → (l : Loadable h t v (loadsOf t v es) es) × T (Accepted m h (l .more ++ es))
-accepted-loadable m h es x a t v r =
-    let l = all-loadable h es (accepted-legal m h es x a) t v in
+accepted-loadable m h es x a t v c r =
+    let l = all-loadable h es (accepted-legal m h es x a) t v c in
     (l, legal-accepted m h (l .more ++ es) (l .goes) (rw (length-append (l .more) es) (omega (arith, l .few, r))))

@@ -35,11 +35,15 @@ split : (n m line : ℕ) (r : Marked) → n ≡ m → unless m line r ≡ accept
 split n zero line r q p = (q, p)
 split n (suc m) line r q p = absurd (subst Wrong p tt)
 
-pub walk-accepts : (m : Limits) (c : Counts) (rest es : List Event) → T (Accepted m c es) → markFrom m c es rest ≡ accepted → T (Accepted m c (reverseAux rest es))
+-- an accepted walk: its first event is accepted, and so is the walk behind it
+pub walk-parts : (m : Limits) (c : Counts) (es : List Event) (e : Event) (rest : List Event) → markFrom m c es (e ∷ rest) ≡ accepted → (verdict m c es e ≡ 0) × (markFrom m c (e ∷ es) rest ≡ accepted)
 unfolding markFrom
+walk-parts m c es e rest p = split (verdict m c es e) (verdict m c es e) (lineAfter c (length es)) (markFrom m c (e ∷ es) rest) refl p
+
+pub walk-accepts : (m : Limits) (c : Counts) (rest es : List Event) → T (Accepted m c es) → markFrom m c es rest ≡ accepted → T (Accepted m c (reverseAux rest es))
 walk-accepts m c [] es a p = a
 walk-accepts m c (e ∷ rest) es a p =
-    let q = split (verdict m c es e) (verdict m c es e) (lineAfter c (length es)) (markFrom m c (e ∷ es) rest) refl p in
+    let q = walk-parts m c es e rest p in
     walk-accepts m c rest (e ∷ es) (accepted-cons m c e es (q .0) a) (q .1)
 
 pub left-accepted : (m : Limits) (c : Counts) (rest es : List Event) → T (Accepted m c (reverseAux rest es)) → T (Accepted m c es)

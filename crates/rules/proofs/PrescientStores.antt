@@ -1,6 +1,6 @@
 -- Document 02 (d): which outstanding store has its assign still to come, what N's test is after a legal list, and that no
 -- other verdict changes.
-use Prim.Native.Nat.{ℕ, zero, suc, _<_}
+use Prim.Native.Nat.{ℕ, zero, suc, _≤_, _<_}
 use native.Mathlib.Omega.{arith}
 use mathlib.Core.Path.{_≡_, refl, sym, ap, _∙_, subst}
 use mathlib.Core.Bool.{Bool, true, false, not, cond, _||_, and-true, and-false, false≢true}
@@ -18,8 +18,8 @@ use Rattle.rules.specs.declared.Slot.{Slot}
 use Rattle.rules.specs.declared.Counts.{Counts}
 use Rattle.rules.specs.Events.{N, P, place, value, is, of, on}
 use Rattle.rules.specs.Limits.{Limits, lineAfter, declared}
-use Rattle.rules.specs.Words.{latest, valueIn, letterIn, lastAt, count, inOrder, by, stores, pending, announced}
-use Rattle.rules.specs.Rules.{Words, wordsOf, some, none?, onSome, unwritten, notWritten, breaks, rows, rowIn, firstBroken, judge, answer, verdict, legalBy, legal, Marked, accepted, numberIn, unless, markRead, pastRead}
+use Rattle.rules.specs.Words.{latest, valueIn, letterIn, lastAt, count, inOrder, by, stores, pending, announced, lastAssign}
+use Rattle.rules.specs.Rules.{Words, wordsOf, some, none?, onSome, unwritten, notWritten, wrongNeighbour, useBarred, writeBarred, volatileOrder, prescientVolatile, breaks, rows, rowIn, firstBroken, judge, answer, verdict, legalBy, legal, Marked, accepted, numberIn, unless, markRead, pastRead}
 use Rattle.rules.specs.PrescientStores.{prescientStore, assignPending, someMade, madeUnwritten, judgeStrict, verdictStrict, markStrict, pastStrict}
 use Rattle.rules.proofs.Laws.{cases, or-false-left, letter-is, legal-row, legal-before, legal-by-less, some-none, none-some}
 use Rattle.rules.proofs.Next.{others, next}
@@ -49,10 +49,11 @@ ending-append a n x (s ∷ (r ∷ ss)) p = (omega (arith, p .1), ending-append a
 -- of the words c of a thread and variable after n events, where z is the store of the latest P
 record Prescient (z : Slot) (c : Cell) (n : ℕ) : Type 0 where
   placed : Placed 0 n (c .stores)
+  assigned : c .lastAssign ≤ n
   ending : c .pending ≡ true → Ending z (c .stores)
 
 prescient-later : (z : Slot) (c : Cell) (n : ℕ) → Prescient z c n → Prescient z c (suc n)
-prescient-later z c n e = record { placed = placed-later 0 n (c .stores) (e .placed); ending = e .ending }
+prescient-later z c n e = record { placed = placed-later 0 n (c .stores) (e .placed); assigned = omega (arith, e .assigned); ending = e .ending }
 
 -- the store of the latest P, after an event of kind k at position p
 abbrev latestP : ℕ → Kind → Slot → Slot
@@ -62,18 +63,27 @@ prescient-change : (h : Counts) (w : Words) (t : ℕ) (k : Kind) (z : Slot) → 
     → Prescient (latestP (suc (w .events)) k z) (changed (suc (w .events)) k (cellOf w t (place k))) (suc (w .events))
 unfolding cellOf is
 prescient-change h w t (Use v x) z r e = prescient-later z (cellOf w t v) (w .events) e
-prescient-change h w t (Assign v x) z r e = record { placed = placed-later 0 (w .events) (w .stores t v) (e .placed); ending = e .ending }
-prescient-change h w t (Load v x) z r e = record { placed = placed-later 0 (w .events) (w .stores t v) (e .placed); ending = e .ending }
-prescient-change h w t (Store v x) z r e = record { placed = placed-append 0 (w .events) x (w .stores t v) (omega arith) (e .placed); ending = λ o. absurd (false≢true (sym (r .0 .notPending) ∙ o)) }
-prescient-change h w t (Read v x) z r e = record { placed = placed-later 0 (w .events) (w .stores t v) (e .placed); ending = e .ending }
+prescient-change h w t (Assign v x) z r e = record { placed = placed-later 0 (w .events) (w .stores t v) (e .placed); assigned = omega arith; ending = e .ending }
+prescient-change h w t (Load v x) z r e = record { placed = placed-later 0 (w .events) (w .stores t v) (e .placed); assigned = omega (arith, e .assigned); ending = e .ending }
+prescient-change h w t (Store v x) z r e = record {
+  placed = placed-append 0 (suc (w .events)) (w .lastAssign t v) x (w .stores t v) (omega arith) (omega (arith, e .assigned)) (placed-later 0 (w .events) (w .stores t v) (e .placed));
+  assigned = omega (arith, e .assigned);
+  ending = λ o. absurd (false≢true (sym (r .0 .notPending) ∙ o));
+}
+prescient-change h w t (Read v x) z r e = record { placed = placed-later 0 (w .events) (w .stores t v) (e .placed); assigned = omega (arith, e .assigned); ending = e .ending }
 prescient-change h w t (Write v x) z r e = record {
   placed = placed-others 0 (suc (w .events)) (w .stores t v) (placed-later 0 (w .events) (w .stores t v) (e .placed));
+  assigned = omega (arith, e .assigned);
   ending = λ o. ending-others z (w .stores t v) (e .ending o);
 }
 prescient-change h w t (Lock l) z r e = prescient-later z (cellOf w t l) (w .events) e
 prescient-change h w t (Unlock l) z r e = prescient-later z (cellOf w t l) (w .events) e
-prescient-change h w t (PrescientStore v x) z r e = record { placed = placed-append 0 (w .events) x (w .stores t v) (omega arith) (e .placed); ending = λ o. ending-append 0 (w .events) x (w .stores t v) (e .placed) }
-prescient-change h w t (PrescientAssign v x) z r e = record { placed = placed-later 0 (w .events) (w .stores t v) (e .placed); ending = λ o. absurd (false≢true o) }
+prescient-change h w t (PrescientStore v x) z r e = record {
+  placed = placed-append 0 (suc (w .events)) (suc (w .events)) x (w .stores t v) (omega arith) (omega arith) (placed-later 0 (w .events) (w .stores t v) (e .placed));
+  assigned = omega (arith, e .assigned);
+  ending = λ o. ending-append 0 (w .events) x (w .stores t v) (e .placed);
+}
+prescient-change h w t (PrescientAssign v x) z r e = record { placed = placed-later 0 (w .events) (w .stores t v) (e .placed); assigned = omega (arith, e .assigned); ending = λ o. absurd (false≢true o) }
 
 prescient-next : (h : Counts) (w : Words) (t n : ℕ) (k : Kind) → judge h w (eventBy t n k) ≡ 0 → (u m : ℕ) (z : Slot) → Prescient z (cellOf w u m) (w .events)
     → Prescient (cond (by (P ∷ []) u m (eventBy t n k)) (slotAt (suc (w .events)) (value k)) z) (cellOf (next w (eventBy t n k)) u m) (suc (w .events))
@@ -92,7 +102,7 @@ unfolding by next
 prescient h [] l t v = start
   where
     start : Prescient (prescientStore t v []) (cellOf (wordsOf []) t v) (wordsOf [] .events)
-    start = unfold wordsOf cellOf stores pending inOrder count latest letterIn in record { placed = tt; ending = λ o. tt }
+    start = unfold wordsOf cellOf stores pending lastAssign lastAt inOrder count latest letterIn in record { placed = tt; assigned = omega arith; ending = λ o. tt }
 prescient h (e ∷ es) l t v =
     rw (legal-next h e es (legal-before h e es l), latest-next t v e es, events-next (wordsOf es) e)
     (prescient-next h (wordsOf es) (e .thread) (e .line) (e .kind) (legal-row h e es l) t v (prescientStore t v es) (prescient h es (legal-before h e es l) t v))
@@ -190,7 +200,7 @@ abbrev Relaxed : Counts → Words → Event → Type 0
 Relaxed h w e = (judgeStrict h w e ≡ judge h w e) ⊎ (T (is (N ∷ []) e) × (judgeStrict h w e ≡ 16) × (judge h w e ≡ 0))
 
 relaxed : (h : Counts) (w : Words) (t n : ℕ) (k : Kind) → Relaxed h w (eventBy t n k)
-unfolding judgeStrict judge rows rowIn firstBroken breaks notWritten is
+unfolding judgeStrict judge rows rowIn firstBroken breaks notWritten wrongNeighbour useBarred writeBarred volatileOrder prescientVolatile is
 relaxed h w t n (Use v x) = inl refl
 relaxed h w t n (Assign v x) = inl refl
 relaxed h w t n (Load v x) = inl refl

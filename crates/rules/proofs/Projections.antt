@@ -12,10 +12,11 @@ use borrow.Author.Tests.{eqb-true, lt-ltb, le-ltb}
 use Rattle.rules.specs.declared.Event.{Event}
 use Rattle.rules.specs.declared.Slot.{Slot}
 use Rattle.rules.specs.declared.Counts.{Counts}
-use Rattle.rules.specs.Events.{A, K, L, N, P, R, S, W, letter, value, among, is, of, on, onLock, locks, unlocks, eqZ}
-use Rattle.rules.specs.Words.{latest, valueIn, letterIn, lastAt, count, slot, inOrder, first, by, locksBy, acquires, releases, reads, stores, copy, fresh, pending, announced, lastLock, lastWrite, usable, depth, main}
+use Rattle.rules.specs.Events.{A, K, L, N, P, R, S, U, W, letter, value, among, is, of, on, onLock, locks, unlocks, eqZ}
+use Rattle.rules.specs.Words.{latest, valueIn, letterIn, lastAt, count, slot, storeSlot, inOrder, first, by, accesses, locksBy, acquires, releases, reads, stores, copy, fresh, pending, announced, lastLock, lastWrite, usable, depth, main, afterLoad, afterAssign, loadedRead, usedRead, lastAssign}
+use Rattle.rules.specs.Limits.{volatile}
 use Rattle.rules.specs.Rules
-use Rattle.rules.specs.Rules.{wordsOf, none?, loc, noPartner, lockTaken, notHeld, pendingBars, notFresh, notStored, readBeforeWrite, unwritten, notWritten, notUsable, differs, eightAlready, deadRead, breaks, rows, rowIn, firstBroken, judge}
+use Rattle.rules.specs.Rules.{wordsOf, none?, loc, noPartner, lockTaken, notHeld, pendingBars, notFresh, notStored, readBeforeWrite, unwritten, notWritten, notUsable, differs, eightAlready, deadRead, wrongNeighbour, barsUse, barsWrite, useBarred, writeBarred, volatileOrder, breaks, rows, rowIn, firstBroken, judge}
 use Rattle.rules.specs.Memories.{below, each, memory, copies}
 use Rattle.rules.specs.Projections.{keep, own, ownOn, memoryOn, lockOn}
 use Rattle.rules.proofs.Laws.{and-left, and-right, or-false-left, or-false-right, letter-is}
@@ -80,7 +81,7 @@ module _ (q : Event → Bool) where
 -- ---- positions
 
 -- position a in es is position b in what is kept of es: 0 in both, or that of an event that is kept
-abbrev Match : (Event → Bool) → List Event → ℕ → ℕ → Type 0
+abbrev pub Match : (Event → Bool) → List Event → ℕ → ℕ → Type 0
 Match q [] a b = (a ≡ 0) × (b ≡ 0)
 Match q (e ∷ es) a b = (T (q e) × (a ≡ suc (length es)) × (b ≡ suc (length (keep q es)))) ⊎ Match q es a b
 
@@ -92,7 +93,7 @@ later a b c d h k = lt-ltb a b h ∙ sym (lt-ltb c d k)
 
 module _ (q : Event → Bool) where
   -- no position is above the length
-  within : (es : List Event) (a b : ℕ) → Match q es a b → (a ≤ length es) × (b ≤ length (keep q es))
+  pub within : (es : List Event) (a b : ℕ) → Match q es a b → (a ≤ length es) × (b ≤ length (keep q es))
   unfolding keep
   within [] a b m = (omega arith, omega arith)
   within (e ∷ es) a b (inl m) = (omega arith, go (q e) (m .0))
@@ -155,19 +156,34 @@ module _ (q : Event → Bool) where
   alike-values nil = refl
   alike-values (cons x m a) = λ i. x i ∷ alike-values a i
 
-  in-order-alike : (p : Event → Bool) → Within p q → (es : List Event) → Alike q es (inOrder p es) (inOrder p (keep q es))
+  -- a way to keep an event that gives the same value and a position that matches
+  abbrev Fair : (List Event → Event → Slot) → Type 0
+  Fair f = (e : Event) (es : List Event) → q e ≡ true → (f es e .value ≡ f (keep q es) e .value) × Match q (e ∷ es) (f es e .position) (f (keep q es) e .position)
+
+  slot-fair : Fair slot
+  slot-fair e es h = (refl, inl (passes h, refl, refl))
+
+  store-slot-fair : (t v : ℕ) → Within (by (A ∷ []) t v) q → Fair (storeSlot t v)
+  unfolding lastAssign
+  store-slot-fair t v w e es h = (refl, go (is (S ∷ []) e))
+    where
+      go : (x : Bool) → Match q (e ∷ es) (cond x (lastAssign t v es) (suc (length es))) (cond x (lastAssign t v (keep q es)) (suc (length (keep q es))))
+      go true = inr (last-match q (by (A ∷ []) t v) w es)
+      go false = inl (passes h, refl, refl)
+
+  in-order-alike : (f : List Event → Event → Slot) (p : Event → Bool) → Fair f → Within p q → (es : List Event) → Alike q es (inOrder f p es) (inOrder f p (keep q es))
   unfolding inOrder
-  in-order-alike p w = kept q (λ es fs. Alike q es (inOrder p es) (inOrder p fs)) nil
+  in-order-alike f p fair w = kept q (λ es fs. Alike q es (inOrder f p es) (inOrder f p fs)) nil
       (λ e es h a. rw (fails (p e) (q e) (w e) h, append-nil) (alike-on e a))
       (λ e es h a. alike-append (alike-on e a) (go (p e) e es h))
     where
-      go : (x : Bool) (e : Event) (es : List Event) → q e ≡ true → Alike q (e ∷ es) (cond x (slot es e ∷ []) []) (cond x (slot (keep q es) e ∷ []) [])
-      go true e es h = cons refl (inl (passes h, refl, refl)) nil
+      go : (x : Bool) (e : Event) (es : List Event) → q e ≡ true → Alike q (e ∷ es) (cond x (f es e ∷ []) []) (cond x (f (keep q es) e ∷ []) [])
+      go true e es h = cons (fair e es h .0) (fair e es h .1) nil
       go false e es h = nil
 
   -- the queue of what passes p, with as many taken off as pass o
-  queue-alike : (p o : Event → Bool) → Within p q → Within o q → (es : List Event) → Alike q es (drop (count o es) (inOrder p es)) (drop (count o (keep q es)) (inOrder p (keep q es)))
-  queue-alike p o w u es = rw (← (count-kept q o u es)) (alike-drop (count o es) (in-order-alike p w es))
+  queue-alike : (f : List Event → Event → Slot) (p o : Event → Bool) → Fair f → Within p q → Within o q → (es : List Event) → Alike q es (drop (count o es) (inOrder f p es)) (drop (count o (keep q es)) (inOrder f p (keep q es)))
+  queue-alike f p o fair w u es = rw (← (count-kept q o u es)) (alike-drop (count o es) (in-order-alike f p fair w es))
 
 -- ---- the words
 
@@ -219,9 +235,21 @@ module _ (t v : ℕ) where
   unfolding announced
   announced-on es = ap valueIn (latest-on _ refl es)
 
+  pub after-load-on : (es : List Event) → afterLoad t v es ≡ afterLoad t v (ownOn t v es)
+  unfolding afterLoad
+  after-load-on es = ap (letterIn (L ∷ [])) (latest-on accesses refl es)
+
+  pub after-assign-on : (es : List Event) → afterAssign t v es ≡ afterAssign t v (ownOn t v es)
+  unfolding afterAssign
+  after-assign-on es = ap (letterIn (A ∷ [])) (latest-on accesses refl es)
+
   reads-alike : (q : Event → Bool) → Within (by (R ∷ []) t v) q → Within (by (L ∷ []) t v) q → (es : List Event) → Alike q es (reads t v es) (reads t v (keep q es))
   unfolding reads
-  reads-alike q = queue-alike q (by (R ∷ []) t v) (by (L ∷ []) t v)
+  reads-alike q = queue-alike q slot (by (R ∷ []) t v) (by (L ∷ []) t v) (slot-fair q)
+
+  stores-alike : (q : Event → Bool) → Within (by (A ∷ []) t v) q → Within (by (S ∷ P ∷ []) t v) q → Within (by (W ∷ []) t v) q → (es : List Event) → Alike q es (stores t v es) (stores t v (keep q es))
+  unfolding stores
+  stores-alike q a = queue-alike q (storeSlot t v) (by (S ∷ P ∷ []) t v) (by (W ∷ []) t v) (store-slot-fair q t v a)
 
   reads-on : (es : List Event) → Alike (onVariable t v) es (reads t v es) (reads t v (ownOn t v es))
   unfolding ownOn
@@ -231,8 +259,8 @@ module _ (t v : ℕ) where
   read-values-on es = alike-values (onVariable t v) (reads-on es)
 
   pub store-values-on : (es : List Event) → map (λ s. s .value) (stores t v es) ≡ map (λ s. s .value) (stores t v (ownOn t v es))
-  unfolding stores ownOn
-  store-values-on es = alike-values (onVariable t v) (queue-alike (onVariable t v) (by (S ∷ P ∷ []) t v) (by (W ∷ []) t v) (by-variable _ t v refl) (by-variable _ t v refl) es)
+  unfolding ownOn
+  store-values-on es = alike-values (onVariable t v) (stores-alike (onVariable t v) (by-variable _ t v refl) (by-variable _ t v refl) (by-variable _ t v refl) es)
 
   -- its read came before its write
   pub order-on : (es : List Event) → readBeforeWrite (wordsOf es) t v ≡ readBeforeWrite (wordsOf (ownOn t v es)) t v
@@ -245,6 +273,40 @@ module _ (t v : ℕ) where
     where
       order : (es : List Event) → ltb (lastLock t es) (first (reads t v es) .position) ≡ ltb (lastLock t (keep (of t) es)) (first (reads t v (keep (of t) es)) .position)
       order es = same-order (of t) es _ _ _ _ (last-match (of t) (locksBy t) (λ e. and-right (locks e) (of t e)) es) (alike-first (of t) (reads-alike (of t) (by-own (R ∷ []) t v) (by-own (L ∷ []) t v) es))
+
+  -- the positions that the volatile rules look at, in T's own events
+  pub write-match : (es : List Event) → Match (of t) es (lastWrite t v es) (lastWrite t v (own t es))
+  unfolding lastWrite own
+  write-match = last-match (of t) (by (W ∷ []) t v) (by-own (W ∷ []) t v)
+
+  pub assign-match : (es : List Event) → Match (of t) es (lastAssign t v es) (lastAssign t v (own t es))
+  unfolding lastAssign own
+  assign-match = last-match (of t) (by (A ∷ []) t v) (by-own (A ∷ []) t v)
+
+  pub store-match : (es : List Event) → Match (of t) es (first (stores t v es) .position) (first (stores t v (own t es)) .position)
+  unfolding own
+  store-match es = alike-first (of t) (stores-alike (of t) (by-own (A ∷ []) t v) (by-own (S ∷ P ∷ []) t v) (by-own (W ∷ []) t v) es)
+
+  -- the position f gives where T's event on V with one of these letters comes, and that is kept till the next
+  latched : (ks : List ℕ) (f g : List Event → ℕ) → ((e : Event) (es : List Event) → f (e ∷ es) ≡ cond (by ks t v e) (g es) (f es)) → f [] ≡ 0
+      → ((es : List Event) → Match (of t) es (g es) (g (own t es))) → (es : List Event) → Match (of t) es (f es) (f (own t es))
+  unfolding own
+  latched ks f g step start m = kept (of t) (λ es fs. Match (of t) es (f es) (f fs)) (start, start)
+      (λ e es h k. inr (rw (step e es, fails (by ks t v e) (of t e) (by-own ks t v e) h) k))
+      (λ e es h k. inr (rw (step e es, step e (keep (of t) es)) (go (by ks t v e) es k)))
+    where
+      go : (x : Bool) (es : List Event) → Match (of t) es (f es) (f (keep (of t) es)) → Match (of t) es (cond x (g es) (f es)) (cond x (g (keep (of t) es)) (f (keep (of t) es)))
+      go true es k = m es
+      go false es k = k
+
+  pub loaded-match : (es : List Event) → Match (of t) es (loadedRead t v es) (loadedRead t v (own t es))
+  unfolding loadedRead own
+  loaded-match = latched (L ∷ []) (loadedRead t v) (λ es. first (reads t v es) .position) (λ e es. refl) refl
+      (λ es. alike-first (of t) (reads-alike (of t) (by-own (R ∷ []) t v) (by-own (L ∷ []) t v) es))
+
+  pub used-match : (es : List Event) → Match (of t) es (usedRead t v es) (usedRead t v (own t es))
+  unfolding usedRead
+  used-match = latched (U ∷ []) (usedRead t v) (loadedRead t v) (λ e es. refl) refl loaded-match
 
 module _ (t l : ℕ) where
   depth-kept : (q : Event → Bool) → Within (acquires t l) q → Within (releases t l) q → (es : List Event) → depth t l es ≡ depth t l (keep q es)
@@ -287,7 +349,7 @@ same-values (s ∷ ss) (r ∷ rs) h = (refl, head-eq-of-cons-eq h, ap suc (same-
 through : {A : Type 0} (f : List Event → A) (k : List Event → List Event) → ((es : List Event) → f es ≡ f (k es)) → (es fs : List Event) → k es ≡ k fs → f es ≡ f fs
 through f k law es fs h = law es ∙ ap f h ∙ sym (law fs)
 
-some-same : (n : ℕ) (f g : ℕ → Bool) → ((v : ℕ) → f v ≡ g v) → Rules.some n f ≡ Rules.some n g
+pub some-same : (n : ℕ) (f g : ℕ → Bool) → ((v : ℕ) → f v ≡ g v) → Rules.some n f ≡ Rules.some n g
 some-same n f g h = λ i. Rules.some n (λ v. h v i)
 
 and-same : (b x y : Bool) → (T b → x ≡ y) → (b && x) ≡ (b && y)
@@ -322,6 +384,35 @@ module _ (t : ℕ) (es fs : List Event) (h : own t es ≡ own t fs) where
 
   usable-same : (v : ℕ) → usable t v es ≡ usable t v fs
   usable-same v = through (usable t v) (own t) (usable-own t v) es fs h
+
+  after-load-same : (v : ℕ) → afterLoad t v es ≡ afterLoad t v fs
+  after-load-same v = by-variable-same v (afterLoad t v) (after-load-on t v)
+
+  after-assign-same : (v : ℕ) → afterAssign t v es ≡ afterAssign t v fs
+  after-assign-same v = by-variable-same v (afterAssign t v) (after-assign-on t v)
+
+  -- two positions in T's own events keep their order
+  positions-same : (f g : List Event → ℕ) → ((gs : List Event) → Match (of t) gs (f gs) (f (own t gs))) → ((gs : List Event) → Match (of t) gs (g gs) (g (own t gs))) → ltb (f es) (g es) ≡ ltb (f fs) (g fs)
+  unfolding own
+  positions-same f g m n = through (λ gs. ltb (f gs) (g gs)) (own t) (λ gs. same-order (of t) gs (f gs) (g gs) (f (own t gs)) (g (own t gs)) (m gs) (n gs)) es fs h
+
+  bars-use-same : (v u : ℕ) → barsUse (wordsOf es) t (loadedRead t v es) u ≡ barsUse (wordsOf fs) t (loadedRead t v fs) u
+  unfolding barsUse wordsOf
+  bars-use-same v u = rw (
+    fresh-same u,
+    stores-same u .0,
+    positions-same (lastWrite t u) (loadedRead t v) (write-match t u) (loaded-match t v),
+    positions-same (usedRead t u) (loadedRead t v) (used-match t u) (loaded-match t v),
+  )
+
+  bars-write-same : (v u : ℕ) → barsWrite (wordsOf es) t (first (stores t v es) .position) u ≡ barsWrite (wordsOf fs) t (first (stores t v fs) .position) u
+  unfolding barsWrite wordsOf
+  bars-write-same v u = rw (
+    fresh-same u,
+    stores-same u .0,
+    positions-same (λ gs. first (stores t u gs) .position) (λ gs. first (stores t v gs) .position) (store-match t u) (store-match t v),
+    positions-same (lastAssign t u) (λ gs. first (stores t v gs) .position) (assign-match t u) (store-match t v),
+  )
 
   depth-same : (l : ℕ) → depth t l es ≡ depth t l fs
   depth-same l = through (depth t l) (own t) (depth-own t l) es fs h
@@ -384,10 +475,22 @@ module _ (c : Counts) (e : Event) (es fs : List Event) (o : own (e .thread) es �
   unfolding deadRead wordsOf
   same-23 = rw (reads-same (e .thread) es fs o (loc e) .0, stores-same (e .thread) es fs o (loc e) .0, fresh-same (e .thread) es fs o (loc e), pending-same (e .thread) es fs o (loc e))
 
+  same-26 : wrongNeighbour c (wordsOf es) e ≡ wrongNeighbour c (wordsOf fs) e
+  unfolding wrongNeighbour wordsOf
+  same-26 = rw (after-load-same (e .thread) es fs o (loc e), after-assign-same (e .thread) es fs o (loc e))
+
+  same-27 : volatileOrder c (wordsOf es) e ≡ volatileOrder c (wordsOf fs) e
+  unfolding volatileOrder useBarred writeBarred wordsOf
+  same-27 = rw (
+    some-same (c .variables) _ _ (λ u. ap (λ b. volatile c u && b) (bars-use-same (e .thread) es fs o (loc e) u)),
+    some-same (c .variables) _ _ (λ u. ap (λ b. volatile c u && b) (bars-write-same (e .thread) es fs o (loc e) u)),
+    stores-same (e .thread) es fs o (loc e) .0,
+  )
+
   same-broken : (ns : List ℕ) → firstBroken ns c (wordsOf es) e ≡ firstBroken ns c (wordsOf fs) e
   unfolding firstBroken breaks
   same-broken [] = refl
-  same-broken (n ∷ ns) = rw (same-10, same-11, same-12, same-13, same-14, same-15, same-16, same-17, same-18, same-19, same-23, same-broken ns)
+  same-broken (n ∷ ns) = rw (same-10, same-11, same-12, same-13, same-14, same-15, same-16, same-17, same-18, same-19, same-23, same-26, same-27, same-broken ns)
 
   pub judge-by-needed-lists : judge c (wordsOf es) e ≡ judge c (wordsOf fs) e
   unfolding judge

@@ -1,7 +1,8 @@
 -- What the row of each kind asks, in one statement for each kind: an event breaks no rule of its row exactly where it holds.
 use Prim.Native.Nat.{ℕ}
-use mathlib.Core.Path.{_≡_}
+use mathlib.Core.Path.{_≡_, refl}
 use mathlib.Core.Bool.{true, false, not, _&&_, or-false}
+use mathlib.Core.List.{List, [], _∷_}
 use lib.Dec.{eqb, ltb, leb}
 use lib.IntN.{ℤ}
 use lib.ListN.{length}
@@ -10,10 +11,10 @@ use Rattle.rules.specs.declared.Kind.{Kind}
 use Rattle.rules.specs.declared.Kind.the-variants.{Use, Assign, Load, Store, Read, Write, Lock, Unlock, PrescientStore, PrescientAssign}
 use Rattle.rules.specs.declared.Counts.{Counts}
 use Rattle.rules.specs.Events.{is, eqZ}
-use Rattle.rules.specs.Limits.{most}
+use Rattle.rules.specs.Limits.{most, volatile}
 use Rattle.rules.specs.Words.{first}
-use Rattle.rules.specs.Rules.{Words, some, none?, held, noPartner, lockTaken, notHeld, pendingBars, notFresh, notStored, readBeforeWrite, unwritten, notWritten, notUsable, differs, eightAlready, deadRead, breaks, rows, rowIn, judge}
-use Rattle.rules.proofs.Laws.{row-kept, accepts, or-false-left, or-false-right}
+use Rattle.rules.specs.Rules.{Words, some, none?, held, noPartner, lockTaken, notHeld, pendingBars, notFresh, notStored, readBeforeWrite, unwritten, notWritten, notUsable, differs, eightAlready, deadRead, wrongNeighbour, useBarred, writeBarred, volatileOrder, prescientVolatile, breaks, rows, rowIn, firstBroken, judge}
+use Rattle.rules.proofs.Laws.{Unbroken, row-kept, accepts, or-false-left, or-false-right}
 use Rattle.rules.proofs.Cells.{eventBy}
 
 -- L: a read is outstanding, V is not owed, nothing is fresh or to be written, and the read came after the last write
@@ -103,17 +104,42 @@ row-of h w t n (Unlock l) p = record { held = not-false _ (row-kept 12 h w (even
 row-of h w t n (PrescientStore v x) p = record { notPending = row-kept 13 h w (eventBy t n (PrescientStore v x)) p tt; room = row-kept 19 h w (eventBy t n (PrescientStore v x)) p tt; live = row-kept 23 h w (eventBy t n (PrescientStore v x)) p tt }
 row-of h w t n (PrescientAssign v x) p = (not-false _ (row-kept 10 h w (eventBy t n (PrescientAssign v x)) p tt), not-false _ (row-kept 18 h w (eventBy t n (PrescientAssign v x)) p tt))
 
+-- V is not volatile, where the event is on a variable: the rules that lead the rows then ask nothing
+abbrev pub Led : Counts → Kind → Type 0
+Led h (Use v x) = volatile h v ≡ false
+Led h (Assign v x) = volatile h v ≡ false
+Led h (Load v x) = volatile h v ≡ false
+Led h (Store v x) = volatile h v ≡ false
+Led h (Read v x) = volatile h v ≡ false
+Led h (Write v x) = volatile h v ≡ false
+Led h (Lock l) = Unit {0}
+Led h (Unlock l) = Unit {0}
+Led h (PrescientStore v x) = volatile h v ≡ false
+Led h (PrescientAssign v x) = volatile h v ≡ false
+
+pub led : (h : Counts) (w : Words) (t n : ℕ) (k : Kind) → Led h k → (ns : List ℕ) → Unbroken ns h w (eventBy t n k) → firstBroken (26 ∷ 27 ∷ 28 ∷ ns) h w (eventBy t n k) ≡ 0
+unfolding breaks wrongNeighbour volatileOrder useBarred writeBarred prescientVolatile is
+led h w t n (Use v x) q ns u = accepts (26 ∷ 27 ∷ 28 ∷ ns) h w _ (rw q, (rw q, (refl, u)))
+led h w t n (Assign v x) q ns u = accepts (26 ∷ 27 ∷ 28 ∷ ns) h w _ (rw q, (refl, (refl, u)))
+led h w t n (Load v x) q ns u = accepts (26 ∷ 27 ∷ 28 ∷ ns) h w _ (rw q, (refl, (refl, u)))
+led h w t n (Store v x) q ns u = accepts (26 ∷ 27 ∷ 28 ∷ ns) h w _ (rw q, (refl, (refl, u)))
+led h w t n (Read v x) q ns u = accepts (26 ∷ 27 ∷ 28 ∷ ns) h w _ (refl, (refl, (refl, u)))
+led h w t n (Write v x) q ns u = accepts (26 ∷ 27 ∷ 28 ∷ ns) h w _ (refl, (rw q, (refl, u)))
+led h w t n (Lock l) q ns u = accepts (26 ∷ 27 ∷ 28 ∷ ns) h w _ (refl, (refl, (refl, u)))
+led h w t n (Unlock l) q ns u = accepts (26 ∷ 27 ∷ 28 ∷ ns) h w _ (refl, (refl, (refl, u)))
+led h w t n (PrescientStore v x) q ns u = accepts (26 ∷ 27 ∷ 28 ∷ ns) h w _ (rw q, (refl, (q, u)))
+led h w t n (PrescientAssign v x) q ns u = accepts (26 ∷ 27 ∷ 28 ∷ ns) h w _ (rw q, (refl, (q, u)))
+
 -- and what has it breaks none
-pub allowed-by : (h : Counts) (w : Words) (t n : ℕ) (k : Kind) → Kept h w t k → judge h w (eventBy t n k) ≡ 0
+pub allowed-by : (h : Counts) (w : Words) (t n : ℕ) (k : Kind) → Led h k → Kept h w t k → judge h w (eventBy t n k) ≡ 0
 unfolding judge rowIn rows breaks noPartner lockTaken notHeld pendingBars notFresh notStored readBeforeWrite notWritten notUsable differs eightAlready deadRead is
-allowed-by h w t n (Use v x) r = accepts _ h w _ (rw (r .0), (rw (r .1), tt))
-allowed-by h w t n (Assign v x) r = accepts _ h w _ (r, tt)
-allowed-by h w t n (Load v x) r =
-    accepts _ h w _ (rw (r .0 .partner), (r .0 .notPending, (rw (r .0 .stored), (rw (r .0 .written, r .0 .after), (rw (r .1), tt)))))
-allowed-by h w t n (Store v x) r = accepts _ h w _ (r .0 .notPending, (rw (r .0 .fresh), (rw (r .0 .usable), (rw (r .1), (r .0 .room, tt)))))
-allowed-by h w t n (Read v x) r = accepts _ h w _ (rw (r .1), (rw (r .0 .room), (r .0 .live, tt)))
-allowed-by h w t n (Write v x) r = accepts _ h w _ (rw (r .0), (rw (r .1), tt))
-allowed-by h w t n (Lock l) r = accepts _ h w _ (r .free, (rw (r .notPending), tt))
-allowed-by h w t n (Unlock l) r = accepts _ h w _ (rw (r .held), (r .stored, (r .written, tt)))
-allowed-by h w t n (PrescientStore v x) r = accepts _ h w _ (r .notPending, (r .room, (r .live, tt)))
-allowed-by h w t n (PrescientAssign v x) r = accepts _ h w _ (rw (r .0), (rw (r .1), tt))
+allowed-by h w t n (Use v x) q r = led h w t n (Use v x) q (17 ∷ 18 ∷ []) (rw (r .0), (rw (r .1), tt))
+allowed-by h w t n (Assign v x) q r = led h w t n (Assign v x) q (23 ∷ []) (r, tt)
+allowed-by h w t n (Load v x) q r = led h w t n (Load v x) q (10 ∷ 13 ∷ 15 ∷ 16 ∷ 18 ∷ []) (rw (r .0 .partner), (r .0 .notPending, (rw (r .0 .stored), (rw (r .0 .written, r .0 .after), (rw (r .1), tt)))))
+allowed-by h w t n (Store v x) q r = led h w t n (Store v x) q (13 ∷ 14 ∷ 17 ∷ 18 ∷ 19 ∷ []) (r .0 .notPending, (rw (r .0 .fresh), (rw (r .0 .usable), (rw (r .1), (r .0 .room, tt)))))
+allowed-by h w t n (Read v x) q r = led h w t n (Read v x) q (18 ∷ 19 ∷ 23 ∷ []) (rw (r .1), (rw (r .0 .room), (r .0 .live, tt)))
+allowed-by h w t n (Write v x) q r = led h w t n (Write v x) q (10 ∷ 18 ∷ []) (rw (r .0), (rw (r .1), tt))
+allowed-by h w t n (Lock l) q r = led h w t n (Lock l) q (11 ∷ 13 ∷ []) (r .free, (rw (r .notPending), tt))
+allowed-by h w t n (Unlock l) q r = led h w t n (Unlock l) q (12 ∷ 15 ∷ 16 ∷ []) (rw (r .held), (r .stored, (r .written, tt)))
+allowed-by h w t n (PrescientStore v x) q r = led h w t n (PrescientStore v x) q (13 ∷ 19 ∷ 23 ∷ []) (r .notPending, (r .room, (r .live, tt)))
+allowed-by h w t n (PrescientAssign v x) q r = led h w t n (PrescientAssign v x) q (10 ∷ 18 ∷ []) (rw (r .0), (rw (r .1), tt))

@@ -9,15 +9,13 @@ use lib.Dec.{T, eqb→eq}
 use lib.ListN.{length, drop, length-append}
 use lib.Seq.{drop-append-le}
 use Rattle.rules.specs.declared.Event.{Event}
-use Rattle.rules.specs.declared.Kind.{Kind}
-use Rattle.rules.specs.declared.Kind.the-variants.{Use, Assign, Load, Store, Read, Write, Lock, Unlock, PrescientStore, PrescientAssign}
-use Rattle.rules.specs.Events.{A, B, K, L, N, P, R, S, U, W, letter, value, among, is, of, on}
+use Rattle.rules.specs.Events.{A, B, L, P, R, S, W, value, among, is, of, on}
 use Rattle.rules.specs.declared.Slot.{Slot}
 use Rattle.rules.specs.declared.Counts.{Counts}
 use Rattle.rules.specs.Limits.{Limits}
-use Rattle.rules.specs.Words.{latest, valueIn, letterIn, lastAt, count, slot, inOrder, by, reads, stores, copy, fresh, pending, announced, lastLock, lastWrite, usable, depth, main}
+use Rattle.rules.specs.Words.{latest, valueIn, letterIn, lastAt, count, slot, storeSlot, inOrder, by, accesses, reads, stores, copy, fresh, pending, announced, lastLock, lastWrite, usable, depth, main, afterLoad, afterAssign, loadedRead, usedRead, lastAssign}
 use Rattle.rules.specs.Rules.{Words, wordsOf, none?, loc, judge, Accepted, legal}
-use Rattle.rules.proofs.Laws.{and-left, and-right, accepted-legal, legal-row, legal-before, load-partner, write-partner}
+use Rattle.rules.proofs.Laws.{and-left, and-right, accepted-legal, legal-row, legal-before, load-partner, write-partner, at-letter}
 use Rattle.rules.proofs.Next.{others, next}
 
 -- ---- laws of what the words are made of, at a longer list
@@ -26,11 +24,11 @@ push : {A B : Type 0} (f : A → B) (b : Bool) (x y : A) → f (cond b x y) ≡ 
 push f true x y = refl
 push f false x y = refl
 
-value-latest : (p : Event → Bool) (e : Event) (es : List Event) → valueIn (latest p (e ∷ es)) ≡ cond (p e) (value (e .kind)) (valueIn (latest p es))
+pub value-latest : (p : Event → Bool) (e : Event) (es : List Event) → valueIn (latest p (e ∷ es)) ≡ cond (p e) (value (e .kind)) (valueIn (latest p es))
 unfolding latest valueIn
 value-latest p e es = push valueIn (p e) (some e) (latest p es)
 
-letter-latest : (ks : List ℕ) (p : Event → Bool) (e : Event) (es : List Event) → letterIn ks (latest p (e ∷ es)) ≡ cond (p e) (is ks e) (letterIn ks (latest p es))
+pub letter-latest : (ks : List ℕ) (p : Event → Bool) (e : Event) (es : List Event) → letterIn ks (latest p (e ∷ es)) ≡ cond (p e) (is ks e) (letterIn ks (latest p es))
 unfolding latest letterIn
 letter-latest ks p e es = push (letterIn ks) (p e) (some e) (latest p es)
 
@@ -42,46 +40,33 @@ drop-others zero (s ∷ ss) = refl
 drop-others (suc n) [] = refl
 drop-others (suc n) (s ∷ ss) = drop-others n ss
 
--- the queue of what passes p, with as many taken off as pass q: no event passes both
-queue : (p q : Event → Bool) (e : Event) (es : List Event) → (T (p e) → T (q e) → ⊥) → count q es ≤ length (inOrder p es)
-    → drop (count q (e ∷ es)) (inOrder p (e ∷ es))
-    ≡ cond (p e) (drop (count q es) (inOrder p es) ++ (slot es e ∷ [])) (cond (q e) (others (drop (count q es) (inOrder p es))) (drop (count q es) (inOrder p es)))
+-- the queue of what passes p, each kept as f says, with as many taken off as pass q: no event passes both
+pub queue : (f : List Event → Event → Slot) (p q : Event → Bool) (e : Event) (es : List Event) → (T (p e) → T (q e) → ⊥) → count q es ≤ length (inOrder f p es)
+    → drop (count q (e ∷ es)) (inOrder f p (e ∷ es))
+    ≡ cond (p e) (drop (count q es) (inOrder f p es) ++ (f es e ∷ [])) (cond (q e) (others (drop (count q es) (inOrder f p es))) (drop (count q es) (inOrder f p es)))
 unfolding count inOrder
-queue p q e es ne h = go (p e) (q e) ne
+queue f p q e es ne h = go (p e) (q e) ne
   where
     go : (b c : Bool) → (T b → T c → ⊥)
-        → drop (cond c (suc (count q es)) (count q es)) (inOrder p es ++ cond b (slot es e ∷ []) [])
-        ≡ cond b (drop (count q es) (inOrder p es) ++ (slot es e ∷ [])) (cond c (others (drop (count q es) (inOrder p es))) (drop (count q es) (inOrder p es)))
+        → drop (cond c (suc (count q es)) (count q es)) (inOrder f p es ++ cond b (f es e ∷ []) [])
+        ≡ cond b (drop (count q es) (inOrder f p es) ++ (f es e ∷ [])) (cond c (others (drop (count q es) (inOrder f p es))) (drop (count q es) (inOrder f p es)))
     go true true n = absurd (n tt tt)
-    go true false n = drop-append-le (count q es) (inOrder p es) (slot es e ∷ []) h
-    go false true n = rw append-nil (drop-others (count q es) (inOrder p es))
+    go true false n = drop-append-le (count q es) (inOrder f p es) (f es e ∷ []) h
+    go false true n = rw append-nil (drop-others (count q es) (inOrder f p es))
     go false false n = rw append-nil
 
 -- ---- no event has two letters
-
--- what holds of each of the ten letters holds of a kind's letter
-at-letter : (f : ℕ → Bool) → T (f U) × T (f A) × T (f L) × T (f S) × T (f R) × T (f W) × T (f K) × T (f N) × T (f P) × T (f B) → (k : Kind) → T (f (letter k))
-at-letter f h (Use v x) = h .0
-at-letter f h (Assign v x) = h .1
-at-letter f h (Load v x) = h .2
-at-letter f h (Store v x) = h .3
-at-letter f h (Read v x) = h .4
-at-letter f h (Write v x) = h .5
-at-letter f h (Lock l) = h .6
-at-letter f h (Unlock l) = h .7
-at-letter f h (PrescientStore v x) = h .8
-at-letter f h (PrescientAssign v x) = h .9
 
 contrary : (b c d : Bool) → T (not (b && c)) → T (b && d) → T (c && d) → ⊥
 contrary true true d h x y = h
 contrary true false d h x y = y
 contrary false c d h x y = x
 
-read-load : (t v : ℕ) (e : Event) → T (by (R ∷ []) t v e) → T (by (L ∷ []) t v e) → ⊥
+pub read-load : (t v : ℕ) (e : Event) → T (by (R ∷ []) t v e) → T (by (L ∷ []) t v e) → ⊥
 unfolding by is
 read-load t v e = contrary (is (R ∷ []) e) (is (L ∷ []) e) (of t e && on v e) (at-letter (λ n. not (among (R ∷ []) n && among (L ∷ []) n)) (tt, tt, tt, tt, tt, tt, tt, tt, tt, tt) (e .kind))
 
-store-write : (t v : ℕ) (e : Event) → T (by (S ∷ P ∷ []) t v e) → T (by (W ∷ []) t v e) → ⊥
+pub store-write : (t v : ℕ) (e : Event) → T (by (S ∷ P ∷ []) t v e) → T (by (W ∷ []) t v e) → ⊥
 unfolding by is
 store-write t v e = contrary (is (S ∷ P ∷ []) e) (is (W ∷ []) e) (of t e && on v e) (at-letter (λ n. not (among (S ∷ P ∷ []) n && among (W ∷ []) n)) (tt, tt, tt, tt, tt, tt, tt, tt, tt, tt) (e .kind))
 
@@ -89,11 +74,11 @@ store-write t v e = contrary (is (S ∷ P ∷ []) e) (is (W ∷ []) e) (of t e &
 
 -- what rule 10 keeps: no more loads than reads, writes than stores
 pub record Paired (es : List Event) : Type 0 where
-  pub loads : (t v : ℕ) → count (by (L ∷ []) t v) es ≤ length (inOrder (by (R ∷ []) t v) es)
-  pub writes : (t v : ℕ) → count (by (W ∷ []) t v) es ≤ length (inOrder (by (S ∷ P ∷ []) t v) es)
+  pub loads : (t v : ℕ) → count (by (L ∷ []) t v) es ≤ length (inOrder slot (by (R ∷ []) t v) es)
+  pub writes : (t v : ℕ) → count (by (W ∷ []) t v) es ≤ length (inOrder (storeSlot t v) (by (S ∷ P ∷ []) t v) es)
 
 pub words-next : (e : Event) (es : List Event) → Paired es → wordsOf (e ∷ es) ≡ next (wordsOf es) e
-unfolding wordsOf next reads stores copy fresh pending announced lastLock lastWrite usable depth main lastAt
+unfolding wordsOf next reads stores copy fresh pending announced lastLock lastWrite usable depth main afterLoad afterAssign loadedRead usedRead lastAssign lastAt
 words-next e es h = λ i. record {
   events = suc (length es);
   copy = λ t v. value-latest (by (A ∷ B ∷ L ∷ []) t v) e es i;
@@ -101,28 +86,33 @@ words-next e es h = λ i. record {
   pending = λ t v. letter-latest (P ∷ []) (by (P ∷ B ∷ []) t v) e es i;
   announced = λ t v. value-latest (by (P ∷ []) t v) e es i;
   usable = λ t v. next (wordsOf es) e .usable t v;
-  reads = λ t v. queue (by (R ∷ []) t v) (by (L ∷ []) t v) e es (read-load t v e) (h .loads t v) i;
-  stores = λ t v. queue (by (S ∷ P ∷ []) t v) (by (W ∷ []) t v) e es (store-write t v e) (h .writes t v) i;
+  reads = λ t v. queue slot (by (R ∷ []) t v) (by (L ∷ []) t v) e es (read-load t v e) (h .loads t v) i;
+  stores = λ t v. queue (storeSlot t v) (by (S ∷ P ∷ []) t v) (by (W ∷ []) t v) e es (store-write t v e) (h .writes t v) i;
   lastWrite = λ t v. next (wordsOf es) e .lastWrite t v;
   lastLock = λ t. next (wordsOf es) e .lastLock t;
   depth = λ t l. next (wordsOf es) e .depth t l;
   main = λ v. value-latest (λ x. is (W ∷ []) x && on v x) e es i;
+  afterLoad = λ t v. letter-latest (L ∷ []) (by accesses t v) e es i;
+  afterAssign = λ t v. letter-latest (A ∷ []) (by accesses t v) e es i;
+  loadedRead = λ t v. next (wordsOf es) e .loadedRead t v;
+  usedRead = λ t v. next (wordsOf es) e .usedRead t v;
+  lastAssign = λ t v. next (wordsOf es) e .lastAssign t v;
 }
 
 -- ---- an accepted list is paired
 
-left : (n : ℕ) (ss : List Slot) → none? (drop n ss) ≡ false → n < length ss
+pub left : (n : ℕ) (ss : List Slot) → none? (drop n ss) ≡ false → n < length ss
 left zero [] h = absurd (subst T h tt)
 left zero (s ∷ ss) h = suc-le-suc zero-le
 left (suc n) [] h = absurd (subst T h tt)
 left (suc n) (s ∷ ss) h = suc-le-suc (left n ss h)
 
 -- one more event: what passes q has a partner
-grow : (p q : Event → Bool) (e : Event) (es : List Event) → (T (q e) → count q es < length (inOrder p es)) → count q es ≤ length (inOrder p es) → count q (e ∷ es) ≤ length (inOrder p (e ∷ es))
+grow : (f : List Event → Event → Slot) (p q : Event → Bool) (e : Event) (es : List Event) → (T (q e) → count q es < length (inOrder f p es)) → count q es ≤ length (inOrder f p es) → count q (e ∷ es) ≤ length (inOrder f p (e ∷ es))
 unfolding count inOrder
-grow p q e es f h = rw length-append (go (q e) (length (cond (p e) (slot es e ∷ []) [])) f)
+grow f p q e es g h = rw length-append (go (q e) (length (cond (p e) (f es e ∷ []) [])) g)
   where
-    go : (c : Bool) (k : ℕ) → (T c → count q es < length (inOrder p es)) → cond c (suc (count q es)) (count q es) ≤ length (inOrder p es) + k
+    go : (c : Bool) (k : ℕ) → (T c → count q es < length (inOrder f p es)) → cond c (suc (count q es)) (count q es) ≤ length (inOrder f p es) + k
     go true k g = let x = g tt in omega arith
     go false k g = omega arith
 
@@ -150,9 +140,9 @@ partnered c w e p = record { loads = load-partner c w e p; writes = write-partne
 pub paired-next : (e : Event) (es : List Event) → Partnered (wordsOf es) e → Paired es → Paired (e ∷ es)
 unfolding wordsOf reads stores
 paired-next e es p h = record {
-  loads = λ t v. grow (by (R ∷ []) t v) (by (L ∷ []) t v) e es
+  loads = λ t v. grow slot (by (R ∷ []) t v) (by (L ∷ []) t v) e es
       (λ b. left _ _ (rw (by-thread (L ∷ []) t v e b, by-loc (L ∷ []) t v e b) at (p .loads (by-is (L ∷ []) t v e b)))) (h .loads t v);
-  writes = λ t v. grow (by (S ∷ P ∷ []) t v) (by (W ∷ []) t v) e es
+  writes = λ t v. grow (storeSlot t v) (by (S ∷ P ∷ []) t v) (by (W ∷ []) t v) e es
       (λ b. left _ _ (rw (by-thread (W ∷ []) t v e b, by-loc (W ∷ []) t v e b) at (p .writes (by-is (W ∷ []) t v e b)))) (h .writes t v);
 }
 

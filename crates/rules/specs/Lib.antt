@@ -8,4 +8,6 @@ pub mod Reading
 pub mod Traces
 pub mod DeadReads
 pub mod PrescientStores
+pub mod Volatile
+pub mod Plain
 pub mod Widths

@@ -1,7 +1,9 @@
 -- The limits of documents 01 and 02, each named once.
-use Prim.Native.Nat.{ℕ, _+_, _^_, _≤_, _<_}
-use mathlib.Core.Bool.{Bool, cond, _&&_, _||_}
+use Prim.Native.Nat.{ℕ, zero, suc, _+_, _^_, _≤_, _<_}
+use mathlib.Core.Bool.{Bool, true, false, not, cond, _&&_, _||_}
+use mathlib.Core.List.{List}
 use lib.Dec.{ltb, leb}
+use lib.ListN.{getD, replicate}
 use mir.Syntax.{Width, w64}
 use mir.Val.{hbits}
 use Rattle.rules.specs.declared.Event.{Event}
@@ -19,7 +21,8 @@ abbrev pub limit : Width → ℕ
 limit w = 2 ^ hbits w
 
 -- the most threads, variables, locks and events of a course, and the number of the refusal of one event more, and of a head that declares more than the
--- course has; the most bytes of a paper; the least that is lent for records, output, order list and scratch; the width of the values that lines have
+-- course has; the most bytes of a paper; the least that is lent for records, output, order list and scratch; the width of the values that lines have; whether
+-- line 3 may be a `V` line
 pub record Limits : Type 0 where
   pub threads : ℕ
   pub variables : ℕ
@@ -32,6 +35,7 @@ pub record Limits : Type 0 where
   pub entries : ℕ
   pub scratch : ℕ
   pub width : Width
+  pub volatiles : Bool
 
 -- a number of each course
 abbrev pub byCourse : Course → ℕ → ℕ → ℕ
@@ -55,6 +59,7 @@ limitsOf c = record {
   entries = 1000;
   scratch = 1000;
   width = valueWidth;
+  volatiles = true;
 }
 
 abbrev pub full : Limits
@@ -63,13 +68,21 @@ full = limitsOf Full
 abbrev pub short : Limits
 short = limitsOf Short
 
+-- no variable is volatile: there is no `V` line
+abbrev pub noVolatiles : List Bool
+noVolatiles = replicate (full .variables) false
+
+-- counts with these volatile variables
+abbrev pub withFlags : Counts → List Bool → Counts
+withFlags h g = record { threads = h .threads; variables = h .variables; locks = h .locks; volatiles = g }
+
 -- the most that a head may declare
 abbrev pub mostCounts : Limits → Counts
-mostCounts m = record { threads = m .threads; variables = m .variables; locks = m .locks }
+mostCounts m = record { threads = m .threads; variables = m .variables; locks = m .locks; volatiles = noVolatiles }
 
--- the full limits with another scratch and another width of values
-abbrev pub fullWith : ℕ → Width → Limits
-fullWith k w = record {
+-- the full limits with another scratch and another width of values, and with a `V` line or without
+abbrev pub fullWith : ℕ → Width → Bool → Limits
+fullWith k w b = record {
   threads = full .threads;
   variables = full .variables;
   locks = full .locks;
@@ -81,6 +94,7 @@ fullWith k w = record {
   entries = full .entries;
   scratch = k;
   width = w;
+  volatiles = b;
 }
 
 -- limits whose counts and events are nowhere above the full ones, and for which one event more has a number
@@ -95,17 +109,35 @@ pub record UpToFull (m : Limits) : Type 0 where
 abbrev pub most : ℕ
 most = 8
 
--- Line 1 is the head, line 2 the guards; then the event lines.
+-- f holds of a number below n
+unfoldable pub some : ℕ → (ℕ → Bool) → Bool
+some zero f = false
+some (suc n) f = f n || some n f
+
+-- An optional line `V` with rising variable numbers follows `G`: it names V.
+unfoldable pub volatile : Counts → ℕ → Bool
+volatile h v = getD (h .volatiles) v false
+
+-- there is a `V` line
+unfoldable pub anyVolatile : Counts → Bool
+anyVolatile h = some (full .variables) (volatile h)
+
+-- a variable that the head does not declare is volatile: no trace has such counts
+unfoldable pub strayVolatile : Counts → Bool
+strayVolatile h = some (full .variables) (λ v. leb (h .variables) v && volatile h v)
+
+-- Line 1 is the head, line 2 the guards; then the event lines. With a `V` line events start at line 4.
 unfoldable pub firstLine : Counts → ℕ
-firstLine h = 3
+firstLine h = cond (anyVolatile h) 4 3
 
 -- the line of the event that comes after n events
 abbrev pub lineAfter : Counts → ℕ → ℕ
 lineAfter h n = n + firstLine h
 
--- `H t v l`: threads 1 to 8, variables 1 to 16, locks 0 to 8.
+-- `H t v l`: threads 1 to 8, variables 1 to 16, locks 0 to 8; what is volatile is declared.
 unfoldable pub allowed : Limits → Counts → Bool
-allowed m h = leb 1 (h .threads) && leb (h .threads) (m .threads) && leb 1 (h .variables) && leb (h .variables) (m .variables) && leb (h .locks) (m .locks)
+allowed m h =
+    leb 1 (h .threads) && leb (h .threads) (m .threads) && leb 1 (h .variables) && leb (h .variables) (m .variables) && leb (h .locks) (m .locks) && not (strayVolatile h)
 
 -- 5. Thread, variable or lock not declared.
 unfoldable pub declared : Counts → Event → Bool

@@ -1,5 +1,5 @@
--- Document 01, the refusals 5 and 9 to 19, and document 02, 16 at N, 23, and 25 in place of 9; the table of rows, and the verdict over a list of events. The rules
--- speak of the words; `wordsOf` takes the words from a list of earlier events. A caller's state is read by the same rules, with its own
+-- Document 01, the refusals 5 and 9 to 19, and document 02, 16 at N, 23, 25 in place of 9, and 26 to 28; the table of rows, and the verdict over a list of events.
+-- The rules speak of the words; `wordsOf` takes the words from a list of earlier events. A caller's state is read by the same rules, with its own
 -- contents for the words.
 use Prim.Native.Nat.{ℕ, zero, suc, _<_}
 use mathlib.Core.Path.{_≡_}
@@ -15,8 +15,9 @@ use Rattle.rules.specs.declared.Counts.{Counts}
 use Rattle.rules.specs.declared.Verdict.{Verdict}
 use Rattle.rules.specs.declared.Verdict.the-variants.{Accepted as Accepted′, Refused}
 use Rattle.rules.specs.Events.{A, B, K, L, N, P, R, S, U, W, letter, place, value, is, eqZ}
-use Rattle.rules.specs.Limits.{Limits, most, lineAfter, declared}
-use Rattle.rules.specs.Words.{first}
+use Rattle.rules.specs.Limits.{Limits, most, volatile, lineAfter, declared}
+unfoldable pub use Rattle.rules.specs.Limits.{some}
+use Rattle.rules.specs.Words.{first, accesses}
 use Rattle.rules.specs.Words as Earlier
 
 -- the words that the rules use, for each thread and variable (or lock)
@@ -33,9 +34,15 @@ pub record Words : Type 0 where
   pub lastLock : ℕ → ℕ
   pub depth : ℕ → ℕ → ℕ
   pub main : ℕ → ℤ
+  pub afterLoad : ℕ → ℕ → Bool
+  pub afterAssign : ℕ → ℕ → Bool
+  pub loadedRead : ℕ → ℕ → ℕ
+  pub usedRead : ℕ → ℕ → ℕ
+  pub lastAssign : ℕ → ℕ → ℕ
 
-unfoldable pub wordsOf : List Event → Words
-wordsOf es = record {
+-- the words of a list of earlier events, of which f gives the outstanding stores
+abbrev pub wordsBy : (ℕ → ℕ → List Event → List Slot) → List Event → Words
+wordsBy f es = record {
   events = length es;
   copy = λ t v. Earlier.copy t v es;
   fresh = λ t v. Earlier.fresh t v es;
@@ -43,17 +50,20 @@ wordsOf es = record {
   announced = λ t v. Earlier.announced t v es;
   usable = λ t v. Earlier.usable t v es;
   reads = λ t v. Earlier.reads t v es;
-  stores = λ t v. Earlier.stores t v es;
+  stores = λ t v. f t v es;
   lastWrite = λ t v. Earlier.lastWrite t v es;
   lastLock = λ t. Earlier.lastLock t es;
   depth = λ t l. Earlier.depth t l es;
   main = λ v. Earlier.main v es;
+  afterLoad = λ t v. Earlier.afterLoad t v es;
+  afterAssign = λ t v. Earlier.afterAssign t v es;
+  loadedRead = λ t v. Earlier.loadedRead t v es;
+  usedRead = λ t v. Earlier.usedRead t v es;
+  lastAssign = λ t v. Earlier.lastAssign t v es;
 }
 
--- f holds of a number below n
-unfoldable pub some : ℕ → (ℕ → Bool) → Bool
-some zero f = false
-some (suc n) f = f n || some n f
+unfoldable pub wordsOf : List Event → Words
+wordsOf es = wordsBy Earlier.stores es
 
 abbrev pub none? : List Slot → Bool
 none? [] = true
@@ -146,6 +156,51 @@ deadRead w e =
     || is (A ∷ []) e && (not (w .pending (e .thread) (loc e)) && not (none? (w .reads (e .thread) (loc e))))
     || is (P ∷ []) e && not (none? (w .reads (e .thread) (loc e)))
 
+-- ---- the refusals 26 to 28: chapter 17's volatile rules
+
+-- one is true and the other false
+abbrev pub differ : Bool → Bool → Bool
+differ true b = not b
+differ false b = b
+
+-- 26. Wrong neighbour: on a volatile variable, U must directly follow L and S directly follow A among that thread's own events on it, R and W left
+-- aside, and after L or A nothing else may come.
+unfoldable pub wrongNeighbour : Counts → Words → Event → Bool
+wrongNeighbour h w e =
+    is accesses e
+    && (volatile h (loc e) && (differ (is (U ∷ []) e) (w .afterLoad (e .thread) (loc e)) || differ (is (S ∷ []) e) (w .afterAssign (e .thread) (loc e))))
+
+-- V stands in the way of T's use whose read is at r: an assign of V is not written, or its write or the read of a use is not before r
+unfoldable pub barsUse : Words → ℕ → ℕ → ℕ → Bool
+barsUse w t r v = w .fresh t v || not (none? (w .stores t v)) || not (ltb (w .lastWrite t v) r) || not (ltb (w .usedRead t v) r)
+
+-- V stands in the way of T's write whose assign is at a: an assign of V before it is not written. (Of those that are stored the oldest outstanding one is
+-- the first.)
+unfoldable pub barsWrite : Words → ℕ → ℕ → ℕ → Bool
+barsWrite w t a v = not (none? (w .stores t v)) && ltb (first (w .stores t v) .position) a || w .fresh t v && ltb (w .lastAssign t v) a
+
+-- a volatile variable, a declared one, stands in the way
+abbrev pub onVolatile : Counts → (ℕ → Bool) → Bool
+onVolatile h f = some (h .variables) (λ v. volatile h v && f v)
+
+-- At U, its read must follow the writes of all the thread's earlier volatile assigns and the reads of its earlier volatile uses.
+unfoldable pub useBarred : Counts → Words → Event → Bool
+useBarred h w e = is (U ∷ []) e && (volatile h (loc e) && onVolatile h (barsUse w (e .thread) (w .loadedRead (e .thread) (loc e))))
+
+-- At W on a volatile variable with a store outstanding, no volatile assign of the thread before the one being written may be unwritten.
+unfoldable pub writeBarred : Counts → Words → Event → Bool
+writeBarred h w e =
+    is (W ∷ []) e
+    && (volatile h (loc e) && (not (none? (w .stores (e .thread) (loc e))) && onVolatile h (barsWrite w (e .thread) (first (w .stores (e .thread) (loc e)) .position))))
+
+-- 27. Volatile order.
+unfoldable pub volatileOrder : Counts → Words → Event → Bool
+volatileOrder h w e = useBarred h w e || writeBarred h w e
+
+-- 28. Early store or its assign on a volatile.
+unfoldable pub prescientVolatile : Counts → Event → Bool
+prescientVolatile h e = is (P ∷ B ∷ []) e && volatile h (loc e)
+
 -- e breaks the rule with this number
 unfoldable pub breaks : ℕ → Counts → Words → Event → Bool
 breaks n h w e =
@@ -159,7 +214,10 @@ breaks n h w e =
     (cond (eqb n 17) (notUsable w e)
     (cond (eqb n 18) (differs w e)
     (cond (eqb n 19) (eightAlready w e)
-    (cond (eqb n 23) (deadRead w e) false))))))))))
+    (cond (eqb n 23) (deadRead w e)
+    (cond (eqb n 26) (wrongNeighbour h w e)
+    (cond (eqb n 27) (volatileOrder h w e)
+    (cond (eqb n 28) (prescientVolatile h e) false)))))))))))))
 
 -- ---- the ten rows
 
@@ -167,12 +225,9 @@ pub record Row : Type 0 where
   pub kind : ℕ
   pub checks : List ℕ
 
-abbrev row : ℕ → List ℕ → Row
-row k ns = record { kind = k; checks = ns }
-
--- What is checked hangs on the kind, and the ten rows of this table are fixed.
-unfoldable pub rows : List Row
-rows =
+-- What is checked hangs on the kind, and the ten rows of this table are fixed. These numbers lead each row.
+abbrev pub rowsBehind : List ℕ → List Row
+rowsBehind lead =
     row U (17 ∷ 18 ∷ [])
     ∷ row A (23 ∷ [])
     ∷ row L (10 ∷ 13 ∷ 15 ∷ 16 ∷ 18 ∷ [])
@@ -184,6 +239,13 @@ rows =
     ∷ row P (13 ∷ 19 ∷ 23 ∷ [])
     ∷ row B (10 ∷ 18 ∷ [])
     ∷ []
+  where
+    row : ℕ → List ℕ → Row
+    row k ns = record { kind = k; checks = lead ++ ns }
+
+-- 26, 27 and 28 lead each row, in that order.
+unfoldable pub rows : List Row
+rows = rowsBehind (26 ∷ 27 ∷ 28 ∷ [])
 
 -- the checks of the row of this letter
 unfoldable pub rowIn : List Row → ℕ → List ℕ

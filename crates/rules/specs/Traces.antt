@@ -1,14 +1,16 @@
 -- Document 01, "Short traces": the rows marked as proved, one table, two of them with the verdict of document 02 (a) and one with that
 -- of (d); more traces of both documents; and the 1-2-3 run. `proofs/ShortTraces.antt` proves each table by one theorem, and that the run is accepted.
 use Prim.Native.Nat.{ℕ, zero, suc}
+use mathlib.Core.Bool.{true, false}
 use mathlib.Core.List.{List, [], _∷_, reverse}
 use mathlib.Core.Option.{Option, none, some}
 use lib.IntN.{ℤ, pos}
+use lib.ListN.{replicate}
 use Rattle.rules.specs.declared.Kind.{Kind}
 use Rattle.rules.specs.declared.Kind.the-variants.{Use, Assign, Load, Store, Read, Write, Lock, Unlock, PrescientStore, PrescientAssign}
 use Rattle.rules.specs.declared.Event.{Event}
 use Rattle.rules.specs.declared.Counts.{Counts}
-use Rattle.rules.specs.Limits.{full, lineAfter}
+use Rattle.rules.specs.Limits.{full, noVolatiles, lineAfter}
 use Rattle.rules.specs.Words.{main}
 use Rattle.rules.specs.Rules.{Marked, accepted, refused, mark}
 
@@ -48,12 +50,15 @@ N t l = ev t (Unlock l)
 
 -- Two threads, variables and locks.
 abbrev pub two : Counts
-two = record { threads = 2; variables = 2; locks = 2 }
+two = record { threads = 2; variables = 2; locks = 2; volatiles = noVolatiles }
 
--- the refusal of event n, from 1
+-- the refusal of event n, from 1, in a trace with these counts
+abbrev pub badWith : Counts → ℕ → ℕ → Marked
+badWith h number zero = accepted
+badWith h number (suc n) = refused number (lineAfter h n)
+
 abbrev pub bad : ℕ → ℕ → Marked
-bad number zero = accepted
-bad number (suc n) = refused number (lineAfter two n)
+bad = badWith two
 
 -- a row of the table: the events, the verdict, and main memory of variable 0 where the row says it
 pub record Trace : Type 0 where
@@ -118,13 +123,52 @@ prescientStores =
     ∷ with-main (K 0 0 ∷ P 0 0 5 ∷ N 0 0 ∷ W 0 0 5 ∷ B 0 0 5 ∷ []) accepted (pos 5)
     ∷ []
 
--- the same row, as the definitions give it
-unfoldable pub computed : Trace → Trace
-computed r = record {
+-- Document 02 (f): two threads, variables and locks, and the line `V 0 1`.
+abbrev pub twoVolatile : Counts
+twoVolatile = record { threads = 2; variables = 2; locks = 2; volatiles = true ∷ true ∷ replicate 14 false }
+
+abbrev pub badVolatile : ℕ → ℕ → Marked
+badVolatile = badWith twoVolatile
+
+unfoldable pub volatileTraces : List Trace
+volatileTraces =
+    -- load and use, assign and store
+    trace (R 0 0 0 ∷ L 0 0 0 ∷ U 0 0 0 ∷ A 0 0 5 ∷ S 0 0 5 ∷ W 0 0 5 ∷ R 0 0 5 ∷ L 0 0 5 ∷ U 0 0 5 ∷ []) accepted
+    -- 26: a use without its load, a second use, a load after a load, an assign after an assign, an early store after an assign
+    ∷ trace (U 0 0 0 ∷ []) (badVolatile 26 1)
+    ∷ trace (R 0 0 0 ∷ L 0 0 0 ∷ U 0 0 0 ∷ U 0 0 0 ∷ []) (badVolatile 26 4)
+    ∷ trace (R 0 0 0 ∷ R 0 0 0 ∷ L 0 0 0 ∷ L 0 0 0 ∷ []) (badVolatile 26 4)
+    ∷ trace (A 0 0 5 ∷ A 0 0 6 ∷ []) (badVolatile 26 2)
+    ∷ trace (A 0 0 5 ∷ P 0 0 6 ∷ []) (badVolatile 26 2)
+    -- a lock between load and use is the plain 17
+    ∷ trace (R 0 0 0 ∷ L 0 0 0 ∷ K 0 0 ∷ U 0 0 0 ∷ []) (badVolatile 17 4)
+    -- 27 at U: an assign is not written; it is, but behind the read; the read of an earlier use is behind it
+    ∷ trace (R 0 0 0 ∷ A 0 1 5 ∷ L 0 0 0 ∷ U 0 0 0 ∷ []) (badVolatile 27 4)
+    ∷ trace (R 0 0 0 ∷ A 0 1 5 ∷ S 0 1 5 ∷ W 0 1 5 ∷ L 0 0 0 ∷ U 0 0 0 ∷ []) (badVolatile 27 6)
+    ∷ trace (R 0 0 0 ∷ R 0 1 0 ∷ L 0 1 0 ∷ U 0 1 0 ∷ L 0 0 0 ∷ U 0 0 0 ∷ []) (badVolatile 27 6)
+    -- 27 at W: an earlier assign is not stored; it is, later than the one that is written
+    ∷ trace (A 0 0 5 ∷ A 0 1 6 ∷ S 0 1 6 ∷ W 0 1 6 ∷ []) (badVolatile 27 4)
+    ∷ trace (A 0 0 5 ∷ A 0 1 6 ∷ S 0 1 6 ∷ S 0 0 5 ∷ W 0 1 6 ∷ []) (badVolatile 27 5)
+    ∷ with-main (A 0 0 5 ∷ A 0 1 6 ∷ S 0 1 6 ∷ S 0 0 5 ∷ W 0 0 5 ∷ W 0 1 6 ∷ []) accepted (pos 5)
+    -- 10 where no store is outstanding
+    ∷ trace (A 0 0 5 ∷ W 0 1 6 ∷ []) (badVolatile 10 2)
+    -- 28
+    ∷ trace (P 0 0 5 ∷ []) (badVolatile 28 1)
+    ∷ trace (B 0 0 5 ∷ []) (badVolatile 28 1)
+    -- another thread's assign stands in no way
+    ∷ trace (R 0 0 0 ∷ A 1 1 5 ∷ L 0 0 0 ∷ U 0 0 0 ∷ []) accepted
+    ∷ []
+
+-- the same row, as the definitions give it with these counts
+unfoldable pub computedWith : Counts → Trace → Trace
+computedWith h r = record {
   events = r .events;
-  marked = mark full two (r .events);
+  marked = mark full h (r .events);
   main0 = elim (r .main0) [ none ↦ none | some x ↦ some (main 0 (reverse (r .events))) ];
 }
+
+unfoldable pub computed : Trace → Trace
+computed r = computedWith two r
 
 -- ---- the 1-2-3 run of document 000, section 2.3
 -- Thread 0 is its first thread, variable 0 is x, variable 1 is y, lock 0 is o. The locals a, b and c make no events: thread 0
@@ -132,7 +176,7 @@ computed r = record {
 
 -- Two threads, two variables, one lock.
 abbrev pub oneTwoThreeCounts : Counts
-oneTwoThreeCounts = record { threads = 2; variables = 2; locks = 1 }
+oneTwoThreeCounts = record { threads = 2; variables = 2; locks = 1; volatiles = noVolatiles }
 
 unfoldable pub oneTwoThree : List Event
 oneTwoThree =

@@ -14,7 +14,7 @@ use Rattle.rules.specs.Limits.{Limits, full, fullWith, limit}
 
 -- the full limits with document 01's "a value outside 32 bits is 4"
 abbrev pub narrow : Limits
-narrow = fullWith (full .scratch) w32
+narrow = fullWith (full .scratch) w32 true
 
 -- x is from -limit to limit - 1; `mag` of n and of -1 - n is n
 abbrev pub fits : Width → ℤ → Bool

@@ -9,7 +9,7 @@ use lib.IntN.{ℤ, pos}
 use lib.ListN.{length, drop}
 use Rattle.rules.specs.declared.Event.{Event}
 use Rattle.rules.specs.declared.Slot.{Slot}
-use Rattle.rules.specs.Events.{A, B, L, P, R, S, W, value, is, of, on, locks, unlocks}
+use Rattle.rules.specs.Events.{A, B, L, P, R, S, U, W, value, is, of, on, locks, unlocks}
 
 -- ---- what the words are made of
 
@@ -42,10 +42,10 @@ count p (e ∷ es) = cond (p e) (suc (count p es)) (count p es)
 abbrev pub slot : List Event → Event → Slot
 slot es e = record { value = value (e .kind); position = suc (length es) }
 
--- those that pass the test, the oldest first
-unfoldable pub inOrder : (Event → Bool) → List Event → List Slot
-inOrder p [] = []
-inOrder p (e ∷ es) = inOrder p es ++ cond (p e) (slot es e ∷ []) []
+-- those that pass the test, the oldest first, each kept as f says
+unfoldable pub inOrder : (List Event → Event → Slot) → (Event → Bool) → List Event → List Slot
+inOrder f p [] = []
+inOrder f p (e ∷ es) = inOrder f p es ++ cond (p e) (f es e ∷ []) []
 
 -- the oldest; value and position 0 where there is none
 abbrev pub first : List Slot → Slot
@@ -70,12 +70,20 @@ releases t l e = unlocks e && (of t e && on l e)
 
 -- ---- the words, for thread t and variable v
 
+-- the position of T's last assign on V
+unfoldable pub lastAssign : ℕ → ℕ → List Event → ℕ
+lastAssign t v es = lastAt (by (A ∷ []) t v) es
+
+-- a store of T on V, with the position of its assign, T's last on V before it; a P, whose assign is to come, with its own
+abbrev pub storeSlot : ℕ → ℕ → List Event → Event → Slot
+storeSlot t v es e = record { value = value (e .kind); position = cond (is (S ∷ []) e) (lastAssign t v es) (suc (length es)) }
+
 -- The n-th load pairs with the n-th read of T on V, the n-th store (S or P) with the n-th write. Unpaired reads and stores are outstanding.
 unfoldable pub reads : ℕ → ℕ → List Event → List Slot
-reads t v es = drop (count (by (L ∷ []) t v) es) (inOrder (by (R ∷ []) t v) es)
+reads t v es = drop (count (by (L ∷ []) t v) es) (inOrder slot (by (R ∷ []) t v) es)
 
 unfoldable pub stores : ℕ → ℕ → List Event → List Slot
-stores t v es = drop (count (by (W ∷ []) t v) es) (inOrder (by (S ∷ P ∷ []) t v) es)
+stores t v es = drop (count (by (W ∷ []) t v) es) (inOrder (storeSlot t v) (by (S ∷ P ∷ []) t v) es)
 
 -- Copy: the value of T's latest A, B or L on V.
 unfoldable pub copy : ℕ → ℕ → List Event → ℤ
@@ -118,3 +126,27 @@ depth t l (e ∷ es) = cond (acquires t l e) (suc (depth t l es)) (cond (release
 -- Main memory of V: the value of the latest W on V, by any thread; 0 before one.
 unfoldable pub main : ℕ → List Event → ℤ
 main v es = valueIn (latest (λ e. is (W ∷ []) e && on v e) es)
+
+-- ---- the words of the volatile rules, document 02 (f)
+
+-- that thread's own events on it, R and W left aside
+abbrev pub accesses : List ℕ
+accesses = U ∷ A ∷ L ∷ S ∷ P ∷ B ∷ []
+
+-- the latest of these by T on V is an L
+unfoldable pub afterLoad : ℕ → ℕ → List Event → Bool
+afterLoad t v es = letterIn (L ∷ []) (latest (by accesses t v) es)
+
+-- the latest of these by T on V is an A
+unfoldable pub afterAssign : ℕ → ℕ → List Event → Bool
+afterAssign t v es = letterIn (A ∷ []) (latest (by accesses t v) es)
+
+-- the position of the read of T's latest load on V. (The read of a load is the oldest that is outstanding before it.)
+unfoldable pub loadedRead : ℕ → ℕ → List Event → ℕ
+loadedRead t v [] = 0
+loadedRead t v (e ∷ es) = cond (by (L ∷ []) t v e) (first (reads t v es) .position) (loadedRead t v es)
+
+-- the position of the read of T's latest use on V: that of the latest load before it
+unfoldable pub usedRead : ℕ → ℕ → List Event → ℕ
+usedRead t v [] = 0
+usedRead t v (e ∷ es) = cond (by (U ∷ []) t v e) (loadedRead t v es) (usedRead t v es)

@@ -1,7 +1,7 @@
 // The events of a trace, what a trace declares, and what is said of it. What the rules say of events stands in specs/.
 ghost use mathlib.Core.Path.{_≡_};
 ghost use Rattle.rules.specs.Events.{letter, place, value, isLetter, isLockLetter, kindOf};
-ghost use Rattle.rules.specs.Limits.{full, limitsOf, mostCounts, lineAfter, allowed, declared, lentShort, orderShort};
+ghost use Rattle.rules.specs.Limits.{full, limitsOf, mostCounts, volatile, anyVolatile, strayVolatile, lineAfter, allowed, declared, lentShort, orderShort};
 ghost use Rattle.rules.specs.Rules.{told, numberIn, lineIn};
 
 // The value of a variable. Its width is `valueWidth` in specs/Limits.antt.
@@ -44,12 +44,13 @@ pub struct Slot {
     pub position: usize,
 }
 
-// How many threads, variables and locks a trace declares in its head.
+// How many threads, variables and locks a trace declares in its head, and which variables its V line names.
 #[repr(C)]
 pub struct Counts {
     pub threads: usize,
     pub variables: usize,
     pub locks: usize,
+    pub volatiles: [bool; 16],
 }
 
 // The course that a trace is written for: each has its own limits.
@@ -194,13 +195,48 @@ pub fn most_counts(course: Course) -> Counts
             threads: 8,
             variables: 16,
             locks: 8,
+            volatiles: [false; 16],
         },
         Course::Short => Counts {
             threads: 2,
             variables: 4,
             locks: 2,
+            volatiles: [false; 16],
         },
     }
+}
+
+// Whether variable v is volatile.
+pub fn is_volatile(h: Counts, v: usize) -> bool
+    ensures { λ r. ⌜ r ≡ volatile h v ⌝ }
+{
+    if v < 16 { h.volatiles[v] } else { false }
+}
+
+// Whether some variable is volatile: there is a V line.
+pub fn any_volatile(h: Counts) -> bool
+    ensures { λ r. ⌜ r ≡ anyVolatile h ⌝ }
+{
+    let mut any = false;
+    let mut v: usize = 0;
+    while v < 16 {
+        any = h.volatiles[v] | any;
+        v += 1;
+    }
+    any
+}
+
+// Whether a variable that is not declared is volatile.
+fn stray_volatile(h: Counts) -> bool
+    ensures { λ r. ⌜ r ≡ strayVolatile h ⌝ }
+{
+    let mut any = false;
+    let mut v: usize = 0;
+    while v < 16 {
+        any = ((h.variables <= v) & h.volatiles[v]) | any;
+        v += 1;
+    }
+    any
 }
 
 // Whether a trace of a course may declare these counts.
@@ -208,11 +244,13 @@ pub fn is_allowed(course: Course, h: Counts) -> bool
     ensures { λ r. ⌜ r ≡ allowed (limitsOf course) h ⌝ }
 {
     let most = most_counts(course);
+    let stray = stray_volatile(h);
     (1 <= h.threads)
         & (h.threads <= most.threads)
         & (1 <= h.variables)
         & (h.variables <= most.variables)
         & (h.locks <= most.locks)
+        & !stray
 }
 
 // The most events of a course.
@@ -252,7 +290,11 @@ pub fn is_declared(h: Counts, e: Event) -> bool
 pub fn line_after(h: Counts, n: u32) -> usize
     ensures { λ r. ⌜ r ≡ lineAfter h n ⌝ }
 {
-    n as usize + 3
+    if any_volatile(h) {
+        n as usize + 4
+    } else {
+        n as usize + 3
+    }
 }
 
 // 7, where no order is wanted: places lent for records, bytes lent for output.

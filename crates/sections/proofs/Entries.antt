@@ -4,14 +4,14 @@ use native.Mathlib.Omega.{arith}
 use mathlib.Core.Path.{_≡_, refl, ap, _∙_}
 use mathlib.Core.Bool.{Bool, true, false, _&&_, false≢true}
 use mathlib.Core.List.{List, [], _∷_, map, reverse}
-use lib.Dec.{leb}
 use lib.ListN.{length, length-reverse}
-use borrow.Author.Tests.{eqb-true, leb-true}
+use borrow.Author.Tests.{eqb-true}
 use Rattle.rules.specs.declared.Event.{Event}
 use Rattle.rules.specs.declared.Counts.{Counts}
 use Rattle.rules.specs.Events.{of, locks}
 use Rattle.rules.specs.Limits.{Limits, UpToFull, full, firstLine, lineAfter, allowed}
 use Rattle.rules.specs.Words.{locksBy}
+use Rattle.rules.proofs.Bounds.{declares, first-line-high}
 use Rattle.rules.proofs.Laws.{few}
 use Rattle.rules.proofs.Marking.{mark-accepts}
 use Rattle.serial.specs.Lists.{All}
@@ -74,19 +74,12 @@ line-found f P h events line a e = by (suc line - firstLine h) refl e
     by zero q e = absurd (false≢true e)
     by (suc n) q e = (n, nth-found f P n events a e, omega arith)
 
--- 4,096 lines are enough for head, guards and every event
+-- 4,096 lines are enough for what stands before the events and every event
 lines-low : (h : Counts) → lineAfter h (full .events) ≤ 4096
-unfolding firstLine
-lines-low h = omega arith
+lines-low h = omega (arith, first-line-high h)
 
 threads-low : (m : Limits) (h : Counts) → UpToFull m → allowed m h ≡ true → h .threads ≤ 8
-unfolding allowed
-threads-low m h u e = by (leb 1 (h .threads)) (leb (h .threads) (m .threads)) refl (leb 1 (h .variables)) (leb (h .variables) (m .variables)) (leb (h .locks) (m .locks)) e
-  where
-    by : (p q : Bool) → leb (h .threads) (m .threads) ≡ q → (r s t : Bool) → p && q && r && s && t ≡ true → h .threads ≤ 8
-    by true true i r s t e = omega (arith, leb-true (h .threads) (m .threads) i, u .threads)
-    by true false i r s t e = absurd (false≢true e)
-    by false q i r s t e = absurd (false≢true e)
+threads-low m h u e = omega (arith, declares m h e .threads, u .threads)
 
 both-right : (a b : Bool) → a && b ≡ true → b ≡ true
 both-right true b e = e

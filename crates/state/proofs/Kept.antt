@@ -16,7 +16,7 @@ use Rattle.state.specs.declared.Cell.{Cell}
 use Rattle.state.specs.declared.Hold.{Hold}
 use Rattle.state.specs.declared.State.{State}
 use Rattle.state.specs.State.{noSlot, noHold, blank, queued, cellAt, readsAt, depthOf, wordsIn}
-use Rattle.state.specs.Range.{every, holdOk, holdsIn, holdsOk, cellsIn, cellsOk, slotAt, slotsIn, queueOk, queuesIn, queuesOk, inRange}
+use Rattle.state.specs.Range.{every, holdOk, holdsIn, holdsOk, cellOk, cellsIn, cellsOk, slotAt, slotsIn, queueOk, queuesIn, queuesOk, inRange}
 use Rattle.state.specs.Step.{pushed, popped, nextCell, readAfter, storeAfter, holdAfter, lockedAfter, varOf, lockOf, behind, stepState}
 use Rattle.state.specs.Step.{Within}
 use Rattle.state.proofs.LeafLaws.{both-true, both, depth-under, every-at, every-all, cell-same}
@@ -25,7 +25,7 @@ use Rattle.state.proofs.StepWords.{Bounded, set-at, read-few, store-few
 use Rattle.rules.specs.declared.Event.{Event}
 use Rattle.rules.specs.declared.Counts.{Counts}
 use Rattle.rules.specs.declared.Slot.{Slot}
-use Rattle.rules.specs.Events.{A, B, K, L, N, P, R, S, W, letter, place, value, among, is, onLock}
+use Rattle.rules.specs.Events.{A, B, K, L, N, P, R, S, U, W, letter, place, value, among, is, onLock}
 use Rattle.rules.specs.Limits.{Limits, UpToFull, full, allowed, declared}
 use Rattle.rules.specs.Words.{first}
 use Rattle.rules.specs.Rules.{judge}
@@ -109,6 +109,33 @@ hold-ok t n a p f h = rw (le-leb (a .holder) t (f .holder), le-leb (a .depth) n 
     go false true p q = absurd (eqb-false (a .holder) 0 p (f .some (eqb-true (a .depth) 0 q)))
     go false false p q = refl
 
+-- ---- a cell
+
+-- its positions are at most n
+pub record CellFits (n : ℕ) (c : Cell) : Type 0 where
+  pub source : c .source ≤ n
+  pub written : c .written ≤ n
+  pub loaded : c .loaded ≤ n
+  pub used : c .used ≤ n
+  pub assigned : c .assigned ≤ n
+
+cell-fits : (n : ℕ) (c : Cell) → cellOk n c ≡ true → CellFits n c
+cell-fits n c e =
+    let five = both-true (leb (c .source) n && leb (c .written) n && leb (c .loaded) n && leb (c .used) n) (leb (c .assigned) n) e in
+    let four = both-true (leb (c .source) n && leb (c .written) n && leb (c .loaded) n) (leb (c .used) n) (five .0) in
+    let three = both-true (leb (c .source) n && leb (c .written) n) (leb (c .loaded) n) (four .0) in
+    let two = both-true (leb (c .source) n) (leb (c .written) n) (three .0) in
+    record {
+      source = leb-true (c .source) n (two .0);
+      written = leb-true (c .written) n (two .1);
+      loaded = leb-true (c .loaded) n (three .1);
+      used = leb-true (c .used) n (four .1);
+      assigned = leb-true (c .assigned) n (five .1);
+    }
+
+cell-ok : (n : ℕ) (c : Cell) → CellFits n c → cellOk n c ≡ true
+cell-ok n c f = rw (le-leb (c .source) n (f .source), le-leb (c .written) n (f .written), le-leb (c .loaded) n (f .loaded), le-leb (c .used) n (f .used), le-leb (c .assigned) n (f .assigned)) refl
+
 -- ---- the whole state
 
 pub record Range (m : Limits) (s : State) : Type 0 where
@@ -116,7 +143,7 @@ pub record Range (m : Limits) (s : State) : Type 0 where
   pub events : s .events ≤ m .events
   pub hold : (l : ℕ) → l < 8 → HoldFits (s .counts .threads) (s .events) (getD (s .holds) l noHold)
   pub locked : (t : ℕ) → t < 8 → getD (s .locked) t 0 ≤ s .events
-  pub cell : (i : ℕ) → i < 128 → (getD (s .cells) i blank .source ≤ s .events) × (getD (s .cells) i blank .written ≤ s .events)
+  pub cell : (i : ℕ) → i < 128 → CellFits (s .events) (getD (s .cells) i blank)
   pub reads : (i : ℕ) → i < 128 → QueueFits (s .events) (s .reads) i (getD (s .cells) i blank .reads)
   pub stores : (i : ℕ) → i < 128 → QueueFits (s .events) (s .stores) i (getD (s .cells) i blank .stores)
 
@@ -143,8 +170,7 @@ module _ (m : Limits) (s : State) where
         events = leb-true (s .events) (m .events) (two .1);
         hold = λ l h. hold-fits (s .counts .threads) (s .events) (getD (s .holds) l noHold) (getD (s .locked) l 0) (every-at 8 (holdsIn s) (three .1) l h) .0;
         locked = λ t h. hold-fits (s .counts .threads) (s .events) (getD (s .holds) t noHold) (getD (s .locked) t 0) (every-at 8 (holdsIn s) (three .1) t h) .1;
-        cell = λ i h. (let p = both-true (leb (getD (s .cells) i blank .source) (s .events)) (leb (getD (s .cells) i blank .written) (s .events)) (every-at 128 (cellsIn s) (four .1) i h) in
-            (leb-true (getD (s .cells) i blank .source) (s .events) (p .0), leb-true (getD (s .cells) i blank .written) (s .events) (p .1)));
+        cell = λ i h. cell-fits (s .events) (getD (s .cells) i blank) (every-at 128 (cellsIn s) (four .1) i h);
         reads = λ i h. queue-fits (s .events) (s .reads) i (getD (s .cells) i blank .reads) (every-at 128 Q (five .1) i h);
         stores = λ i h. queue-fits (s .events) (s .stores) i (getD (s .cells) i blank .stores) (every-at 128 O (six .1) i h);
       }
@@ -156,7 +182,7 @@ module _ (m : Limits) (s : State) where
         r .counts,
         le-leb (s .events) (m .events) (r .events),
         every-all 8 (holdsIn s) (λ i h. hold-ok (s .counts .threads) (s .events) (getD (s .holds) i noHold) (getD (s .locked) i 0) (r .hold i h) (r .locked i h)),
-        every-all 128 (cellsIn s) (λ i h. both (leb (getD (s .cells) i blank .source) (s .events)) (leb (getD (s .cells) i blank .written) (s .events)) (le-leb (getD (s .cells) i blank .source) (s .events) (r .cell i h .0)) (le-leb (getD (s .cells) i blank .written) (s .events) (r .cell i h .1))),
+        every-all 128 (cellsIn s) (λ i h. cell-ok (s .events) (getD (s .cells) i blank) (r .cell i h)),
         every-all 128 Q (λ i h. queue-ok (s .events) (s .reads) i (getD (s .cells) i blank .reads) (r .reads i h)),
         every-all 128 O (λ i h. queue-ok (s .events) (s .stores) i (getD (s .cells) i blank .stores) (r .stores i h)),
       )
@@ -214,7 +240,7 @@ bounded m s h r = record { source = λ t v. source t v (ltb t 8) (ltb v 16) refl
     number t v g k = omega arith
 
     source : (t v : ℕ) (x y : Bool) → ltb t 8 ≡ x → ltb v 16 ≡ y → cellAt s t v .source ≤ s .events
-    source t v true true p q = rw (cell-same s t v (ltb-true t 8 p) (ltb-true v 16 q)) (r .cell (16 * t + v) (number t v (ltb-true t 8 p) (ltb-true v 16 q)) .0)
+    source t v true true p q = rw (cell-same s t v (ltb-true t 8 p) (ltb-true v 16 q)) (r .cell (16 * t + v) (number t v (ltb-true t 8 p) (ltb-true v 16 q)) .source)
     source t v true false p q = unfold cellAt in rw (p, q) zero-le
     source t v false y p q = unfold cellAt in rw p zero-le
 
@@ -288,18 +314,27 @@ hold-kept h n a t k l f = go (among (K ∷ []) k) (among (N ∷ []) k) (leb (dep
     go false true false p d = record { holder = f .holder; depth = omega arith; none = λ e. absurd (held (depthOf a t) (depth-under a t) (leb-false (depthOf a t) 1 p) e); some = λ e. absurd (lost (leb-false (depthOf a t) 1 p) e) }
     go false false z p d = hold-more h n a f
 
-cell-kept : (n : ℕ) (r : Slot) (k : ℕ) (x : ℤ) (c : Cell) → r .position ≤ n → (c .source ≤ n) × (c .written ≤ n) → (nextCell (suc n) r k x c .source ≤ suc n) × (nextCell (suc n) r k x c .written ≤ suc n)
+cell-more : (n : ℕ) (c : Cell) → CellFits n c → CellFits (suc n) c
+cell-more n c f = record { source = le-step (f .source); written = le-step (f .written); loaded = le-step (f .loaded); used = le-step (f .used); assigned = le-step (f .assigned) }
+
+cell-kept : (n : ℕ) (r : Slot) (k : ℕ) (x : ℤ) (c : Cell) → r .position ≤ n → CellFits n c → CellFits (suc n) (nextCell (suc n) r k x c)
 unfolding nextCell
-cell-kept n r k x c p h = (source (among (A ∷ B ∷ []) k) (among (L ∷ []) k), written (among (W ∷ []) k))
+cell-kept n r k x c p h = record {
+  source = source (among (A ∷ B ∷ []) k) (among (L ∷ []) k);
+  written = one (among (W ∷ []) k) (le-refl (suc n)) (le-step (h .written));
+  loaded = one (among (L ∷ []) k) (le-step p) (le-step (h .loaded));
+  used = one (among (U ∷ []) k) (le-step (h .loaded)) (le-step (h .used));
+  assigned = one (among (A ∷ []) k) (le-refl (suc n)) (le-step (h .assigned));
+}
   where
     source : (x y : Bool) → cond x (suc n) (cond y (max (c .source) (r .position)) (c .source)) ≤ suc n
     source true y = le-refl (suc n)
-    source false true = let q = h .0 in omega arith
-    source false false = le-step (h .0)
+    source false true = let q = h .source in omega arith
+    source false false = le-step (h .source)
 
-    written : (x : Bool) → cond x (suc n) (c .written) ≤ suc n
-    written true = le-refl (suc n)
-    written false = le-step (h .1)
+    one : (b : Bool) {x y : ℕ} → x ≤ suc n → y ≤ suc n → cond b x y ≤ suc n
+    one true p q = p
+    one false p q = q
 
 pub kept : (m : Limits) (s : State) (e : Event) → UpToFull m → Shape s → Range m s → leb (m .events) (s .events) ≡ false → declared (s .counts) e ≡ true → judge (s .counts) (wordsIn s) e ≡ 0
     → Range m (stepState s e)
@@ -314,15 +349,15 @@ kept m s e u h r below d p = record {
   locked = λ v k. rw (add-one (s .events), set-at (s .locked) t (lockedAfter (getD (s .locked) t 0) (letter (e .kind)) (suc (s .events))) 0 in-locked v)
       (either (λ (z : ℕ). z ≤ suc (s .events)) (eqb t v) (unfold lockedAfter in position (among (K ∷ []) (letter (e .kind)))) (le-step (r .locked v k)));
   cell = λ j k. rw (add-one (s .events), set-at (s .cells) i (nextCell (suc (s .events)) (first (readsAt s t v)) (letter (e .kind)) (value (e .kind)) (cellAt s t v)) blank in-cells j)
-      (either (λ (c : Cell). (c .source ≤ suc (s .events)) × (c .written ≤ suc (s .events))) (eqb i j)
+      (either (CellFits (suc (s .events))) (eqb i j)
       (cell-kept (s .events) (first (readsAt s t v)) (letter (e .kind)) (value (e .kind)) (cellAt s t v) front (rw own (r .cell i num)))
-      (le-step (r .cell j k .0), le-step (r .cell j k .1)));
+      (cell-more (s .events) (getD (s .cells) j blank) (r .cell j k)));
   reads = λ j k. rw (add-one (s .events), own) (unfold readAfter in
       queue-kept (λ c. c .reads) (s .reads) (s .cells) i (record { value = value (e .kind); position = suc (s .events) }) (among (R ∷ []) (letter (e .kind))) (among (L ∷ []) (letter (e .kind))) (nextCell (suc (s .events)) (first (readsAt s t v)) (letter (e .kind)) (value (e .kind)) (getD (s .cells) i blank)) (s .events)
       (h .cells) (h .reads) num (λ b. rw own at (read-few s e p b)) (unfold nextCell in refl) (le-refl (suc (s .events))) (r .reads) j k);
   stores = λ j k. rw (add-one (s .events), own) (unfold storeAfter in
-      queue-kept (λ c. c .stores) (s .stores) (s .cells) i (record { value = value (e .kind); position = suc (s .events) }) (among (S ∷ P ∷ []) (letter (e .kind))) (among (W ∷ []) (letter (e .kind))) (nextCell (suc (s .events)) (first (readsAt s t v)) (letter (e .kind)) (value (e .kind)) (getD (s .cells) i blank)) (s .events)
-      (h .cells) (h .stores) num (λ b. rw own at (store-few s e p b)) (unfold nextCell in refl) (le-refl (suc (s .events))) (r .stores) j k);
+      queue-kept (λ c. c .stores) (s .stores) (s .cells) i (record { value = value (e .kind); position = cond (among (S ∷ []) (letter (e .kind))) (getD (s .cells) i blank .assigned) (suc (s .events)) }) (among (S ∷ P ∷ []) (letter (e .kind))) (among (W ∷ []) (letter (e .kind))) (nextCell (suc (s .events)) (first (readsAt s t v)) (letter (e .kind)) (value (e .kind)) (getD (s .cells) i blank)) (s .events)
+      (h .cells) (h .stores) num (λ b. rw own at (store-few s e p b)) (unfold nextCell in refl) (either (λ (z : ℕ). z ≤ suc (s .events)) (among (S ∷ []) (letter (e .kind))) (le-step (r .cell i num .assigned)) (le-refl (suc (s .events)))) (r .stores) j k);
 }
   where
     t : ℕ

@@ -4,7 +4,7 @@ use native.Mathlib.Omega.{arith}
 use native.Mathlib.Nat.{not-suc-le-zero, le-refl, le-step}
 use native.Mathlib.Numerals.{add-one}
 use mathlib.Core.Path.{_≡_, refl, sym, ap, _∙_, subst}
-use mathlib.Core.Bool.{Bool, true, false, cond, _&&_, _||_}
+use mathlib.Core.Bool.{Bool, true, false, cond, _&&_}
 use lib.Dec.{T, eqb, ltb}
 use lib.ListN.{getD}
 use borrow.Author.Tests.{lt-ltb, eqb-true, eqb-false}
@@ -14,7 +14,6 @@ use Rattle.state.specs.declared.State.{State}
 use Rattle.state.specs.State.{blank, cellAt, depthOf}
 use Rattle.state.specs.Range.{every}
 use Rattle.state.specs.Computed.Places.{cellPlace, slotPlace}
-use Rattle.rules.specs.Rules.{some}
 
 pub cond-same : {A : Type 0} (b : Bool) (x : A) → cond b x x ≡ x
 cond-same true x = refl
@@ -65,14 +64,6 @@ pub every-all : (n : ℕ) (f : ℕ → Bool) → ((i : ℕ) → i < n → f i �
 unfolding every
 every-all zero f h = refl
 every-all (suc n) f h = both (f n) (every n f) (h n (le-refl (suc n))) (every-all n f (λ i k. h i (le-step k)))
-
-pub some-none : (f : ℕ → Bool) → false ≡ some 0 f
-unfolding some
-some-none f = refl
-
-pub some-more : (n : ℕ) (f : ℕ → Bool) {b c : Bool} → b ≡ some n f → c ≡ f n → (c || b) ≡ some (n + 1) f
-unfolding some
-some-more n f p q = rw (add-one n, p, q) refl
 
 -- ---- places
 

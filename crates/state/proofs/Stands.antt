@@ -15,7 +15,7 @@ use Rattle.state.proofs.StepWords.{step-shape, step-words}
 use Rattle.rules.specs.declared.Event.{Event}
 use Rattle.rules.specs.declared.Counts.{Counts}
 use Rattle.rules.specs.Limits.{Limits, UpToFull, allowed, declared}
-use Rattle.rules.specs.Words.{latest, valueIn, letterIn, lastAt, count, inOrder, reads, stores, copy, fresh, pending, announced, lastLock, lastWrite, usable, depth, main}
+use Rattle.rules.specs.Words.{latest, valueIn, letterIn, lastAt, count, inOrder, reads, stores, copy, fresh, pending, announced, lastLock, lastWrite, usable, depth, main, afterLoad, afterAssign, loadedRead, usedRead, lastAssign}
 use Rattle.rules.specs.Rules.{Words, wordsOf, judge, verdict, Accepted}
 use Rattle.rules.proofs.Next.{next}
 use Rattle.rules.proofs.Laws.{Passed, passed, accepted-last, accepted-before}
@@ -45,7 +45,7 @@ unfolding start
 start-memory h v = same-all 16 v noMain
 
 pub start-words : (h : Counts) → wordsIn (start h) ≡ wordsOf []
-unfolding start wordsIn wordsOf readsAt storesAt queued around latest valueIn letterIn lastAt count inOrder reads stores copy fresh pending announced lastLock lastWrite usable depth main
+unfolding start wordsIn wordsOf readsAt storesAt queued around latest valueIn letterIn lastAt count inOrder reads stores copy fresh pending announced lastLock lastWrite usable depth main afterLoad afterAssign loadedRead usedRead lastAssign
 start-words h = λ i. record {
   events = 0;
   copy = λ t v. start-cell h t v i .copy;
@@ -59,6 +59,11 @@ start-words h = λ i. record {
   lastLock = λ t. start-locked h t i;
   depth = λ t l. start-depth h t l i;
   main = λ v. start-memory h v i .value;
+  afterLoad = λ t v. start-cell h t v i .«after_load»;
+  afterAssign = λ t v. start-cell h t v i .«after_assign»;
+  loadedRead = λ t v. start-cell h t v i .loaded;
+  usedRead = λ t v. start-cell h t v i .used;
+  lastAssign = λ t v. start-cell h t v i .assigned;
 }
 
 pub start-shape : (h : Counts) → Shape (start h)
@@ -79,7 +84,7 @@ start-range m h a = record {
   events = zero-le;
   hold = λ l k. rw (same-all 8 l noHold) (record { holder = zero-le; depth = zero-le; none = λ e. refl; some = λ e. refl });
   locked = λ t k. rw (same-all {A = ℕ} 8 t 0) zero-le;
-  cell = λ i k. rw (same-all 128 i blank) (zero-le, zero-le);
+  cell = λ i k. rw (same-all 128 i blank) (record { source = zero-le; written = zero-le; loaded = zero-le; used = zero-le; assigned = zero-le });
   reads = λ i k. rw (same-all 128 i blank) (zero-le, tt);
   stores = λ i k. rw (same-all 128 i blank) (zero-le, tt);
 }

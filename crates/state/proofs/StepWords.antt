@@ -26,9 +26,9 @@ use Rattle.state.proofs.Rings.{queued-length, queued-after, queued-apar
 use Rattle.rules.specs.declared.Event.{Event}
 use Rattle.rules.specs.declared.Slot.{Slot}
 use Rattle.rules.specs.declared.Kind.{Kind}
-use Rattle.rules.specs.Events.{A, B, K, L, N, P, R, S, W, letter, place, value, among, is, of, on, locks, unlocks}
+use Rattle.rules.specs.Events.{A, B, K, L, N, P, R, S, U, W, letter, place, value, among, is, of, on, locks, unlocks}
 use Rattle.rules.specs.Limits.{most}
-use Rattle.rules.specs.Words.{first, by, locksBy, acquires, releases}
+use Rattle.rules.specs.Words.{first, accesses, by, locksBy, acquires, releases}
 use Rattle.rules.specs.Rules.{loc, judge, some}
 use Rattle.rules.proofs.Laws.{or-false-left, or-false-right, lock-free, unlock-held, read-room, store-room, prescient-room}
 use Rattle.rules.proofs.Next.{others, next}
@@ -506,6 +506,11 @@ step-words s e h w r p = λ i. record {
   lastLock = λ t. (locked-after s e h w t ∙ ap (λ (z : ℕ). cond (locksBy t e) z (getD (s .locked) t 0)) (add-one (s .events))) i;
   depth = λ t m. depth-after s e h w r p t m i;
   main = λ v. main-after s e h w v i;
+  afterLoad = λ t v. plain (λ c. c .«after_load») accesses (is (L ∷ []) e) tt (λ t v. unfold nextCell is in refl) t v i;
+  afterAssign = λ t v. plain (λ c. c .«after_assign») accesses (is (A ∷ []) e) tt (λ t v. unfold nextCell is in refl) t v i;
+  loadedRead = λ t v. varied (λ c. c .loaded) (L ∷ []) (λ t v. first (readsAt s t v) .position) tt (λ t v. unfold nextCell in refl) t v i;
+  usedRead = λ t v. varied (λ c. c .used) (U ∷ []) (λ t v. cellAt s t v .loaded) tt (λ t v. unfold nextCell in refl) t v i;
+  lastAssign = λ t v. (plain (λ c. c .assigned) (A ∷ []) at tt (λ t v. unfold nextCell in refl) t v ∙ ap (λ (z : ℕ). cond (by (A ∷ []) t v e) z (cellAt s t v .assigned)) (add-one (s .events))) i;
 }
   where
     k : ℕ
@@ -535,11 +540,17 @@ step-words s e h w r p = λ i. record {
     field f true false y c d q = refl
     field f false false y c d q = refl
 
+    -- a field that events with these letters set, to what the cell and its queues have
+    varied : {X : Type 0} (f : Cell → X) (ks : List ℕ) (y : ℕ → ℕ → X) → T (disjoint ks (K ∷ N ∷ []))
+        → ((t v : ℕ) → f (after t v) ≡ cond (among ks k) (y t v) (f (cellAt s t v))) → (t v : ℕ)
+        → f (cellAt (stepState s e) t v) ≡ cond (by ks t v e) (y t v) (f (cellAt s t v))
+    varied f ks y n q t v =
+        rw (cell-after s e h w t v, by-at ks n t v e) (field f (among ks k) (eqb a t && eqb b v) (y t v) (cellAt s t v) (after t v) (q t v))
+
     plain : {X : Type 0} (f : Cell → X) (ks : List ℕ) (y : X) → T (disjoint ks (K ∷ N ∷ []))
         → ((t v : ℕ) → f (after t v) ≡ cond (among ks k) y (f (cellAt s t v))) → (t v : ℕ)
         → f (cellAt (stepState s e) t v) ≡ cond (by ks t v e) y (f (cellAt s t v))
-    plain f ks y n q t v =
-        rw (cell-after s e h w t v, by-at ks n t v e) (field f (among ks k) (eqb a t && eqb b v) y (cellAt s t v) (after t v) (q t v))
+    plain f ks y n q t v = varied f ks (λ t v. y) n q t v
 
     new : Slot
     new = record { value = x; position = suc (s .events) }
@@ -554,9 +565,31 @@ step-words s e h w r p = λ i. record {
         (unfold readsAt in rw (cell-after s e h w t v) (unfold stepState readAfter in
         queue-after (λ c. c .reads) (s .reads) s a b (record { value = x; position = at }) (among (R ∷ []) k) (among (L ∷ []) k) after refl (h .reads) (w .thread) (w .variable) (read-few s e p) (λ t v. unfold nextCell in refl) t v))
 
+    -- a store of T on V, where it is the next event
+    put : ℕ → ℕ → Slot
+    put t v = record { value = x; position = cond (among (S ∷ []) k) (cellAt s t v .assigned) at }
+
+    placed : ℕ → ℕ → Slot
+    placed t v = record { value = x; position = cond (is (S ∷ []) e) (cellAt s t v .assigned) (suc (s .events)) }
+
+    put-same : (t v : ℕ) → put t v ≡ placed t v
+    put-same t v = unfold is in λ i. record { value = x; position = cond (among (S ∷ []) k) (cellAt s t v .assigned) (add-one (s .events) i) }
+
+    -- it is put where the event is
+    put-there : (m z : Bool) (t v : ℕ) → (eqb a t && eqb b v) ≡ z → (ss rs : List Slot) → cond (m && z) (ss ++ (put a b ∷ [])) rs ≡ cond (m && z) (ss ++ (put t v ∷ [])) rs
+    put-there m true t v q ss rs = let r = both-true (eqb a t) (eqb b v) q in rw (eqb-true a t (r .0), eqb-true b v (r .1))
+    put-there true false t v q ss rs = refl
+    put-there false false t v q ss rs = refl
+
+    -- what is left where nothing is put
+    rest : ℕ → ℕ → List Slot
+    rest t v = cond (among (W ∷ []) k && (eqb a t && eqb b v)) (others (storesAt s t v)) (storesAt s t v)
+
     stores-after : (t v : ℕ) → storesAt (stepState s e) t v
-        ≡ cond (by (S ∷ P ∷ []) t v e) (storesAt s t v ++ (new ∷ [])) (cond (by (W ∷ []) t v e) (others (storesAt s t v)) (storesAt s t v))
+        ≡ cond (by (S ∷ P ∷ []) t v e) (storesAt s t v ++ (placed t v ∷ [])) (cond (by (W ∷ []) t v e) (others (storesAt s t v)) (storesAt s t v))
     stores-after t v =
-        rw (← new-same, by-at (S ∷ P ∷ []) tt t v e, by-at (W ∷ []) tt t v e)
+        rw (by-at (S ∷ P ∷ []) tt t v e, by-at (W ∷ []) tt t v e)
         (unfold storesAt in rw (cell-after s e h w t v) (unfold stepState storeAfter in
-        queue-after (λ c. c .stores) (s .stores) s a b (record { value = x; position = at }) (among (S ∷ P ∷ []) k) (among (W ∷ []) k) after refl (h .stores) (w .thread) (w .variable) (store-few s e p) (λ t v. unfold nextCell in refl) t v))
+        queue-after (λ c. c .stores) (s .stores) s a b (put a b) (among (S ∷ P ∷ []) k) (among (W ∷ []) k) after refl (h .stores) (w .thread) (w .variable) (store-few s e p) (λ t v. unfold nextCell in refl) t v)
+        ∙ put-there (among (S ∷ P ∷ []) k) (eqb a t && eqb b v) t v refl (storesAt s t v) (rest t v)
+        ∙ ap (λ (y : Slot). cond (among (S ∷ P ∷ []) k && (eqb a t && eqb b v)) (storesAt s t v ++ (y ∷ [])) (rest t v)) (put-same t v))

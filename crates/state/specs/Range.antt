@@ -30,7 +30,7 @@ unfoldable pub holdsOk : State → Bool
 holdsOk s = every 8 (holdsIn s)
 
 abbrev pub cellOk : ℕ → Cell → Bool
-cellOk n c = leb (c .source) n && leb (c .written) n
+cellOk n c = leb (c .source) n && leb (c .written) n && leb (c .loaded) n && leb (c .used) n && leb (c .assigned) n
 
 abbrev pub cellsIn : State → ℕ → Bool
 cellsIn s i = cellOk (s .events) (getD (s .cells) i blank)

@@ -27,7 +27,21 @@ abbrev pub noRing : Ring
 noRing = record { first = 0; len = 0 }
 
 abbrev pub blank : Cell
-blank = record { copy = pos 0; announced = pos 0; source = 0; written = 0; reads = noRing; stores = noRing; fresh = false; pending = false }
+blank = record {
+  copy = pos 0;
+  announced = pos 0;
+  source = 0;
+  written = 0;
+  loaded = 0;
+  used = 0;
+  assigned = 0;
+  reads = noRing;
+  stores = noRing;
+  fresh = false;
+  pending = false;
+  «after_load» = false;
+  «after_assign» = false;
+}
 
 -- the n slots from the f-th on of the eight that begin at b, round and round
 unfoldable pub around : List Slot → ℕ → ℕ → ℕ → List Slot
@@ -68,6 +82,11 @@ wordsIn s = record {
   lastLock = λ t. getD (s .locked) t 0;
   depth = λ t l. depthOf (getD (s .holds) l noHold) t;
   main = λ v. getD (s .memory) v noMain .value;
+  afterLoad = λ t v. cellAt s t v .«after_load»;
+  afterAssign = λ t v. cellAt s t v .«after_assign»;
+  loadedRead = λ t v. cellAt s t v .loaded;
+  usedRead = λ t v. cellAt s t v .used;
+  lastAssign = λ t v. cellAt s t v .assigned;
 }
 
 -- the state before the first event of a trace with this head

@@ -15,8 +15,8 @@ use Rattle.rules.specs.declared.Event.{Event}
 use Rattle.rules.specs.declared.Slot.{Slot}
 use Rattle.rules.specs.declared.Counts.{Counts}
 use Rattle.rules.specs.declared.Kind.{Kind}
-use Rattle.rules.specs.Events.{A, B, K, L, N, P, R, S, W, letter, place, value, among}
-use Rattle.rules.specs.Words.{first}
+use Rattle.rules.specs.Events.{A, B, K, L, N, P, R, S, U, W, letter, place, value, among}
+use Rattle.rules.specs.Words.{first, accesses}
 
 -- one more at the end of a queue; a full one has no place for it
 abbrev pub pushed : Ring → Ring
@@ -33,18 +33,24 @@ nextCell p r k x c = record {
   announced = cond (among (P ∷ []) k) x (c .announced);
   source = cond (among (A ∷ B ∷ []) k) p (cond (among (L ∷ []) k) (max (c .source) (r .position)) (c .source));
   written = cond (among (W ∷ []) k) p (c .written);
+  loaded = cond (among (L ∷ []) k) (r .position) (c .loaded);
+  used = cond (among (U ∷ []) k) (c .loaded) (c .used);
+  assigned = cond (among (A ∷ []) k) p (c .assigned);
   reads = cond (among (R ∷ []) k) (pushed (c .reads)) (cond (among (L ∷ []) k) (popped (c .reads)) (c .reads));
   stores = cond (among (S ∷ P ∷ []) k) (pushed (c .stores)) (cond (among (W ∷ []) k) (popped (c .stores)) (c .stores));
   fresh = cond (among (A ∷ B ∷ S ∷ []) k) (among (A ∷ []) k) (c .fresh);
   pending = cond (among (P ∷ B ∷ []) k) (among (P ∷ []) k) (c .pending);
+  «after_load» = cond (among accesses k) (among (L ∷ []) k) (c .«after_load»);
+  «after_assign» = cond (among accesses k) (among (A ∷ []) k) (c .«after_assign»);
 }
 
--- the place behind the last outstanding read, and behind the last outstanding store
+-- the place behind the last outstanding read
 unfoldable pub readAfter : Slot → ℕ → ℤ → ℕ → Slot
 readAfter r k x p = cond (among (R ∷ []) k) (record { value = x; position = p }) r
 
-unfoldable pub storeAfter : Slot → ℕ → ℤ → ℕ → Slot
-storeAfter r k x p = cond (among (S ∷ P ∷ []) k) (record { value = x; position = p }) r
+-- the place behind the last outstanding store; a store has the position a of its assign, an early store its own
+unfoldable pub storeAfter : Slot → ℕ → ℤ → ℕ → ℕ → Slot
+storeAfter r k x a p = cond (among (S ∷ P ∷ []) k) (record { value = x; position = cond (among (S ∷ []) k) a p }) r
 
 -- a lock after an event on it by t; the last unlock leaves it without a holder
 unfoldable pub holdAfter : Hold → ℕ → ℕ → Hold
@@ -95,7 +101,7 @@ stepState s e =
       events = p;
       cells = set (s .cells) i (nextCell p (first (readsAt s t v)) k x c);
       reads = set (s .reads) rb (readAfter (getD (s .reads) rb noSlot) k x p);
-      stores = set (s .stores) sb (storeAfter (getD (s .stores) sb noSlot) k x p);
+      stores = set (s .stores) sb (storeAfter (getD (s .stores) sb noSlot) k x (c .assigned) p);
       locked = set (s .locked) t (lockedAfter (getD (s .locked) t 0) k p);
       holds = set (s .holds) l (holdAfter (getD (s .holds) l noHold) t k);
       memory = set (s .memory) v (mainAfter (getD (s .memory) v noMain) k x);

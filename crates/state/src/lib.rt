@@ -30,10 +30,17 @@ pub struct Cell {
     pub source: usize,
     // The position of the thread's last write on the variable.
     pub written: usize,
+    // The positions of the read of its latest load, of the read of its latest use, and of its latest A.
+    pub loaded: usize,
+    pub used: usize,
+    pub assigned: usize,
     pub reads: Ring,
     pub stores: Ring,
     pub fresh: bool,
     pub pending: bool,
+    // Whether its latest own event on the variable, R and W left aside, is an L, or an A.
+    pub after_load: bool,
+    pub after_assign: bool,
 }
 
 // Who holds a lock: the thread's number plus 1, or 0 where nobody does, and how many times.
@@ -70,10 +77,15 @@ pub fn initial(h: Counts) -> State
         announced: 0,
         source: 0,
         written: 0,
+        loaded: 0,
+        used: 0,
+        assigned: 0,
         reads: none,
         stores: none,
         fresh: false,
         pending: false,
+        after_load: false,
+        after_assign: false,
     };
     let slot = Slot {
         value: 0,
@@ -157,7 +169,8 @@ fn holds_ok(s: State) -> bool
 fn cell_ok(n: u32, c: Cell) -> bool
     ensures { λ r. ⌜ r ≡ cellOk n c ⌝ }
 {
-    (c.source <= n as usize) & (c.written <= n as usize)
+    let m = n as usize;
+    (c.source <= m) & (c.written <= m) & (c.loaded <= m) & (c.used <= m) & (c.assigned <= m)
 }
 
 fn cells_ok(s: State) -> bool

@@ -1,1 +1,2 @@
+pub mod VolatileLaws
 pub mod TraceLaws

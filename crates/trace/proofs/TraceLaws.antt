@@ -1,21 +1,24 @@
--- Laws of the head, the guards and the trailer; and what a trace that is found has.
+-- Laws of the head, the guards, line 3 and the trailer; and what a trace that is found has.
 use mathlib.Core.Path.{_≡_, refl, sym, ap, _∙_, subst}
-use mathlib.Core.Bool.{Bool, true, false, cond}
+use mathlib.Core.Bool.{Bool, true, false, cond, _&&_, false≢true}
 use mathlib.Core.List.{List, [], _∷_}
 use mathlib.Core.Logic.{_⊎_, inl, inr}
 use Prim.Native.Nat.{ℕ, suc, _≤_, _<_, _+_, _-_}
 use native.Mathlib.Omega.{arith}
 use native.Mathlib.Numerals.{add-one}
-use borrow.Author.Tests.{lt-ltb, le-ltb, ltb-true}
+use borrow.Author.Tests.{lt-ltb, le-ltb, ltb-true, ltb-false}
 use lib.Dec.{T, eqb, ltb}
 use lib.ListN.{length, getD, take, drop, set, length-take, length-drop, drop-of-length-le}
 use lib.Seq.{drop-cons, length-take-le, take-take, take-add, drop-at}
+use mir.Syntax.{Width}
 use Rattle.rules.specs.declared.Counts.{Counts}
+use Rattle.rules.specs.declared.Verdict.{Verdict}
 use Rattle.rules.specs.Events.{among}
-use Rattle.rules.specs.Limits.{Limits, full, allowed}
+use Rattle.rules.specs.Limits.{Limits, full, fullWith, noVolatiles, withFlags, volatile, anyVolatile, firstLine, allowed}
 use Rattle.rules.specs.Rules.{Marked, accepted, refused, said, numberIn, lineIn}
 use Rattle.lines.specs.Lines.{before, upTo, splitOn, letter}
-use Rattle.lines.proofs.FieldLaws.{up-le}
+use Rattle.rules.proofs.Bounds.{declares}
+use Rattle.lines.proofs.FieldLaws.{up-le, ended-drop, ended-before}
 use Rattle.decimal.specs.declared.Natural.{Natural}
 use Rattle.decimal.specs.declared.Natural.the-variants as natural
 use Rattle.decimal.specs.Decimal.{naturalOf}
@@ -23,9 +26,11 @@ use Rattle.trace.specs.declared.Trailer.{Trailer}
 use Rattle.trace.specs.declared.Trailer.the-variants as trailer
 use Rattle.trace.specs.declared.Headed.{Headed}
 use Rattle.trace.specs.declared.GuardLine.{GuardLine}
+use Rattle.trace.specs.declared.VolatileLine.{VolatileLine}
 use Rattle.trace.specs.declared.Guards.{Guards}
 use Rattle.trace.specs.declared.Trace.{Trace}
-use Rattle.trace.specs.Trace.{tooLong, wrongHead, overLimits, wrongGuards, checkAt, lastLine, trailerNumber, trailerOf, noHead, checkCounts, checkHead, headOf, badLine, lockLine, lockOf, locksFrom, guardsOf, unfound, withGuards, secondOf, behindHead, firstHead, firstOf, behindTrailer, traceOf, found}
+use Rattle.trace.specs.Trace.{tooLong, wrongHead, overLimits, wrongGuards, wrongVolatiles, checkAt, lastLine, trailerNumber, trailerOf, noHead, checkCounts, checkHead, headOf, badLine, lockLine, lockOf, locksFrom, guardsOf, volatilesOf, unfound, withGuards, secondOf, behindHead, firstHead, firstOf, behindTrailer, plainTraceOf, eventsOf, beginsWithV, withVolatiles, thirdOf, traceOf, meantVolatile, found}
+use Rattle.trace.proofs.VolatileLaws.{volatiles-flags, volatiles-named, any-some, any-none, none-volatile, allowed-with}
 
 pub trailer-none : (s : List ℕ) → length s ≡ 0 → trailer.Wrong ≡ trailerOf s
 unfolding trailerOf
@@ -59,26 +64,29 @@ counts-right c a = rw a refl
 pub counts-wrong : (c : Counts) → allowed full c ≡ false → noHead ≡ checkCounts c
 counts-wrong c a = rw a refl
 
--- a right head is allowed by the full limits
+-- a right head is allowed by the full limits, and no head names a volatile variable
 abbrev Fit : Headed → Type 0
-Fit r = r .ok ≡ true → allowed full (r .head) ≡ true
+Fit r = (r .ok ≡ true → allowed full (r .head) ≡ true) × (r .head .volatiles ≡ noVolatiles)
 
 fit-none : Fit noHead
-fit-none e = absurd (let z : _≡_ {A = ℕ} 0 1 = cc in omega arith)
+fit-none = (λ e. absurd (false≢true e), refl)
 
 fit-check : (t v l : Natural) → Fit (checkHead t v l)
 fit-check natural.Bad v l = fit-none
 fit-check (natural.Of t) natural.Bad l = fit-none
 fit-check (natural.Of t) (natural.Of v) natural.Bad = fit-none
-fit-check (natural.Of t) (natural.Of v) (natural.Of l) = by (record { threads = t; variables = v; locks = l }) _ refl
+fit-check (natural.Of t) (natural.Of v) (natural.Of l) = by (allowed full c) refl
   where
-    by : (c : Counts) (b : Bool) → allowed full c ≡ b → Fit (cond b (record { ok = true; head = c }) noHead)
-    by c true e = λ q. e
-    by c false e = fit-none
+    c : Counts
+    c = record { threads = t; variables = v; locks = l; volatiles = noVolatiles }
 
-pub head-allowed : (s : List ℕ) → firstHead s .ok ≡ true → allowed full (firstHead s .head) ≡ true
+    by : (b : Bool) → allowed full c ≡ b → Fit (cond b (record { ok = true; head = c }) noHead)
+    by true e = (λ q. e, refl)
+    by false e = fit-none
+
+head-fit : (s : List ℕ) → Fit (firstHead s)
 unfolding firstHead headOf
-head-allowed s = by (ltb (before 10 s) (length s)) (eqb (length fs) 4) (eqb (letter (getD fs 0 [])) 72) (checkHead (naturalOf (getD fs 1 [])) (naturalOf (getD fs 2 [])) (naturalOf (getD fs 3 []))) (fit-check (naturalOf (getD fs 1 [])) (naturalOf (getD fs 2 [])) (naturalOf (getD fs 3 [])))
+head-fit s = by (ltb (before 10 s) (length s)) (eqb (length fs) 4) (eqb (letter (getD fs 0 [])) 72) (checkHead (naturalOf (getD fs 1 [])) (naturalOf (getD fs 2 [])) (naturalOf (getD fs 3 []))) (fit-check (naturalOf (getD fs 1 [])) (naturalOf (getD fs 2 [])) (naturalOf (getD fs 3 [])))
   where
     fs : List (List ℕ)
     fs = splitOn 32 (take (before 10 s) s)
@@ -88,6 +96,12 @@ head-allowed s = by (ltb (before 10 s) (length s)) (eqb (length fs) 4) (eqb (let
     by true true false r f = fit-none
     by true false q r f = fit-none
     by false p q r f = fit-none
+
+pub head-allowed : (s : List ℕ) → firstHead s .ok ≡ true → allowed full (firstHead s .head) ≡ true
+head-allowed s = head-fit s .0
+
+pub head-plain : (s : List ℕ) → firstHead s .head .volatiles ≡ noVolatiles
+head-plain s = head-fit s .1
 
 -- ---- the trailer
 
@@ -144,89 +158,23 @@ module _ (m : Limits) (s : List ℕ) (e a : ℕ) (k : a ≡ before 10 s) (l : a 
   pub head-right : r .ok ≡ true → allowed m (r .head) ≡ true → secondOf (drop (a + 1) s) (a + 1) e (r .head) ≡ firstOf m s e
   head-right o p = let q : behindHead m s a e r ≡ secondOf (drop (a + 1) s) (a + 1) e (r .head) = rw (o, p) refl in sym q ∙ first-some
 
-pub trace-long : (m : Limits) (s : List ℕ) → m .bytes < length s → unfound tooLong ≡ traceOf m s
-unfolding traceOf
+pub trace-long : (m : Limits) (s : List ℕ) → m .bytes < length s → unfound tooLong ≡ plainTraceOf m s
+unfolding plainTraceOf
 trace-long m s h = rw (lt-ltb _ _ h)
 
-pub trace-short : (m : Limits) (s : List ℕ) → length s ≤ m .bytes → behindTrailer m s (trailerOf s) ≡ traceOf m s
-unfolding traceOf
+pub trace-short : (m : Limits) (s : List ℕ) → length s ≤ m .bytes → behindTrailer m s (trailerOf s) ≡ plainTraceOf m s
+unfolding plainTraceOf
 trace-short m s h = rw (le-ltb _ _ h)
 
--- ---- what finding gives: a refusal and nothing else; or an allowed head, guards, and a part that ends where the trailer starts
+-- line 3
+pub third-none : (u : List ℕ) (t : Trace) → beginsWithV u ≡ false → t ≡ thirdOf u t
+unfolding thirdOf
+third-none u t e = rw e
 
-module _ (m : Limits) (s : List ℕ) where
-  pub data Finding : Trace → Type 0 where
-    denied : (n line : ℕ) → T (among (1 ∷ 2 ∷ 3 ∷ 6 ∷ []) n) → Finding (unfound (said (refused n line)))
-    over : (h : Counts) → allowed full h ≡ true → allowed m h ≡ false → Finding (unfound (overLimits m))
-    given : (h : Counts) (g : Guards) (a e : ℕ) → allowed m h ≡ true → a ≤ e → trailerOf s ≡ trailer.At e
-        → Finding (record { verdict = said accepted; head = h; guards = g; from = a; to = e })
-
-  module _ (e : ℕ) (k : trailerOf s ≡ trailer.At e) where
-    finding-second : (u : List ℕ) (at : ℕ) (h : Counts) → allowed m h ≡ true → at + length u ≡ e → Finding (secondOf u at e h)
-    unfolding secondOf
-    finding-second u at h f l = by (ltb (before 10 u) (length u)) refl (guardsOf (h .variables) (h .locks) (splitOn 32 (take (before 10 u) u)))
-      where
-        on : (a : ℕ) (g : GuardLine) (o : Bool) → a ≤ e
-            → Finding (cond o (record { verdict = said accepted; head = h; guards = record { given = g .given; locks = g .locks }; from = a; to = e }) (unfound wrongGuards))
-        on a g true q = given h (record { given = g .given; locks = g .locks }) a e f q k
-        on a g false q = denied 6 2 tt
-
-        by : (q : Bool) → ltb (before 10 u) (length u) ≡ q → (g : GuardLine) → Finding (cond q (withGuards (at + before 10 u + 1) e h g) (unfound wrongGuards))
-        by false r g = denied 6 2 tt
-        by true r g = on (at + before 10 u + 1) g (g .ok) (omega (arith, l, ltb-true (before 10 u) (length u) r))
-
-    finding-first : (u : List ℕ) → length u ≡ e → Finding (firstOf m u e)
-    unfolding firstOf firstHead
-    finding-first u l = by (ltb (before 10 u) (length u)) refl (firstHead u) refl (head-allowed u)
-      where
-        on : (h : Counts) (o p : Bool) → (o ≡ true → allowed full h ≡ true) → allowed m h ≡ p → before 10 u < length u
-            → Finding (cond o (cond p (secondOf (drop (before 10 u + 1) u) (before 10 u + 1) e h) (unfound (overLimits m))) (unfound wrongHead))
-        on h true true f q i = finding-second (drop (before 10 u + 1) u) (before 10 u + 1) h q (omega (arith, l, length-drop (before 10 u + 1) u))
-        on h true false f q i = over h (f refl) q
-        on h false p f q i = denied 3 1 tt
-
-        by : (q : Bool) → ltb (before 10 u) (length u) ≡ q → (r : Headed) → r ≡ firstHead u → (r .ok ≡ true → allowed full (r .head) ≡ true) → Finding (behindHead m u (before 10 u) e r)
-        by true z r k f = on (r .head) (r .ok) (allowed m (r .head)) f refl (ltb-true (before 10 u) (length u) z)
-        by false z r k f =
-            let none : firstHead u ≡ noHead = (unfold firstHead in rw z refl) in
-            subst (λ (x : Headed). Finding (behindHead m u (before 10 u) e x)) (sym (k ∙ none)) (denied 3 1 tt)
-
-  pub finding : Finding (traceOf m s)
-  unfolding traceOf
-  finding = by (ltb (m .bytes) (length s)) (trailerOf s) refl
-    where
-      by : (q : Bool) (t : Trailer) → trailerOf s ≡ t → Finding (cond q (unfound tooLong) (behindTrailer m s t))
-      by true t r = denied 1 0 tt
-      by false trailer.Wrong r = denied 2 0 tt
-      by false (trailer.At e) r = finding-first e r (take e s) (length-take-le e s (trailer-le s e r))
-
--- a trace that is found has an allowed head
-pub found-allowed : (m : Limits) (s : List ℕ) → found (traceOf m s) ≡ accepted → allowed m (traceOf m s .head) ≡ true
-found-allowed m s = by (finding m s)
-  where
-    by : {t : Trace} → Finding m s t → found t ≡ accepted → allowed m (t .head) ≡ true
-    by (denied n line o) q = absurd (let z : _≡_ {A = ℕ} 0 1 = cc in omega arith)
-    by (over h f k) q = absurd (let z : _≡_ {A = ℕ} 0 1 = cc in omega arith)
-    by (given h g a e f l k) q = f
-
--- one that is not found is refused with 1, 2, 3 or 6, or for counts that the full limits allow and m does not, at line 1
-pub found-number : (m : Limits) (s : List ℕ) (n line : ℕ) → found (traceOf m s) ≡ refused n line
-    → T (among (1 ∷ 2 ∷ 3 ∷ 6 ∷ []) n) ⊎ ((h : Counts) × (allowed full h ≡ true) × (allowed m h ≡ false) × (n ≡ m .excess) × (line ≡ 1))
-found-number m s n line = by (finding m s)
-  where
-    by : {t : Trace} → Finding m s t → found t ≡ refused n line → T (among (1 ∷ 2 ∷ 3 ∷ 6 ∷ []) n) ⊎ ((h : Counts) × (allowed full h ≡ true) × (allowed m h ≡ false) × (n ≡ m .excess) × (line ≡ 1))
-    by (denied k l o) q = inl (subst (λ (i : ℕ). T (among (1 ∷ 2 ∷ 3 ∷ 6 ∷ []) i)) (ap numberIn q) o)
-    by (over h f k) q = inr (h, f, k, sym (ap numberIn q), sym (ap lineIn q))
-    by (given h g a e f l k) q = absurd (let z : _≡_ {A = ℕ} 0 1 = cc in omega arith)
-
--- of a trace that is refused nothing is kept
-pub not-found : (m : Limits) (s : List ℕ) (n line : ℕ) → found (traceOf m s) ≡ refused n line → traceOf m s ≡ unfound (said (refused n line))
-not-found m s n line = by (finding m s)
-  where
-    by : {t : Trace} → Finding m s t → found t ≡ refused n line → t ≡ unfound (said (refused n line))
-    by (denied k l o) q = ap (λ (v : Marked). unfound (said v)) q
-    by (over h f k) q = ap (λ (v : Marked). unfound (said v)) q
-    by (given h g a e f l k) q = absurd (let z : _≡_ {A = ℕ} 0 1 = cc in omega arith)
+pub third-some : (u : List ℕ) (t : Trace) → beginsWithV u ≡ true → (b : ℕ) → b ≡ before 10 u
+    → withVolatiles (b + 1) t (volatilesOf (t .head .variables) (splitOn 32 (take b u))) ≡ thirdOf u t
+unfolding thirdOf
+third-some u t e b k = rw (k, e)
 
 -- ---- the part that holds the events
 
@@ -249,21 +197,9 @@ last-ended s =
     let e : take (lastLine s) u ≡ take (lastLine s) s = take-take (lastLine s) (length s - 1) s (last-le s) in
     ap (upTo 10) (sym e) ∙ up-take 10 u
 
--- The part that holds the events lies in the bytes w, and what stands up to its end is whole lines; it is empty after a refusal.
-pub record Lies (t : Trace) (w : List ℕ) : Type 0 where
-  pub start : t .from ≤ t .to
-  pub end : t .to ≤ length w
-  pub ended : upTo 10 (take (t .to) w) ≡ t .to
-
-pub lies : (m : Limits) (s : List ℕ) → Lies (traceOf m s) s
-lies m s = by (finding m s)
-  where
-    by : {t : Trace} → Finding m s t → Lies t s
-    by (denied n line o) = record { start = omega arith; end = omega arith; ended = unfold upTo in refl }
-    by (over h f k) = record { start = omega arith; end = omega arith; ended = unfold upTo in refl }
-    by (given h g a e f l k) =
-        let p = trailer-at s e k in
-        record { start = l; end = trailer-le s e k; ended = ap (λ (i : ℕ). upTo 10 (take i s)) p ∙ last-ended s ∙ sym p }
+-- what stands before the trailer is whole lines
+trailer-ended : (s : List ℕ) (e : ℕ) → trailerOf s ≡ trailer.At e → upTo 10 (take e s) ≡ e
+trailer-ended s e k = let p = trailer-at s e k in ap (λ (i : ℕ). upTo 10 (take i s)) p ∙ last-ended s ∙ sym p
 
 -- the part between two places
 pub part-drop : (a e : ℕ) (s : List ℕ) → a ≤ e → e ≤ length s → take (e - a) (drop a s) ≡ drop a (take e s)
@@ -271,3 +207,266 @@ part-drop a e s h k =
     let m : e ≡ a + (e - a) = omega arith in
     sym (ap (λ (i : ℕ). drop a (take i s)) m ∙ ap (drop a) (take-add a (e - a) s)
     ∙ drop-at (take a s) (take (e - a) (drop a s)) a (length-take-le a s (omega arith)))
+
+-- a part in front of the trailer has a first line where it has a first byte
+begins-some : (u : List ℕ) → beginsWithV u ≡ true → 0 < length u
+begins-some [] q = absurd (false≢true q)
+begins-some (x ∷ xs) q = omega arith
+
+line-within : (s : List ℕ) (a e : ℕ) → a ≤ e → trailerOf s ≡ trailer.At e → beginsWithV (take (e - a) (drop a s)) ≡ true → a + (before 10 (take (e - a) (drop a s)) + 1) ≤ e
+line-within s a e l k q =
+    let u = take (e - a) (drop a s) in
+    let w = trailer-le s e k in
+    let p = part-drop a e s l w in
+    let n : length u ≡ e - a = length-take-le (e - a) (drop a s) (omega (arith, length-drop a s)) in
+    let f : upTo 10 (take e s) ≡ length (take e s) = trailer-ended s e k ∙ sym (length-take-le e s w) in
+    let z : upTo 10 u ≡ length u = ap (upTo 10) p ∙ ended-drop 10 a (take e s) f ∙ sym (ap length p) in
+    omega (arith, n, ended-before 10 u z (begins-some u q))
+
+-- ---- what finding gives: a refusal and nothing else; or an allowed head, guards, and a part that ends where the trailer starts
+
+module _ (m : Limits) where
+  -- a head that is found, where b says whether a variable is volatile
+  pub record Head (b : Bool) (h : Counts) : Type 0 where
+    pub fit : allowed m h ≡ true
+    pub few : h .variables ≤ full .variables
+    pub size : length (h .volatiles) ≡ full .variables
+    pub any : anyVolatile h ≡ b
+
+  plain-head : (h : Counts) → h .volatiles ≡ noVolatiles → allowed full h ≡ true → allowed m h ≡ true → Head false h
+  plain-head h q f a = record { fit = a; few = declares full h f .variables; size = ap length q; any = any-none h q }
+
+  -- one with the variables of a right `V` line
+  volatile-head : {b : Bool} (h : Counts) (fs : List (List ℕ)) → Head b h → volatilesOf (h .variables) fs .ok ≡ true → Head true (withFlags h (volatilesOf (h .variables) fs .volatiles))
+  volatile-head h fs w o =
+      let g = volatilesOf (h .variables) fs .volatiles in
+      let f = volatiles-flags (h .variables) fs in
+      let k = volatiles-named (h .variables) (w .few) fs o in
+      record { fit = allowed-with m h g f (w .fit); few = w .few; size = f .size; any = any-some (withFlags h g) (k .0) (k .1) (k .2) }
+
+module _ (m : Limits) (s : List ℕ) where
+  pub data Finding (b : Bool) : Trace → Type 0 where
+    denied : (n line : ℕ) → T (among (1 ∷ 2 ∷ 3 ∷ 6 ∷ []) n) → Finding b (unfound (said (refused n line)))
+    over : (h : Counts) → allowed full h ≡ true → allowed m h ≡ false → Finding b (unfound (overLimits m))
+    given : (h : Counts) (g : Guards) (a e : ℕ) → Head m b h → a ≤ e → trailerOf s ≡ trailer.At e → length s ≤ m .bytes
+        → Finding b (record { verdict = said accepted; head = h; guards = g; from = a; to = e })
+
+  module _ (e : ℕ) (k : trailerOf s ≡ trailer.At e) (few : length s ≤ m .bytes) where
+    finding-second : (u : List ℕ) (at : ℕ) (h : Counts) → Head m false h → at + length u ≡ e → Finding false (secondOf u at e h)
+    unfolding secondOf
+    finding-second u at h f l = by (ltb (before 10 u) (length u)) refl (guardsOf (h .variables) (h .locks) (splitOn 32 (take (before 10 u) u)))
+      where
+        on : (a : ℕ) (g : GuardLine) (o : Bool) → a ≤ e
+            → Finding false (cond o (record { verdict = said accepted; head = h; guards = record { given = g .given; locks = g .locks }; from = a; to = e }) (unfound wrongGuards))
+        on a g true q = given h (record { given = g .given; locks = g .locks }) a e f q k few
+        on a g false q = denied 6 2 tt
+
+        by : (q : Bool) → ltb (before 10 u) (length u) ≡ q → (g : GuardLine) → Finding false (cond q (withGuards (at + before 10 u + 1) e h g) (unfound wrongGuards))
+        by false r g = denied 6 2 tt
+        by true r g = on (at + before 10 u + 1) g (g .ok) (omega (arith, l, ltb-true (before 10 u) (length u) r))
+
+    finding-first : (u : List ℕ) → length u ≡ e → Finding false (firstOf m u e)
+    unfolding firstOf firstHead
+    finding-first u l = by (ltb (before 10 u) (length u)) refl (firstHead u) refl (head-allowed u) (head-plain u)
+      where
+        on : (h : Counts) (o p : Bool) → (o ≡ true → allowed full h ≡ true) → h .volatiles ≡ noVolatiles → allowed m h ≡ p → before 10 u < length u
+            → Finding false (cond o (cond p (secondOf (drop (before 10 u + 1) u) (before 10 u + 1) e h) (unfound (overLimits m))) (unfound wrongHead))
+        on h true true f v q i = finding-second (drop (before 10 u + 1) u) (before 10 u + 1) h (plain-head m h v (f refl) q) (omega (arith, l, length-drop (before 10 u + 1) u))
+        on h true false f v q i = over h (f refl) q
+        on h false p f v q i = denied 3 1 tt
+
+        by : (q : Bool) → ltb (before 10 u) (length u) ≡ q → (r : Headed) → r ≡ firstHead u → (r .ok ≡ true → allowed full (r .head) ≡ true) → r .head .volatiles ≡ noVolatiles
+            → Finding false (behindHead m u (before 10 u) e r)
+        by true z r k f v = on (r .head) (r .ok) (allowed m (r .head)) f v refl (ltb-true (before 10 u) (length u) z)
+        by false z r k f v =
+            let none : firstHead u ≡ noHead = (unfold firstHead in rw z refl) in
+            subst (λ (x : Headed). Finding false (behindHead m u (before 10 u) e x)) (sym (k ∙ none)) (denied 3 1 tt)
+
+  -- lines 1 and 2
+  pub finding-plain : Finding false (plainTraceOf m s)
+  unfolding plainTraceOf
+  finding-plain = by (ltb (m .bytes) (length s)) refl (trailerOf s) refl
+    where
+      by : (q : Bool) → ltb (m .bytes) (length s) ≡ q → (t : Trailer) → trailerOf s ≡ t → Finding false (cond q (unfound tooLong) (behindTrailer m s t))
+      by true l t r = denied 1 0 tt
+      by false l trailer.Wrong r = denied 2 0 tt
+      by false l (trailer.At e) r = finding-first e r (ltb-false (m .bytes) (length s) l) (take e s) (length-take-le e s (trailer-le s e r))
+
+  -- line 3
+  finding-third : (h : Counts) (g : Guards) (a e : ℕ) (u : List ℕ) → Head m false h → a ≤ e → trailerOf s ≡ trailer.At e → length s ≤ m .bytes → u ≡ take (e - a) (drop a s)
+      → Finding (beginsWithV u) (thirdOf u (record { verdict = said accepted; head = h; guards = g; from = a; to = e }))
+  unfolding thirdOf
+  finding-third h g a e u f l k few q = by (beginsWithV u) refl
+    where
+      n : ℕ
+      n = before 10 u + 1
+
+      fs : List (List ℕ)
+      fs = splitOn 32 (take (before 10 u) u)
+
+      r : VolatileLine
+      r = volatilesOf (h .variables) fs
+
+      on : (o : Bool) → r .ok ≡ o → a + n ≤ e → Finding true (cond o (record { verdict = said accepted; head = withFlags h (r .volatiles); guards = g; from = a + n; to = e }) (unfound wrongVolatiles))
+      on true z w = given (withFlags h (r .volatiles)) g (a + n) e (volatile-head m h fs f z) w k few
+      on false z w = denied 6 3 tt
+
+      by : (b : Bool) → beginsWithV u ≡ b
+          → Finding b (cond b (withVolatiles n (record { verdict = said accepted; head = h; guards = g; from = a; to = e }) r) (record { verdict = said accepted; head = h; guards = g; from = a; to = e }))
+      by true z = on (r .ok) refl (rw q (line-within s a e l k (ap beginsWithV (sym q) ∙ z)))
+      by false z = given h g a e f l k few
+
+  pub finding : Finding (meantVolatile m s) (traceOf m s)
+  unfolding traceOf meantVolatile eventsOf thirdOf
+  finding = by (m .volatiles) finding-plain
+    where
+      on : {t : Trace} → Finding false t → Finding (beginsWithV (eventsOf s t)) (thirdOf (eventsOf s t) t)
+      on (denied n line o) = denied n line o
+      on (over h f q) = over h f q
+      on (given h g a e f l k few) = finding-third h g a e (take (e - a) (drop a s)) f l k few refl
+
+      by : (b : Bool) {t : Trace} → Finding false t → Finding (b && beginsWithV (eventsOf s t)) (cond b (thirdOf (eventsOf s t) t) t)
+      by true f = on f
+      by false f = f
+
+-- a trace that is found has an allowed head
+pub found-allowed : (m : Limits) (s : List ℕ) → found (traceOf m s) ≡ accepted → allowed m (traceOf m s .head) ≡ true
+found-allowed m s = by (finding m s)
+  where
+    by : {b : Bool} {t : Trace} → Finding m s b t → found t ≡ accepted → allowed m (t .head) ≡ true
+    by (denied n line o) q = absurd (let z : _≡_ {A = ℕ} 0 1 = cc in omega arith)
+    by (over h f k) q = absurd (let z : _≡_ {A = ℕ} 0 1 = cc in omega arith)
+    by (given h g a e f l k few) q = f .fit
+
+-- one that is not found is refused with 1, 2, 3 or 6, or for counts that the full limits allow and m does not, at line 1
+pub found-number : (m : Limits) (s : List ℕ) (n line : ℕ) → found (traceOf m s) ≡ refused n line
+    → T (among (1 ∷ 2 ∷ 3 ∷ 6 ∷ []) n) ⊎ ((h : Counts) × (allowed full h ≡ true) × (allowed m h ≡ false) × (n ≡ m .excess) × (line ≡ 1))
+found-number m s n line = by (finding m s)
+  where
+    by : {b : Bool} {t : Trace} → Finding m s b t → found t ≡ refused n line → T (among (1 ∷ 2 ∷ 3 ∷ 6 ∷ []) n) ⊎ ((h : Counts) × (allowed full h ≡ true) × (allowed m h ≡ false) × (n ≡ m .excess) × (line ≡ 1))
+    by (denied k l o) q = inl (subst (λ (i : ℕ). T (among (1 ∷ 2 ∷ 3 ∷ 6 ∷ []) i)) (ap numberIn q) o)
+    by (over h f k) q = inr (h, f, k, sym (ap numberIn q), sym (ap lineIn q))
+    by (given h g a e f l k few) q = absurd (let z : _≡_ {A = ℕ} 0 1 = cc in omega arith)
+
+-- of a trace that is refused nothing is kept
+pub not-found : (m : Limits) (s : List ℕ) (n line : ℕ) → found (traceOf m s) ≡ refused n line → traceOf m s ≡ unfound (said (refused n line))
+not-found m s n line = by (finding m s)
+  where
+    by : {b : Bool} {t : Trace} → Finding m s b t → found t ≡ refused n line → t ≡ unfound (said (refused n line))
+    by (denied k l o) q = ap (λ (v : Marked). unfound (said v)) q
+    by (over h f k) q = ap (λ (v : Marked). unfound (said v)) q
+    by (given h g a e f l k few) q = absurd (let z : _≡_ {A = ℕ} 0 1 = cc in omega arith)
+
+-- The part that holds the events lies in the bytes w, and what stands up to its end is whole lines; it is empty after a refusal.
+pub record Lies (t : Trace) (w : List ℕ) : Type 0 where
+  pub start : t .from ≤ t .to
+  pub end : t .to ≤ length w
+  pub ended : upTo 10 (take (t .to) w) ≡ t .to
+
+module _ (m : Limits) (s : List ℕ) where
+  lies-found : {b : Bool} {t : Trace} → Finding m s b t → Lies t s
+  lies-found (denied n line o) = record { start = omega arith; end = omega arith; ended = unfold upTo in refl }
+  lies-found (over h f k) = record { start = omega arith; end = omega arith; ended = unfold upTo in refl }
+  lies-found (given h g a e f l k few) = record { start = l; end = trailer-le s e k; ended = trailer-ended s e k }
+
+  pub lies : Lies (traceOf m s) s
+  lies = lies-found (finding m s)
+
+  -- the same of what stands behind line 2, whose counts have no more variables than there are flags
+  pub plain-lies : Lies (plainTraceOf m s) s
+  plain-lies = lies-found (finding-plain m s)
+
+  pub plain-fits : (plainTraceOf m s .to ≤ m .bytes) × (plainTraceOf m s .head .variables ≤ full .variables)
+  plain-fits = by (finding-plain m s)
+    where
+      by : {t : Trace} → Finding m s false t → (t .to ≤ m .bytes) × (t .head .variables ≤ full .variables)
+      by (denied n line o) = (omega arith, omega arith)
+      by (over h f k) = (omega arith, omega arith)
+      by (given h g a e f l k few) = (omega (arith, trailer-le s e k), f .few)
+
+-- ---- the `V` line
+
+module _ (m : Limits) (s : List ℕ) where
+  -- without one the trace is what it was without document 02 (f)
+  pub plain-trace : meantVolatile m s ≡ false → traceOf m s ≡ plainTraceOf m s
+  unfolding traceOf meantVolatile
+  plain-trace q = by (m .volatiles) q
+    where
+      by : (b : Bool) → b && beginsWithV (eventsOf s (plainTraceOf m s)) ≡ false → cond b (thirdOf (eventsOf s (plainTraceOf m s)) (plainTraceOf m s)) (plainTraceOf m s) ≡ plainTraceOf m s
+      by true q = sym (third-none (eventsOf s (plainTraceOf m s)) (plainTraceOf m s) q)
+      by false q = refl
+
+  pub never-meant : m .volatiles ≡ false → meantVolatile m s ≡ false
+  unfolding meantVolatile
+  never-meant q = rw q refl
+
+  -- and where lines 1 and 2 refuse it, line 3 is not looked at
+  pub trace-unfound : (v : Verdict) → plainTraceOf m s ≡ unfound v → traceOf m s ≡ unfound v
+  unfolding meantVolatile eventsOf
+  trace-unfound v q = plain-trace (by (m .volatiles)) ∙ q
+    where
+      by : (b : Bool) → b && beginsWithV (take (plainTraceOf m s .to - plainTraceOf m s .from) (drop (plainTraceOf m s .from) s)) ≡ false
+      by true = ap (λ (t : Trace). beginsWithV (take (t .to - t .from) (drop (t .from) s))) q
+      by false = refl
+
+  flags-found : {b : Bool} {t : Trace} → Finding m s b t → length (t .head .volatiles) ≡ full .variables
+  flags-found (denied n line o) = refl
+  flags-found (over h f k) = refl
+  flags-found (given h g a e f l k few) = f .size
+
+  -- there is a flag for each variable that a trace may have
+  pub flags-sized : length (traceOf m s .head .volatiles) ≡ full .variables
+  flags-sized = flags-found (finding m s)
+
+  -- A trace that is found has a volatile variable exactly where a line 3 is meant as a `V` line.
+  pub found-volatile : found (traceOf m s) ≡ accepted → anyVolatile (traceOf m s .head) ≡ meantVolatile m s
+  found-volatile = by (finding m s)
+    where
+      by : {b : Bool} {t : Trace} → Finding m s b t → found t ≡ accepted → anyVolatile (t .head) ≡ b
+      by (denied n line o) q = absurd (let z : _≡_ {A = ℕ} 0 1 = cc in omega arith)
+      by (over h f k) q = absurd (let z : _≡_ {A = ℕ} 0 1 = cc in omega arith)
+      by (given h g a e f l k few) q = f .any
+
+  -- With it events start at line 4.
+  pub found-line : found (traceOf m s) ≡ accepted → firstLine (traceOf m s .head) ≡ cond (meantVolatile m s) 4 3
+  unfolding firstLine
+  found-line q = ap (λ (b : Bool). cond b 4 3) (found-volatile q)
+
+  -- without one no variable is volatile, also where nothing is found
+  plain-any : anyVolatile (plainTraceOf m s .head) ≡ false
+  plain-any = by (finding-plain m s)
+    where
+      by : {t : Trace} → Finding m s false t → anyVolatile (t .head) ≡ false
+      by (denied n line o) = any-none _ refl
+      by (over h f k) = any-none _ refl
+      by (given h g a e f l k few) = f .any
+
+  pub plain-none : meantVolatile m s ≡ false → anyVolatile (traceOf m s .head) ≡ false
+  plain-none q = ap (λ (t : Trace). anyVolatile (t .head)) (plain-trace q) ∙ plain-any
+
+  pub plain-volatile : meantVolatile m s ≡ false → (v : ℕ) → volatile (traceOf m s .head) v ≡ false
+  plain-volatile q = none-volatile (traceOf m s .head) flags-sized (plain-none q)
+
+  pub plain-line : meantVolatile m s ≡ false → firstLine (traceOf m s .head) ≡ 3
+  unfolding firstLine
+  plain-line q = ap (λ (b : Bool). cond b 4 3) (plain-none q)
+
+-- ---- other limits
+
+-- where lines 1 and 2 give the same, so does line 3
+pub trace-same : (m n : Limits) (s : List ℕ) → m .volatiles ≡ n .volatiles → plainTraceOf m s ≡ plainTraceOf n s → traceOf m s ≡ traceOf n s
+unfolding traceOf
+trace-same m n s q p = λ i. cond (q i) (thirdOf (eventsOf s (p i)) (p i)) (p i)
+
+-- lines 1 and 2 hang neither on the scratch, nor on the width of values, nor on a `V` line
+pub plain-with : (k : ℕ) (w : Width) (b : Bool) (s : List ℕ) → plainTraceOf (fullWith k w b) s ≡ plainTraceOf full s
+unfolding plainTraceOf firstOf allowed
+plain-with k w b s = ap (cond (ltb (full .bytes) (length s)) (unfound tooLong)) (behind (trailerOf s))
+  where
+    behind : (t : Trailer) → behindTrailer (fullWith k w b) s t ≡ behindTrailer full s t
+    behind trailer.Wrong = refl
+    behind (trailer.At e) = refl
+
+-- with a `V` line and without, a paper that has none is found alike
+pub plain-alike : (k : ℕ) (w : Width) (s : List ℕ) → meantVolatile full s ≡ false → traceOf (fullWith k w false) s ≡ traceOf full s
+plain-alike k w s q = plain-trace (fullWith k w false) s (never-meant (fullWith k w false) s refl) ∙ plain-with k w false s ∙ sym (plain-trace full s q)

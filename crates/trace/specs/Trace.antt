@@ -1,12 +1,12 @@
--- A trace, which document 01 calls a paper: its trailer, head and guards, and the part that holds the events.
+-- A trace, which document 01 calls a paper: its trailer, head, guards and volatile variables, and the part that holds the events.
 use Prim.Native.Nat.{ℕ, _+_, _-_}
 use mathlib.Core.List.{List, [], _∷_}
-use mathlib.Core.Bool.{Bool, true, false, cond}
-use lib.Dec.{eqb, ltb}
+use mathlib.Core.Bool.{Bool, true, false, cond, _&&_}
+use lib.Dec.{eqb, ltb, leb}
 use lib.ListN.{length, getD, take, drop, set, replicate}
 use Rattle.rules.specs.declared.Counts.{Counts}
 use Rattle.rules.specs.declared.Verdict.{Verdict}
-use Rattle.rules.specs.Limits.{Limits, full, allowed}
+use Rattle.rules.specs.Limits.{Limits, full, noVolatiles, withFlags, allowed}
 use Rattle.rules.specs.Rules.{Marked, accepted, refused, told, said}
 use Rattle.lines.specs.Lines.{before, upTo, splitOn, letter}
 use Rattle.decimal.specs.declared.Natural.{Natural}
@@ -16,6 +16,7 @@ use Rattle.trace.specs.declared.Trailer.{Trailer}
 use Rattle.trace.specs.declared.Trailer.the-variants as trailer
 use Rattle.trace.specs.declared.Headed.{Headed}
 use Rattle.trace.specs.declared.GuardLine.{GuardLine}
+use Rattle.trace.specs.declared.VolatileLine.{VolatileLine}
 use Rattle.trace.specs.declared.Guards.{Guards}
 use Rattle.trace.specs.declared.Trace.{Trace}
 
@@ -40,6 +41,10 @@ overLimits m = said (refused (m .excess) 1)
 -- 6. `G` line wrong: form, count, or undeclared lock (line 2).
 abbrev pub wrongGuards : Verdict
 wrongGuards = said (refused 6 2)
+
+-- A wrong or empty `V` line is 6 at line 3.
+abbrev pub wrongVolatiles : Verdict
+wrongVolatiles = said (refused 6 3)
 
 -- ---- the trailer
 
@@ -67,7 +72,7 @@ trailerOf s =
 -- ---- the head
 
 abbrev pub noCounts : Counts
-noCounts = record { threads = 0; variables = 0; locks = 0 }
+noCounts = record { threads = 0; variables = 0; locks = 0; volatiles = noVolatiles }
 
 -- a wrong line 1
 abbrev pub noHead : Headed
@@ -81,7 +86,7 @@ abbrev pub checkHead : Natural → Natural → Natural → Headed
 checkHead natural.Bad v l = noHead
 checkHead (natural.Of t) natural.Bad l = noHead
 checkHead (natural.Of t) (natural.Of v) natural.Bad = noHead
-checkHead (natural.Of t) (natural.Of v) (natural.Of l) = checkCounts (record { threads = t; variables = v; locks = l })
+checkHead (natural.Of t) (natural.Of v) (natural.Of l) = checkCounts (record { threads = t; variables = v; locks = l; volatiles = noVolatiles })
 
 -- Line 1: `H t v l`.
 unfoldable pub headOf : List (List ℕ) → Headed
@@ -134,6 +139,36 @@ guardsOf v l fs =
     (cond (eqb (length fs) (v + 1)) (locksFrom 0 noLocks l (drop 1 fs)) badLine))
     badLine
 
+-- ---- the volatile variables
+
+-- a wrong line, and a line that names these variables
+abbrev pub badVolatiles : VolatileLine
+badVolatiles = record { ok = false; volatiles = noVolatiles }
+
+abbrev pub flagLine : List Bool → VolatileLine
+flagLine g = record { ok = true; volatiles = g }
+
+-- each kind is numbered from 0: a variable is below v; and where the numbers rise, it is not below low
+abbrev pub risingOf : ℕ → ℕ → Natural → Natural
+risingOf v low natural.Bad = natural.Bad
+risingOf v low (natural.Of n) = cond (leb low n && ltb n v) (natural.Of n) natural.Bad
+
+abbrev pub withVariable : Natural → (ℕ → VolatileLine) → VolatileLine
+withVariable natural.Bad f = badVolatiles
+withVariable (natural.Of n) f = f n
+
+-- rising variable numbers, from low on and below v
+unfoldable pub volatilesFrom : ℕ → ℕ → List Bool → List (List ℕ) → VolatileLine
+volatilesFrom v low g [] = flagLine g
+volatilesFrom v low g (f ∷ fs) = withVariable (risingOf v low (naturalOf f)) (λ n. volatilesFrom v (n + 1) (set g n true) fs)
+
+-- A line `V` with rising variable numbers, of v variables; an empty one is wrong.
+unfoldable pub volatilesOf : ℕ → List (List ℕ) → VolatileLine
+volatilesOf v fs =
+    cond (eqb (letter (getD fs 0 [])) 86)
+    (cond (ltb 1 (length fs)) (volatilesFrom v 0 noVolatiles (drop 1 fs)) badVolatiles)
+    badVolatiles
+
 -- ---- the whole
 
 abbrev pub noGuards : Guards
@@ -176,14 +211,37 @@ abbrev pub behindTrailer : Limits → List ℕ → Trailer → Trace
 behindTrailer m s trailer.Wrong = unfound wrongTrailer
 behindTrailer m s (trailer.At e) = firstOf m (take e s) e
 
--- Whole paper: 1, 2, 3 (25), 6.
-unfoldable pub traceOf : Limits → List ℕ → Trace
-traceOf m s = cond (ltb (m .bytes) (length s)) (unfound tooLong) (behindTrailer m s (trailerOf s))
-
--- the number and the line of each case; nothing is refused where a trace is found
-abbrev pub found : Trace → Marked
-found t = told (t .verdict)
+-- Whole paper: 1, 2, 3 (25), 6 at line 2, without a `V` line: what stands behind line 2 are the events.
+unfoldable pub plainTraceOf : Limits → List ℕ → Trace
+plainTraceOf m s = cond (ltb (m .bytes) (length s)) (unfound tooLong) (behindTrailer m s (trailerOf s))
 
 -- The part of the lent bytes that holds the events. It is empty after 1, 2, 3, 25 or 6.
 unfoldable pub eventsOf : List ℕ → Trace → List ℕ
 eventsOf s t = take (t .to - t .from) (drop (t .from) s)
+
+-- A line 3 whose first byte is `V` is meant as one; u begins with line 3.
+abbrev pub beginsWithV : List ℕ → Bool
+beginsWithV u = eqb (getD u 0 0) 86
+
+-- the variables of a right `V` line are volatile, and the events stand n bytes further on
+abbrev pub withVolatiles : ℕ → Trace → VolatileLine → Trace
+withVolatiles n t r =
+    cond (r .ok)
+    (record { verdict = t .verdict; head = withFlags (t .head) (r .volatiles); guards = t .guards; from = t .from + n; to = t .to })
+    (unfound wrongVolatiles)
+
+-- An optional line `V` follows `G`: it is the first of u, which stands behind the guards of t.
+unfoldable pub thirdOf : List ℕ → Trace → Trace
+thirdOf u t = cond (beginsWithV u) (withVolatiles (before 10 u + 1) t (volatilesOf (t .head .variables) (splitOn 32 (take (before 10 u) u)))) t
+
+-- Whole paper: 1, 2, 3 (25), 6 at line 2, 6 at line 3. What stands behind the guards is empty after each of these but the last.
+unfoldable pub traceOf : Limits → List ℕ → Trace
+traceOf m s = cond (m .volatiles) (thirdOf (eventsOf s (plainTraceOf m s)) (plainTraceOf m s)) (plainTraceOf m s)
+
+-- there is a line 3 that is meant as a `V` line
+unfoldable pub meantVolatile : Limits → List ℕ → Bool
+meantVolatile m s = m .volatiles && beginsWithV (eventsOf s (plainTraceOf m s))
+
+-- the number and the line of each case; nothing is refused where a trace is found
+abbrev pub found : Trace → Marked
+found t = told (t .verdict)

@@ -1,4 +1,4 @@
-// Finding a trace in bytes: its refusal, or its head, its guards and the part that holds its events.
+// Finding a trace in bytes: its refusal, or its head, its guards, its volatile variables and the part that holds its events.
 use decimal::Natural;
 use rules::Counts;
 use rules::Course;
@@ -8,9 +8,9 @@ ghost use Prim.Native.Nat.{_+_, _≤_};
 ghost use lib.ListN.{length, drop};
 ghost use Rattle.lines.specs.Lines.{splitOn};
 ghost use Rattle.decimal.specs.Decimal.{naturalOf};
-ghost use Rattle.rules.specs.Limits.{full, limitsOf};
+ghost use Rattle.rules.specs.Limits.{full, limitsOf, noVolatiles};
 ghost use Rattle.rules.specs.Rules.{refused, said};
-ghost use Rattle.trace.specs.Trace.{trailerNumber, checkAt, trailerOf, noHead, checkHead, headOf, badLine, noLocks, lockOf, locksFrom, isDash, guardsOf, unfound, withGuards, secondOf, firstOf, traceOf, eventsOf};
+ghost use Rattle.trace.specs.Trace.{trailerNumber, checkAt, trailerOf, noHead, checkHead, headOf, badLine, noLocks, lockOf, locksFrom, isDash, guardsOf, badVolatiles, risingOf, volatilesFrom, volatilesOf, unfound, withGuards, secondOf, firstOf, plainTraceOf, eventsOf, beginsWithV, withVolatiles, thirdOf, traceOf};
 
 // The guards of a trace: whether line 2 names locks, and then the lock of each variable, 0 past the last.
 pub struct Guards {
@@ -44,6 +44,12 @@ pub struct GuardLine {
     pub ok: bool,
     pub given: bool,
     pub locks: [usize; 16],
+}
+
+// A line 3 that begins with V: whether it is right, and which variables it names.
+pub struct VolatileLine {
+    pub ok: bool,
+    pub volatiles: [bool; 16],
 }
 
 // The number of a trailer, a line without its end.
@@ -98,6 +104,7 @@ fn no_head() -> Headed
             threads: 0,
             variables: 0,
             locks: 0,
+            volatiles: [false; 16],
         },
     }
 }
@@ -119,6 +126,7 @@ fn check_head(t: Natural, v: Natural, l: Natural) -> Headed
         threads,
         variables,
         locks,
+        volatiles: [false; 16],
     };
     if rules::is_allowed(Course::Full, c) {
         Headed { ok: true, head: c }
@@ -221,6 +229,70 @@ fn read_guards(s: &[u8], v: usize, l: usize) -> GuardLine
     }
 }
 
+fn bad_volatiles() -> VolatileLine
+    ensures { λ r. ⌜ r ≡ badVolatiles ⌝ }
+{
+    VolatileLine {
+        ok: false,
+        volatiles: [false; 16],
+    }
+}
+
+// A field as the number of one of v variables, from `low` on.
+fn read_rising(f: &[u8], v: usize, low: usize) -> Natural
+    ensures { λ r. ⌜ r ≡ risingOf v low (naturalOf (now (f .entry))) ⌝ }
+{
+    match decimal::read_natural(f) {
+        Natural::Bad => Natural::Bad,
+        Natural::Of(n) => {
+            if (low <= n) & (n < v) {
+                Natural::Of(n)
+            } else {
+                Natural::Bad
+            }
+        }
+    }
+}
+
+// The rising numbers of volatile variables, of v variables, behind the first field.
+fn read_flags(s: &[u8], v: usize) -> VolatileLine
+    requires { ⌜ v ≤ full .variables ⌝ }
+    ensures { λ r. ⌜ r ≡ volatilesFrom v 0 noVolatiles (drop 1 (splitOn 32 (now (s .entry)))) ⌝ }
+{
+    let mut g = [false; 16];
+    let mut low: usize = 0;
+    let mut e = lines::space_from(s, 0);
+    while e < s.len() {
+        let a = e + 1;
+        e = lines::space_from(s, a);
+        let Natural::Of(n) = read_rising(&s[a..e], v, low) else {
+            return bad_volatiles();
+        };
+        g[n] = true;
+        low = n + 1;
+    }
+    VolatileLine {
+        ok: true,
+        volatiles: g,
+    }
+}
+
+// A line 3 that begins with V, without its end, for v variables.
+fn read_volatiles(s: &[u8], v: usize) -> VolatileLine
+    requires { ⌜ v ≤ full .variables ⌝ }
+    ensures { λ r. ⌜ r ≡ volatilesOf v (splitOn 32 (now (s .entry))) ⌝ }
+{
+    if lines::read_letter(lines::field(s, 0)) == b'V' {
+        if 1 < lines::count_fields(s) {
+            read_flags(s, v)
+        } else {
+            bad_volatiles()
+        }
+    } else {
+        bad_volatiles()
+    }
+}
+
 // A refusal with this number and line.
 fn refuse(number: u8, line: usize) -> Trace
     ensures { λ r. ⌜ r ≡ unfound (said (refused number line)) ⌝ }
@@ -231,6 +303,7 @@ fn refuse(number: u8, line: usize) -> Trace
             threads: 0,
             variables: 0,
             locks: 0,
+            volatiles: [false; 16],
         },
         guards: Guards {
             given: false,
@@ -295,9 +368,10 @@ fn find_first(course: Course, s: &[u8], e: usize) -> Trace
     }
 }
 
-// The trace in the bytes, or its refusal: 1, 2, 3, over the limits of the course, and 6 in this order.
-pub fn find(course: Course, s: &[u8]) -> Trace
-    ensures { λ r. ⌜ r ≡ traceOf (limitsOf course) (now (s .entry)) ⌝ }
+// The trace in the bytes with all that stands behind line 2 as its events, or its refusal: 1, 2, 3, over the limits of the course, and 6 in this
+// order.
+fn find_plain(course: Course, s: &[u8]) -> Trace
+    ensures { λ r. ⌜ r ≡ plainTraceOf (limitsOf course) (now (s .entry)) ⌝ }
 {
     if 65536 < s.len() {
         return refuse(1, 0);
@@ -306,6 +380,66 @@ pub fn find(course: Course, s: &[u8]) -> Trace
         Trailer::Wrong => refuse(2, 0),
         Trailer::At(e) => find_first(course, &s[..e], e),
     }
+}
+
+// Whether the first line of s is meant as a line of volatile variables.
+fn begins_with_v(s: &[u8]) -> bool
+    ensures { λ r. ⌜ r ≡ beginsWithV (now (s .entry)) ⌝ }
+{
+    if s.len() == 0 {
+        return false;
+    }
+    s[0] == b'V'
+}
+
+fn with_volatiles(n: usize, t: Trace, r: VolatileLine) -> Trace
+    requires { ⌜ t .from + n ≤ full .bytes + 1 ⌝ }
+    ensures { λ r′. ⌜ r′ ≡ withVolatiles n t r ⌝ }
+{
+    if r.ok {
+        let verdict = t.verdict;
+        let h = t.head;
+        let guards = t.guards;
+        let volatiles = r.volatiles;
+        Trace {
+            verdict,
+            head: Counts {
+                threads: h.threads,
+                variables: h.variables,
+                locks: h.locks,
+                volatiles,
+            },
+            guards,
+            from: t.from + n,
+            to: t.to,
+        }
+    } else {
+        refuse(6, 3)
+    }
+}
+
+// Line 3, the first of s, the bytes behind the guards of t.
+fn find_third(s: &[u8], t: Trace) -> Trace
+    requires { ⌜ (t .from + length (now s) ≤ full .bytes) × (t .head .variables ≤ full .variables) ⌝ }
+    ensures { λ r. ⌜ r ≡ thirdOf (now (s .entry)) t ⌝ }
+{
+    if begins_with_v(s) {
+        let b = lines::find(s, 10);
+        let r = read_volatiles(&s[..b], t.head.variables);
+        with_volatiles(b + 1, t, r)
+    } else {
+        t
+    }
+}
+
+// The trace in the bytes, or its refusal: 1, 2, 3, over the limits of the course, and 6 for line 2 and line 3 in this order.
+pub fn find(course: Course, s: &[u8]) -> Trace
+    ensures { λ r. ⌜ r ≡ traceOf (limitsOf course) (now (s .entry)) ⌝ }
+{
+    let t = find_plain(course, s);
+    let from = t.from;
+    let to = t.to;
+    find_third(&s[from..to], t)
 }
 
 // The part of the bytes that holds the events; empty after a refusal.

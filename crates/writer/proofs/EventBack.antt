@@ -62,7 +62,7 @@ value-line-free k t v x h =
 
 -- ---- an event's line by its letter
 
-letter-is : (k : Kind) → isLetter (letter k) ≡ true
+pub letter-is : (k : Kind) → isLetter (letter k) ≡ true
 unfolding isLetter
 letter-is (kind.Use v x) = refl
 letter-is (kind.Assign v x) = refl

@@ -11,7 +11,8 @@ use lib.ListN.{length, getD, take, drop, set, replicate, length-append}
 use lib.Seq.{take-at, drop-at, getD-at, set-at}
 use Rattle.rules.specs.declared.Counts.{Counts}
 use Rattle.rules.specs.declared.Event.{Event}
-use Rattle.rules.specs.Limits.{full, allowed, firstLine, valueWidth}
+use Rattle.rules.specs.Limits.{full, noVolatiles, withFlags, anyVolatile, allowed, firstLine, valueWidth}
+use Rattle.rules.specs.Rules.{accepted, said}
 use Rattle.rules.proofs.Bounds.{allowed-bounds}
 use Rattle.lines.specs.Lines.{before, upTo, splitOn, linesOf, letter}
 use Rattle.lines.specs.Lines as lines
@@ -21,13 +22,16 @@ use Rattle.decimal.specs.Text.{naturalText, wordRow, ended}
 use Rattle.decimal.proofs.TextLaws.{text-small}
 use Rattle.events.specs.Events.{readings}
 use Rattle.trace.specs.declared.Guards.{Guards}
+use Rattle.trace.specs.declared.Trace.{Trace}
 use Rattle.trace.specs.declared.Trailer.the-variants as trailer
-use Rattle.trace.specs.Trace.{trailerNumber, checkAt, lastLine, trailerOf, headOf, lockLine, locksFrom, isDash, guardsOf, withGuards, secondOf, firstOf, behindTrailer, traceOf, eventsOf}
-use Rattle.trace.proofs.TraceLaws.{head-right, second-some, trace-short}
-use Rattle.writer.specs.Text.{headLine, guardLine, eventLine, trailerLine, eventsText, bodyText, traceText, allBelow, padded, Guarded, none, given, AllDeclared, done, more, foundText}
+use Rattle.trace.specs.Trace.{trailerNumber, checkAt, lastLine, trailerOf, headOf, lockLine, locksFrom, isDash, guardsOf, volatilesOf, withGuards, secondOf, firstOf, behindTrailer, plainTraceOf, eventsOf, withVolatiles, thirdOf, traceOf, meantVolatile, found}
+use Rattle.trace.proofs.VolatileLaws.{flags-none, allowed-flags, allowed-with}
+use Rattle.trace.proofs.TraceLaws.{head-right, second-some, third-none, third-some, trace-short, found-volatile}
+use Rattle.writer.specs.Text.{headLine, guardLine, numbersFrom, volatileRow, volatilesText, volatileLine, eventLine, trailerLine, eventsText, bodyText, traceText, allBelow, padded, Guarded, none, given, AllDeclared, done, more, foundText}
 use Rattle.writer.proofs.NumberText.{natural-back}
 use Rattle.writer.proofs.FieldText.{Free, free-nil, free-cons, before-end, lines-free, texts, up-line, up-join, up-free, up-append}
 use Rattle.writer.proofs.EventBack.{row-fields, row-free, written-read, event-free}
+use Rattle.writer.proofs.VolatileBack.{volatiles-back, flags-none-back, events-begin}
 
 -- a line at the front of a text: where it ends, and what is behind it
 pub record Cut (t u s : List ℕ) : Type 0 where
@@ -93,15 +97,21 @@ module _ (b : List ℕ) (whole : upTo 10 b ≡ length b) (small : length b ≤ c
       ∙ ap (checkAt (length b)) (trailer-number (length b) small)
       ∙ rw (eq-eqb (length b) (length b) refl))
 
--- the head
-head-back : (c : Counts) → allowed full c ≡ true → headOf (splitOn 32 (headLine c)) ≡ record { ok = true; head = c }
+-- the head, which names no volatile variable
+abbrev plain : Counts → Counts
+plain c = withFlags c noVolatiles
+
+plain-allowed : (c : Counts) → allowed full c ≡ true → allowed full (plain c) ≡ true
+plain-allowed c a = allowed-with full c noVolatiles (flags-none (c .variables)) a
+
+head-back : (c : Counts) → allowed full c ≡ true → headOf (splitOn 32 (headLine c)) ≡ record { ok = true; head = plain c }
 unfolding headOf texts letter
 head-back c a =
     let w = allowed-bounds c a in
     let t : naturalOf (naturalText (c .threads)) ≡ natural.Of (c .threads) = natural-back (c .threads) (omega (arith, w)) in
     let v : naturalOf (naturalText (c .variables)) ≡ natural.Of (c .variables) = natural-back (c .variables) (omega (arith, w)) in
     let l : naturalOf (naturalText (c .locks)) ≡ natural.Of (c .locks) = natural-back (c .locks) (omega (arith, w)) in
-    ap headOf (row-fields 72 (c .threads ∷ c .variables ∷ c .locks ∷ []) (λ e. omega arith)) ∙ rw (t, v, l, a)
+    ap headOf (row-fields 72 (c .threads ∷ c .variables ∷ c .locks ∷ []) (λ e. omega arith)) ∙ rw (t, v, l, plain-allowed c a)
 
 -- the guards
 below-split : (l n : ℕ) (ns : List ℕ) → allBelow l (n ∷ ns) ≡ true → (n < l) × (allBelow l ns ≡ true)
@@ -175,71 +185,133 @@ guard-free c g = by (g .given)
     by false =
         free-cons 10 71 (32 ∷ 45 ∷ []) (λ e. omega arith) (free-cons 10 32 (45 ∷ []) (λ e. omega arith) (free-cons 10 45 [] (λ e. omega arith) (free-nil 10)))
 
-module _ (c : Counts) (g : Guards) (es : List Event) (a : allowed full c ≡ true) (ok : Guarded c g) (short : length (traceText c g es) ≤ full .bytes) where
+-- a part of a text, by the places where it starts and ends
+part-back : (p e z : List ℕ) (t : Trace) → t .from ≡ length p → t .to ≡ length (p ++ e) → eventsOf ((p ++ e) ++ z) t ≡ e
+unfolding eventsOf
+part-back p e z t from to =
+    let m : t .to - t .from ≡ length e = omega (arith, from, to, length-append p e) in
+    ap (λ (u : List ℕ). take (t .to - t .from) (drop (t .from) u)) (append-assoc p e z)
+    ∙ ap (λ (k : ℕ). take (t .to - t .from) (drop k (p ++ (e ++ z)))) from
+    ∙ ap (take (t .to - t .from)) (drop-at p (e ++ z) (length p) refl)
+    ∙ ap (λ (k : ℕ). take k (e ++ z)) m ∙ take-at e z (length e) refl
+
+module _ (c : Counts) (g : Guards) (es : List Event) (a : allowed full c ≡ true) (sized : length (c .volatiles) ≡ full .variables) (ok : Guarded c g) (short : length (traceText c g es) ≤ full .bytes) where
+  -- what stands behind the head, and behind the guards
+  abbrev third : List ℕ
+  third = volatileLine c ++ eventsText es
+
   abbrev second : List ℕ
-  second = ended (guardLine (c .variables) g) ++ eventsText es
+  second = ended (guardLine (c .variables) g) ++ third
 
   abbrev n : ℕ
   n = length (bodyText c g es)
+
+  abbrev front : List ℕ
+  front = ended (headLine c) ++ ended (guardLine (c .variables) g)
+
+  third-whole : upTo 10 third ≡ length third
+  unfolding upTo
+  third-whole = by (numbersFrom 0 (c .volatiles))
+    where
+      by : (ns : List ℕ) → upTo 10 (volatilesText ns ++ eventsText es) ≡ length (volatilesText ns ++ eventsText es)
+      by [] = events-whole es
+      by (k ∷ ns) = up-join 10 (ended (volatileRow (k ∷ ns))) (eventsText es) (up-line 10 (volatileRow (k ∷ ns))) (events-whole es)
 
   body-whole : upTo 10 (bodyText c g es) ≡ n
   unfolding bodyText
   body-whole =
       up-join 10 (ended (headLine c)) second (up-line 10 (headLine c))
-      (up-join 10 (ended (guardLine (c .variables) g)) (eventsText es) (up-line 10 (guardLine (c .variables) g)) (events-whole es))
+      (up-join 10 (ended (guardLine (c .variables) g)) third (up-line 10 (guardLine (c .variables) g)) third-whole)
 
   body-small : n ≤ cap
   unfolding traceText
   body-small = omega (arith, length-append (bodyText c g es) (ended (trailerLine n)))
 
-  places : length (headLine c) + 1 + length (guardLine (c .variables) g) + 1 ≡ length (ended (headLine c)) + length (ended (guardLine (c .variables) g))
-  places = omega (arith, length-append (headLine c) (10 ∷ []), length-append (guardLine (c .variables) g) (10 ∷ []))
+  -- what lines 1 and 2 give
+  abbrev plainText : Trace
+  plainText = record { verdict = said accepted; head = plain c; guards = g; from = length front; to = n }
 
-  second-back : secondOf second (length (headLine c) + 1) n c ≡ foundText c g es
-  unfolding foundText
+  places : length (headLine c) + 1 + length (guardLine (c .variables) g) + 1 ≡ length front
+  places = omega (arith, length-append (headLine c) (10 ∷ []), length-append (guardLine (c .variables) g) (10 ∷ []), length-append (ended (headLine c)) (ended (guardLine (c .variables) g)))
+
+  second-back : secondOf second (length (headLine c) + 1) n (plain c) ≡ plainText
   second-back =
-      let w = cut (guardLine (c .variables) g) (eventsText es) (guard-free c g) in
-      sym (second-some second (length (headLine c) + 1) n (length (guardLine (c .variables) g)) c (w .place) (w .inside))
-      ∙ ap (λ (t : List ℕ). withGuards (length (headLine c) + 1 + length (guardLine (c .variables) g) + 1) n c (guardsOf (c .variables) (c .locks) (splitOn 32 t))) (w .front)
-      ∙ ap (withGuards (length (headLine c) + 1 + length (guardLine (c .variables) g) + 1) n c) (guards-back c g a ok)
-      ∙ ap (λ (i : ℕ). withGuards i n c (record { ok = true; given = g .given; locks = g .locks })) places
+      let w = cut (guardLine (c .variables) g) third (guard-free c g) in
+      let at = length (headLine c) + 1 + length (guardLine (c .variables) g) + 1 in
+      sym (second-some second (length (headLine c) + 1) n (length (guardLine (c .variables) g)) (plain c) (w .place) (w .inside))
+      ∙ ap (λ (t : List ℕ). withGuards at n (plain c) (guardsOf (c .variables) (c .locks) (splitOn 32 t))) (w .front)
+      ∙ ap (withGuards at n (plain c)) (guards-back c g a ok)
+      ∙ ap (λ (i : ℕ). withGuards i n (plain c) (record { ok = true; given = g .given; locks = g .locks })) places
 
-  first-back : firstOf full (bodyText c g es) n ≡ foundText c g es
+  first-back : firstOf full (bodyText c g es) n ≡ plainText
   unfolding bodyText
   first-back =
       let b = ended (headLine c) ++ second in
       let w = cut (headLine c) second (row-free 72 (c .threads ∷ c .variables ∷ c .locks ∷ []) (λ e. omega arith)) in
       let z = ap (λ (t : List ℕ). headOf (splitOn 32 t)) (w .front) ∙ head-back c a in
-      sym (head-right full b n (length (headLine c)) (w .place) (w .inside) (record { ok = true; head = c }) (sym z) refl a)
-      ∙ ap (λ (t : List ℕ). secondOf t (length (headLine c) + 1) n c) (w .back)
+      sym (head-right full b n (length (headLine c)) (w .place) (w .inside) (record { ok = true; head = plain c }) (sym z) refl (plain-allowed c a))
+      ∙ ap (λ (t : List ℕ). secondOf t (length (headLine c) + 1) n (plain c)) (w .back)
       ∙ second-back
 
-  -- The text is found, with its head, its guards and the place of its events.
-  pub trace-found : traceOf full (traceText c g es) ≡ foundText c g es
+  plain-found : plainTraceOf full (traceText c g es) ≡ plainText
   unfolding traceText
-  trace-found =
+  plain-found =
       let s = bodyText c g es ++ ended (trailerLine n) in
       sym (trace-short full s short) ∙ ap (behindTrailer full s) (trailer-back (bodyText c g es) body-whole body-small)
       ∙ ap (λ (t : List ℕ). firstOf full t n) (take-at (bodyText c g es) (ended (trailerLine n)) n refl)
       ∙ first-back
 
+  third-found : eventsOf (traceText c g es) plainText ≡ third
+  unfolding traceText bodyText
+  third-found =
+      let b : bodyText c g es ≡ front ++ third = sym (append-assoc (ended (headLine c)) (ended (guardLine (c .variables) g)) third) in
+      ap (λ (u : List ℕ). eventsOf (u ++ ended (trailerLine n)) plainText) b ∙ part-back front third (ended (trailerLine n)) plainText refl (ap length b)
+
+  third-back : thirdOf third plainText ≡ foundText c g es
+  unfolding foundText wordRow
+  third-back = by (numbersFrom 0 (c .volatiles)) refl
+    where
+      fronts : length front ≡ length (ended (headLine c)) + length (ended (guardLine (c .variables) g))
+      fronts = length-append (ended (headLine c)) (ended (guardLine (c .variables) g))
+
+      by : (ns : List ℕ) → numbersFrom 0 (c .volatiles) ≡ ns
+          → thirdOf (volatilesText ns ++ eventsText es) plainText
+          ≡ record { verdict = said accepted; head = c; guards = g; from = length (ended (headLine c)) + length (ended (guardLine (c .variables) g)) + length (volatilesText ns); to = n }
+      by [] q =
+          let f = flags-none-back (c .volatiles) sized q in
+          let m : length front ≡ length (ended (headLine c)) + length (ended (guardLine (c .variables) g)) + 0 = omega (arith, fronts) in
+          sym (third-none (eventsText es) plainText (events-begin es)) ∙ (λ i. record { verdict = said accepted; head = withFlags c (sym f i); guards = g; from = m i; to = n })
+      by (k ∷ ns) q =
+          let r = volatileRow (k ∷ ns) in
+          let u = ended r ++ eventsText es in
+          let w = cut r (eventsText es) (row-free 86 (k ∷ ns) (λ e. omega arith)) in
+          let m : length front + (length r + 1) ≡ length (ended (headLine c)) + length (ended (guardLine (c .variables) g)) + length (ended r) = omega (arith, fronts, length-append r (10 ∷ [])) in
+          sym (third-some u plainText refl (length r) (w .place))
+          ∙ ap (λ (t : List ℕ). withVolatiles (length r + 1) plainText (volatilesOf (c .variables) (splitOn 32 t))) (w .front)
+          ∙ ap (withVolatiles (length r + 1) plainText) (volatiles-back (c .variables) (c .volatiles) k ns (allowed-bounds c a .1) (allowed-flags full c sized a) q)
+          ∙ (λ i. record { verdict = said accepted; head = c; guards = g; from = m i; to = n })
+
+  -- The text is found, with its head, its guards, its volatile variables and the place of its events.
+  pub trace-found : traceOf full (traceText c g es) ≡ foundText c g es
+  unfolding traceOf
+  trace-found =
+      ap (λ (t : Trace). thirdOf (eventsOf (traceText c g es) t) t) plain-found ∙ ap (λ (u : List ℕ). thirdOf u plainText) third-found ∙ third-back
+
+  -- It has a `V` line exactly where a variable is volatile.
+  pub line-found : meantVolatile full (traceText c g es) ≡ anyVolatile c
+  unfolding foundText
+  line-found = sym (found-volatile full (traceText c g es) (ap found trace-found)) ∙ ap (λ (t : Trace). anyVolatile (t .head)) trace-found
+
   -- The part that is handed back holds the events.
   pub events-found : eventsOf (traceText c g es) (traceOf full (traceText c g es)) ≡ eventsText es
-  unfolding eventsOf foundText traceText bodyText
+  unfolding foundText traceText bodyText
   events-found =
-      let p = ended (headLine c) ++ ended (guardLine (c .variables) g) in
+      let p = front ++ volatileLine c in
       let e = eventsText es in
       let z = ended (trailerLine n) in
-      let from = length (ended (headLine c)) + length (ended (guardLine (c .variables) g)) in
-      let i : from ≡ length p = sym (length-append (ended (headLine c)) (ended (guardLine (c .variables) g))) in
-      let b : ended (headLine c) ++ (ended (guardLine (c .variables) g) ++ e) ≡ p ++ e = sym (append-assoc (ended (headLine c)) (ended (guardLine (c .variables) g)) e) in
-      let s : traceText c g es ≡ p ++ (e ++ z) = ap (λ (u : List ℕ). u ++ z) b ∙ append-assoc p e z in
-      let m : n - from ≡ length e = omega (arith, i, ap length b, length-append p e) in
-      ap (eventsOf (traceText c g es)) trace-found
-      ∙ ap (λ (u : List ℕ). take (n - from) (drop from u)) s
-      ∙ ap (λ (k : ℕ). take (n - from) (drop k (p ++ (e ++ z)))) i
-      ∙ ap (take (n - from)) (drop-at p (e ++ z) (length p) refl)
-      ∙ ap (λ (k : ℕ). take k (e ++ z)) m ∙ take-at e z (length e) refl
+      let b : bodyText c g es ≡ p ++ e = sym (append-assoc (ended (headLine c)) (ended (guardLine (c .variables) g)) third) ∙ sym (append-assoc front (volatileLine c) e) in
+      let i : foundText c g es .from ≡ length p = omega (arith, length-append (ended (headLine c)) (ended (guardLine (c .variables) g)), length-append front (volatileLine c)) in
+      ap (eventsOf (traceText c g es)) trace-found ∙ ap (λ (u : List ℕ). eventsOf (u ++ z) (foundText c g es)) b ∙ part-back p e z (foundText c g es) i (ap length b)
 
   -- Its lines are read as the events.
   pub events-read : AllDeclared c (firstLine c) es → readings valueWidth (firstLine c) (linesOf (eventsOf (traceText c g es) (traceOf full (traceText c g es)))) ≡ map (λ (e : Event). some e) es

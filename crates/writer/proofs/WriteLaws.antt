@@ -1,14 +1,17 @@
--- An event's line by its letter.
-use mathlib.Core.Path.{_≡_, sym, ap, _∙_}
-use mathlib.Core.List.{[], _∷_}
+-- An event's line by its letter, and the line of volatile variables.
+use mathlib.Core.Path.{_≡_, refl, sym, ap, _∙_}
+use mathlib.Core.List.{List, [], _∷_}
 use Prim.Native.Nat.{ℕ}
 use mathlib.Core.Bool.{Bool, true, false, cond}
+use native.Mathlib.Omega.{arith}
+use lib.Dec.{leb}
+use lib.ListN.{length}
 use lib.IntN.{ℤ}
-use Rattle.decimal.specs.Text.{wordRow, wordValue, ended}
+use Rattle.decimal.specs.Text.{wordRow, wordValue, ended, over, room, Wrote}
 use Rattle.rules.specs.declared.Event.{Event}
 use Rattle.rules.specs.Events.{letter, place, value, isLockLetter}
 use Rattle.rules.proofs.Letters.{lock-letter}
-use Rattle.writer.specs.Text.{eventLine}
+use Rattle.writer.specs.Text.{volatilesText, eventLine}
 
 pub event-text : (e : Event) (b : Bool) → isLockLetter (letter (e .kind)) ≡ b
     → eventLine e
@@ -24,3 +27,16 @@ module _ (e : Event) (k p : ℕ) (a : k ≡ letter (e .kind)) (b : p ≡ place (
 
   pub plain-text : (x : ℤ) → x ≡ value (e .kind) → isLockLetter k ≡ false → ended (wordValue (k ∷ []) (e .thread ∷ p ∷ []) x) ≡ ended (eventLine e)
   plain-text x z q = rw (a, b, z, event-text e false (ap isLockLetter (sym a) ∙ q))
+
+-- the line of volatile variables: none, and one
+pub volatiles-none : (n : ℕ) (ns o : List ℕ) → length ns ≡ 0 → Wrote (room n (volatilesText ns)) o 0 o
+volatiles-none n [] o h = let e = by (leb n (length o)) in record { count = ap length e; bytes = ap (λ (u : List ℕ). over u o) e }
+  where
+    by : (b : Bool) → _≡_ {A = List ℕ} [] (cond b [] [])
+    by true = refl
+    by false = refl
+volatiles-none n (k ∷ ns) o h = absurd (omega arith)
+
+pub volatiles-some : (ns : List ℕ) → (length ns ≡ 0 → ⊥) → ended (wordRow (86 ∷ []) ns) ≡ volatilesText ns
+volatiles-some [] h = absurd (h refl)
+volatiles-some (n ∷ ns) h = refl

@@ -27,6 +27,23 @@ guardRow q ns = cond q (wordRow (71 ∷ []) ns) (71 ∷ 32 ∷ 45 ∷ [])
 abbrev pub guardLine : ℕ → Guards → List ℕ
 guardLine v g = guardRow (g .given) (take v (g .locks))
 
+-- the numbers of the variables whose flags are set, from the i-th on: they rise
+unfoldable pub numbersFrom : ℕ → List Bool → List ℕ
+numbersFrom i [] = []
+numbersFrom i (b ∷ bs) = cond b (i ∷ numbersFrom (i + 1) bs) (numbersFrom (i + 1) bs)
+
+-- `V` and the numbers of the volatile variables
+abbrev pub volatileRow : List ℕ → List ℕ
+volatileRow ns = wordRow (86 ∷ []) ns
+
+-- its line, and no line where there are none
+abbrev pub volatilesText : List ℕ → List ℕ
+volatilesText [] = []
+volatilesText (n ∷ ns) = ended (volatileRow (n ∷ ns))
+
+abbrev pub volatileLine : Counts → List ℕ
+volatileLine c = volatilesText (numbersFrom 0 (c .volatiles))
+
 -- `K t l` and `N t l`; the others are letter, thread, variable, value
 unfoldable pub eventLine : Event → List ℕ
 eventLine e =
@@ -44,7 +61,7 @@ eventsText (e ∷ es) = ended (eventLine e) ++ eventsText es
 
 -- what stands before the trailer
 unfoldable pub bodyText : Counts → Guards → List Event → List ℕ
-bodyText c g es = ended (headLine c) ++ (ended (guardLine (c .variables) g) ++ eventsText es)
+bodyText c g es = ended (headLine c) ++ (ended (guardLine (c .variables) g) ++ (volatileLine c ++ eventsText es))
 
 -- n is the number of bytes before the trailer
 unfoldable pub traceText : Counts → Guards → List Event → List ℕ
@@ -81,6 +98,6 @@ foundText c g es = record {
   verdict = said accepted;
   head = c;
   guards = g;
-  from = length (ended (headLine c)) + length (ended (guardLine (c .variables) g));
+  from = length (ended (headLine c)) + length (ended (guardLine (c .variables) g)) + length (volatileLine c);
   to = length (bodyText c g es);
 }

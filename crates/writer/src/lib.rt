@@ -5,7 +5,7 @@ use rules::Event;
 ghost use Prim.Native.Nat.{_+_, _*_};
 ghost use lib.ListN.{length};
 ghost use Rattle.decimal.specs.Text.{ended, room, Wrote};
-ghost use Rattle.writer.specs.Text.{headLine, guardRow, eventLine, trailerLine};
+ghost use Rattle.writer.specs.Text.{headLine, guardRow, volatilesText, eventLine, trailerLine};
 
 // Line 1.
 pub fn write_head(out: &mut [u8], c: Counts) -> usize
@@ -38,6 +38,16 @@ pub fn write_guards(out: &mut [u8], given: bool, ns: &[usize]) -> usize
     } else {
         decimal::write_bytes(out, b"G -\n")
     }
+}
+
+// Line 3: the volatile variables; nothing where there are none.
+pub fn write_volatiles(out: &mut [u8], ns: &[usize]) -> usize
+    ensures { λ r. ⌜ Wrote (room (32 * length (now (ns .entry)) + 2) (volatilesText (now (ns .entry)))) (now (out .entry)) r (now (out .exit)) ⌝ }
+{
+    if ns.len() == 0 {
+        return 0;
+    }
+    decimal::write_row_line(out, b"V", ns)
 }
 
 // The line of an event.

@@ -10,6 +10,14 @@ pub struct Counts {
     pub threads: usize,
     pub variables: usize,
     pub locks: usize,
+    pub volatiles: [bool; 16],
+}
+
+impl Counts {
+    /// The line of the first event.
+    pub fn first_line(&self) -> usize {
+        3 + usize::from(self.volatiles.contains(&true))
+    }
 }
 
 #[repr(C)]
@@ -26,10 +34,15 @@ pub struct Cell {
     pub announced: Value,
     pub source: usize,
     pub written: usize,
+    pub loaded: usize,
+    pub used: usize,
+    pub assigned: usize,
     pub reads: Ring,
     pub stores: Ring,
     pub fresh: bool,
     pub pending: bool,
+    pub after_load: bool,
+    pub after_assign: bool,
 }
 
 #[repr(C)]
@@ -60,21 +73,23 @@ pub struct State {
 }
 
 /// Bytes of a state, its padding included.
-pub const STATE_BYTES: usize = 38_240;
-const _: () = assert!(size_of::<Counts>() == 24 && size_of::<Ring>() == 2);
-const _: () = assert!(offset_of!(Cell, written) == 24 && offset_of!(Cell, pending) == 37 && size_of::<Cell>() == 40);
+pub const STATE_BYTES: usize = 41_328;
+const _: () = assert!(offset_of!(Counts, volatiles) == 24 && size_of::<Counts>() == 40 && size_of::<Ring>() == 2);
+const _: () = assert!(offset_of!(Cell, written) == 24 && offset_of!(Cell, loaded) == 32 && offset_of!(Cell, used) == 40);
+const _: () = assert!(offset_of!(Cell, assigned) == 48 && offset_of!(Cell, reads) == 56 && offset_of!(Cell, stores) == 58);
+const _: () = assert!(offset_of!(Cell, fresh) == 60 && offset_of!(Cell, pending) == 61 && offset_of!(Cell, after_load) == 62);
+const _: () = assert!(offset_of!(Cell, after_assign) == 63 && size_of::<Cell>() == 64);
 const _: () = assert!(offset_of!(Slot, position) == 8 && size_of::<Slot>() == 16);
 const _: () = assert!(offset_of!(Hold, depth) == 8 && size_of::<Hold>() == 16);
-const _: () = assert!(offset_of!(State, events) == 24 && offset_of!(State, cells) == 32 && offset_of!(State, reads) == 5_152);
-const _: () = assert!(offset_of!(State, stores) == 21_536 && offset_of!(State, locked) == 37_920);
-const _: () = assert!(offset_of!(State, holds) == 37_984 && offset_of!(State, memory) == 38_112);
+const _: () = assert!(offset_of!(State, events) == 40 && offset_of!(State, cells) == 48 && offset_of!(State, reads) == 8_240);
+const _: () = assert!(offset_of!(State, stores) == 24_624 && offset_of!(State, locked) == 41_008);
+const _: () = assert!(offset_of!(State, holds) == 41_072 && offset_of!(State, memory) == 41_200);
 const _: () = assert!(size_of::<State>() == STATE_BYTES);
 
-/// The bytes of a state's padding: behind the events, each cell and each hold.
+/// The bytes of a state's padding: behind the events and each hold.
 fn padding() -> impl Iterator<Item = Range<usize>> {
-    let cells = (0..128).map(|i| offset_of!(State, cells) + 40 * i).map(|cell| cell + 38..cell + 40);
     let holds = (0..8).map(|i| offset_of!(State, holds) + 16 * i).map(|hold| hold + 12..hold + 16);
-    [28..32].into_iter().chain(cells).chain(holds)
+    [44..48].into_iter().chain(holds)
 }
 
 #[repr(C)]
@@ -162,11 +177,13 @@ pub struct Kept {
 }
 
 impl Kept {
-    /// The state before the first event.
+    /// The state before the first event, in memory that had another: every bool was true.
     pub fn initial(counts: Counts) -> Kept {
-        let mut kept = Kept { bytes: [0; STATE_BYTES] };
+        let mut kept = Kept { bytes: [1; STATE_BYTES] };
         // SAFETY: the pointer is to the memory of a state, aligned to 8, and nothing else refers to it.
         unsafe { dabzhoni_initial(&mut *kept, counts.threads, counts.variables, counts.locks) };
+        assert_eq!(kept.counts, Counts { volatiles: [false; 16], ..counts }, "the counts of the state before the first event");
+        kept.counts.volatiles = counts.volatiles;
         kept
     }
 

@@ -1,8 +1,9 @@
-//! What documents 01 and 02 (a), (d), (e) and (g) say of one step from a state that a caller hands in, over the fields of
+//! What documents 01 and 02 (a), (d), (e), (f) and (g) say of one step from a state that a caller hands in, over the fields of
 //! `include/dabzhoni.h`, by the limits of a course.
 
 use crate::c_api::{Cell, Ring, Slot, State};
 use marker_a::rules::{self, ROWS};
+use marker_a::Kind;
 use papers::{by_a, Course, Event};
 
 fn cell(t: usize, v: usize) -> usize {
@@ -24,12 +25,14 @@ pub fn out_of_range(course: Course, s: &State) -> bool {
     !(1..=most.threads).contains(&counts.threads)
         || !(1..=most.variables).contains(&counts.variables)
         || counts.locks > most.locks
+        // "declared": a volatile variable is one of the head's
+        || (0..16).any(|v| counts.volatiles[v] && v >= counts.variables)
         // "events so far at most 2,000"
         || s.events > course.events()
         // "at most 8 outstanding reads and 8 outstanding stores for each thread and variable"
         || s.cells.iter().any(|c| c.reads.len > 8 || c.stores.len > 8)
         // "a position or lock depth above the events so far"
-        || s.cells.iter().any(|c| c.source > n || c.written > n)
+        || s.cells.iter().any(|c| c.source > n || c.written > n || c.loaded > n || c.used > n || c.assigned > n)
         || s.cells.iter().enumerate().any(|(i, c)| above(&s.reads, i, c.reads) || above(&s.stores, i, c.stores))
         || s.locked.iter().any(|&p| p > n)
         || s.holds.iter().any(|a| a.depth > s.events)
@@ -37,8 +40,66 @@ pub fn out_of_range(course: Course, s: &State) -> bool {
         || s.holds.iter().any(|a| a.holder > counts.threads || (a.holder == 0) != (a.depth == 0))
 }
 
+/// The volatile variables.
+fn volatiles(s: &State) -> impl Iterator<Item = usize> + '_ {
+    (0..s.counts.variables).filter(|&v| s.counts.volatiles[v])
+}
+
+/// Whether a declared event is on a volatile variable.
+pub fn is_volatile(s: &State, e: &Event) -> bool {
+    !e.is_lock() && s.counts.volatiles[e.place]
+}
+
+/// The position of the assign of the oldest outstanding store.
+fn oldest_assign(s: &State, t: usize, v: usize) -> Option<usize> {
+    queue(cell(t, v), s.cells[cell(t, v)].stores).next().map(|i| s.stores[i].position)
+}
+
+/// The volatile variables of which each part of 27 holds at a U: a fresh assign, an outstanding store, the last write not before the use's
+/// read, the read of the latest use not before it.
+pub fn use_parts(s: &State, e: &Event) -> [Vec<usize>; 4] {
+    let own = |v: usize| &s.cells[cell(e.thread, v)];
+    let read = own(e.place).loaded;
+    [
+        volatiles(s).filter(|&v| own(v).fresh).collect(),
+        volatiles(s).filter(|&v| own(v).stores.len > 0).collect(),
+        volatiles(s).filter(|&v| own(v).written >= read).collect(),
+        volatiles(s).filter(|&v| own(v).used >= read).collect(),
+    ]
+}
+
+/// The same at a W: the assign of the oldest outstanding store is before that of the one to be written; a fresh assign is.
+pub fn write_parts(s: &State, e: &Event) -> [Vec<usize>; 2] {
+    let own = |v: usize| &s.cells[cell(e.thread, v)];
+    let Some(assign) = oldest_assign(s, e.thread, e.place) else { return Default::default() };
+    [
+        volatiles(s).filter(|&v| oldest_assign(s, e.thread, v).is_some_and(|earlier| earlier < assign)).collect(),
+        volatiles(s).filter(|&v| own(v).fresh && own(v).assigned < assign).collect(),
+    ]
+}
+
+/// Whether the declared event breaks 26, 27 or 28.
+fn breaks_volatile(number: u32, s: &State, e: &Event) -> bool {
+    if !is_volatile(s, e) {
+        return false;
+    }
+    let c = &s.cells[cell(e.thread, e.place)];
+    match (number, e.letter) {
+        (26, b'R' | b'W') => false,
+        // "U must directly follow L and S directly follow A", "after L or A nothing else may come"
+        (26, letter) => (letter == b'U') != c.after_load || (letter == b'S') != c.after_assign,
+        (27, b'U') => use_parts(s, e).iter().any(|part| !part.is_empty()),
+        (27, b'W') => write_parts(s, e).iter().any(|part| !part.is_empty()),
+        (28, letter) => letter == b'P' || letter == b'B',
+        _ => false,
+    }
+}
+
 /// Whether the declared event breaks the rule of this number, "read from its own contents".
 fn breaks(number: u32, s: &State, e: &Event) -> bool {
+    if (26..=28).contains(&number) {
+        return breaks_volatile(number, s, e);
+    }
     let (t, p) = (e.thread, e.place);
     let own = |v: usize| &s.cells[cell(t, v)];
     let mut variables = 0..s.counts.variables;
@@ -122,9 +183,11 @@ fn take_lock(s: &mut State, e: &Event, now: usize) {
 
 fn take_access(s: &mut State, e: &Event, now: usize) {
     let (p, x) = (e.place, e.value);
-    let slot = Slot { value: x, position: now };
     let i = cell(e.thread, p);
     let c = &mut s.cells[i];
+    if e.letter != b'R' && e.letter != b'W' {
+        (c.after_load, c.after_assign) = (e.letter == b'L', e.letter == b'A');
+    }
     let behind = |q: Ring| 8 * i + (usize::from(q.first) + usize::from(q.len)) % 8;
     let popped = |q: Ring| Ring { first: ((usize::from(q.first) + 1) % 8) as u8, len: q.len - 1 };
     match e.letter {
@@ -132,25 +195,30 @@ fn take_access(s: &mut State, e: &Event, now: usize) {
             c.copy = x;
             c.source = now;
             c.fresh = e.letter == b'A';
+            c.assigned = if c.fresh { now } else { c.assigned };
             c.pending = c.pending && e.letter == b'A';
         }
         b'L' => {
             let read = s.reads[8 * i + usize::from(c.reads.first) % 8];
             c.copy = x;
             c.source = c.source.max(read.position);
+            c.loaded = read.position;
             c.reads = popped(c.reads);
         }
         b'S' | b'P' => {
+            // a store has the position of its assign, an early one its own
+            let mut position = now;
             if e.letter == b'S' {
                 c.fresh = false;
+                position = c.assigned;
             } else {
                 (c.pending, c.announced) = (true, x);
             }
-            s.stores[behind(c.stores)] = slot;
+            s.stores[behind(c.stores)] = Slot { value: x, position };
             c.stores.len += 1;
         }
         b'R' => {
-            s.reads[behind(c.reads)] = slot;
+            s.reads[behind(c.reads)] = Slot { value: x, position: now };
             c.reads.len += 1;
         }
         b'W' => {
@@ -158,21 +226,56 @@ fn take_access(s: &mut State, e: &Event, now: usize) {
             c.written = now;
             s.memory[p] = x;
         }
+        b'U' => c.used = c.loaded,
         _ => {}
+    }
+}
+
+/// The positions, from 1, of a thread's events of these kinds on a variable.
+fn positions(es: &[marker_a::Event], t: u32, v: u32, kinds: &[Kind]) -> Vec<usize> {
+    let fits = |e: &marker_a::Event| kinds.contains(&e.kind) && (e.thread, e.target) == (t, v);
+    (0..es.len()).filter(|&i| fits(&es[i])).map(|i| i + 1).collect()
+}
+
+/// The read of the latest load, by pairing; 0 where there is none.
+fn read_of_latest_load(es: &[marker_a::Event], t: u32, v: u32) -> usize {
+    let loads = positions(es, t, v, &[Kind::L]).len();
+    loads.checked_sub(1).map_or(0, |last| positions(es, t, v, &[Kind::R])[last])
+}
+
+/// What (f) keeps of a thread and a variable, from the list: loaded, used, assigned, after_load and after_assign.
+fn kept_of(es: &[marker_a::Event], t: u32, v: u32) -> (usize, usize, usize, bool, bool) {
+    let last = |kinds: &[Kind]| positions(es, t, v, kinds).last().copied().unwrap_or(0);
+    let own = last(&[Kind::U, Kind::A, Kind::L, Kind::S, Kind::P, Kind::B]);
+    let latest = own.checked_sub(1).map(|i| es[i].kind);
+    // of the events before the latest use
+    let used = read_of_latest_load(&es[..last(&[Kind::U])], t, v);
+    (read_of_latest_load(es, t, v), used, last(&[Kind::A]), latest == Some(Kind::L), latest == Some(Kind::A))
+}
+
+/// The position that the slot of a store has: its assign's, or its own for an early one.
+fn position_of_store(es: &[marker_a::Event], place: usize) -> usize {
+    let store = es[place];
+    match store.kind {
+        Kind::P => place + 1,
+        _ => positions(&es[..place], store.thread, store.target, &[Kind::A]).last().copied().unwrap_or(0),
     }
 }
 
 /// The words of marker A over a list of accepted events, against the state's fields. The first that differs.
 pub fn differs(s: &State, es: &[marker_a::Event]) -> Option<String> {
-    use marker_a::Kind::{K, N, W};
+    use Kind::{K, N, W};
     let said = |right: bool, what: &str| (!right).then(|| what.to_string());
     let last = |kind, t: u32, v: Option<u32>| {
         let found = es.iter().rposition(|e| e.kind == kind && e.thread == t && v.is_none_or(|v| e.target == v));
         found.map_or(0, |i| i + 1)
     };
     let held = |slots: &[Slot], i: usize, q: Ring| queue(i, q).map(|p| slots[p]).collect::<Vec<Slot>>();
-    let listed =
+    let reads =
         |places: Vec<usize>| -> Vec<Slot> { places.into_iter().map(|i| Slot { value: es[i].value, position: i + 1 }).collect() };
+    let stores = |places: Vec<usize>| -> Vec<Slot> {
+        places.into_iter().map(|i| Slot { value: es[i].value, position: position_of_store(es, i) }).collect()
+    };
     let mut wrong = said(s.events as usize == es.len(), "events");
     for t in 0..s.counts.threads as u32 {
         wrong = wrong.or_else(|| said(s.locked[t as usize] == last(K, t, None), "last lock"));
@@ -186,8 +289,12 @@ pub fn differs(s: &State, es: &[marker_a::Event]) -> Option<String> {
                 .or_else(|| said(rules::owed(es, t, v) == c.pending, "owed"))
                 .or_else(|| said(rules::usable(es, t, v) == usable, "usable"))
                 .or_else(|| said(last(W, t, Some(v)) == c.written, "last write"))
-                .or_else(|| said(listed(rules::outstanding_reads(es, t, v)) == held(&s.reads, i, c.reads), "reads"))
-                .or_else(|| said(listed(rules::outstanding_stores(es, t, v)) == held(&s.stores, i, c.stores), "stores"));
+                .or_else(|| said(reads(rules::outstanding_reads(es, t, v)) == held(&s.reads, i, c.reads), "reads"))
+                .or_else(|| said(stores(rules::outstanding_stores(es, t, v)) == held(&s.stores, i, c.stores), "stores"))
+                .or_else(|| {
+                    let kept = (c.loaded, c.used, c.assigned, c.after_load, c.after_assign);
+                    said(kept_of(es, t, v) == kept, "loaded, used, assigned, after_load or after_assign")
+                });
         }
         for l in 0..s.counts.locks as u32 {
             let count = |kind| es.iter().filter(|e| e.kind == kind && e.thread == t && e.target == l).count();

@@ -4,7 +4,7 @@
 use crate::c_api::{Cell, Counts, Hold, Kept, Reply, Ring, Slot, State};
 use crate::model;
 use marker_a::paper;
-use papers::generate::{self, one_bit_off, Rng, DOUBLES, LETTERS, OF_64_BITS, PAIRS};
+use papers::generate::{self, one_bit_off, some_volatiles, Rng, DOUBLES, LETTERS, OF_64_BITS, PAIRS};
 use papers::shrink::shrink;
 use papers::{by_a, Course, Event, Value};
 use std::collections::BTreeMap;
@@ -27,6 +27,10 @@ pub struct Tally {
     pub unlocks: [usize; UNLOCKS.len()],
     /// and for 18 at a letter where the values have the same low 32 bits
     pub halves: BTreeMap<u8, usize>,
+    /// for each part of 27 that held alone, at a letter, of its own variable or of another
+    pub parts: BTreeMap<(u8, usize, bool), usize>,
+    /// and for each of `VOLATILES`
+    pub volatiles: [usize; VOLATILES.len()],
 }
 
 impl Tally {
@@ -59,7 +63,7 @@ impl Tally {
 }
 
 fn kept_counts(c: papers::Counts) -> Counts {
-    Counts { threads: c.threads, variables: c.variables, locks: c.locks }
+    Counts { threads: c.threads, variables: c.variables, locks: c.locks, volatiles: c.volatiles }
 }
 
 /// One step: the reply that is wanted, and the state byte for byte as it was after a refusal, its padding included.
@@ -90,7 +94,7 @@ fn after_events(
     e: &Event,
 ) -> ((usize, usize), Result<(), String>) {
     let number = by_a::judge(course, list, by_a::counts(counts), &by_a::event(e)) as usize;
-    let reply = if number == 0 { (0, 0) } else { (number, earlier.len() + 3) };
+    let reply = if number == 0 { (0, 0) } else { (number, earlier.len() + counts.first_line() as usize) };
     let said = stepped(course, before, e, reply).and_then(|after| {
         if number != 0 {
             return Ok(());
@@ -112,7 +116,8 @@ fn after_events(
 fn steps_of(course: Course, bytes: &[u8]) -> Result<(), String> {
     let Ok(parts) = paper::find(bytes) else { return Ok(()) };
     let c = parts.counts;
-    let counts = papers::Counts { threads: c.threads as usize, variables: c.variables as usize, locks: c.locks as usize };
+    let plain = papers::Counts::new(c.threads as usize, c.variables as usize, c.locks as usize);
+    let counts = papers::Counts { volatiles: c.volatiles, ..plain };
     let mut state = Kept::initial(kept_counts(counts));
     let (mut earlier, mut list) = (Vec::new(), Vec::new());
     for line in parts.body.split(|&b| b == 10) {
@@ -156,9 +161,10 @@ fn due(s: &State, letter: u8, thread: usize, place: usize) -> Option<Value> {
 
 /// An event, often one that some state accepts: declared in most cases, with the value that is due, or one that differs from it in one bit.
 fn any_event(rng: &mut Rng, s: &State) -> Event {
-    let letter = rng.pick(LETTERS);
+    // 27 and what is accepted beside it more often, where a variable is volatile
+    let letter = if s.counts.volatiles.contains(&true) && rng.chance(40) { rng.pick(b"UUWWS") } else { rng.pick(LETTERS) };
     let lock = matches!(letter, b'K' | b'N');
-    let Counts { threads, variables, locks } = s.counts;
+    let Counts { threads, variables, locks, .. } = s.counts;
     let mut number = |n: usize, usual: usize| match rng.below(40) {
         0 => usual,
         1 => usize::MAX,
@@ -182,7 +188,10 @@ fn trace(rng: &mut Rng, course: Course, length: usize) -> (papers::Counts, Vec<E
         Course::Short => {
             let most = course.counts();
             let (threads, variables) = (rng.between(1, most.threads), rng.between(1, most.variables));
-            let counts = papers::Counts { threads, variables, locks: rng.between(0, most.locks) };
+            let mut counts = papers::Counts::new(threads, variables, rng.between(0, most.locks));
+            if rng.chance(50) {
+                counts.volatiles = some_volatiles(rng, variables);
+            }
             generate::long_with(rng, counts, OF_64_BITS, length, 0, false)
         }
     };
@@ -232,10 +241,15 @@ fn cell_in_range(rng: &mut Rng, n: usize, bars: usize, value: &impl Fn(&mut Rng)
         announced: value(rng),
         source: position(rng, n),
         written: position(rng, n),
+        loaded: position(rng, n),
+        used: position(rng, n),
+        assigned: position(rng, n),
         reads: ring(rng),
         stores: ring(rng),
         fresh: rng.chance(30),
         pending: rng.chance(10),
+        after_load: rng.chance(40),
+        after_assign: rng.chance(30),
     };
     match bars {
         // half of the states have no thread that bars a lock or an unlock
@@ -250,22 +264,54 @@ fn cell_in_range(rng: &mut Rng, n: usize, bars: usize, value: &impl Fn(&mut Rng)
     c
 }
 
-/// A state in range, with anything in the places past a queue's count.
+/// What a part of the cells of a calm state has: a fresh assign, outstanding stores, a late write, a late use.
+type Theme = (bool, bool, bool, bool);
+const THEMES: [Theme; 5] = [
+    (true, false, false, false),
+    (false, true, false, false),
+    (false, false, true, false),
+    (false, false, false, true),
+    (true, true, false, false),
+];
+
+/// Makes a cell one whose thread seldom breaks 27, but by its theme: nothing is unwritten, and the read that is loaded came after what is
+/// written and used.
+fn calm(rng: &mut Rng, n: usize, theme: Theme, c: &mut Cell) {
+    let half = n / 2;
+    let mut has = |themed: bool| rng.chance(if themed { 25 } else { 1 });
+    let (fresh, stores, written, used) = (has(theme.0), has(theme.1), has(theme.2), has(theme.3));
+    c.fresh = fresh;
+    c.stores.len = if stores { rng.between(1, 3) as u8 } else { 0 };
+    c.written = position(rng, if written { n } else { half });
+    c.used = position(rng, if used { n } else { half });
+    c.loaded = n - position(rng, half);
+    // an assign that is fresh is the latest event in most cells
+    c.after_assign = if fresh { rng.chance(60) } else { rng.chance(5) };
+    c.after_load = !c.after_assign && rng.chance(70);
+}
+
+/// A state in range, with anything in the places past a queue's count. In half of them some variables are volatile, and most of these are calm.
 pub fn state_in_range(rng: &mut Rng, course: Course) -> Kept {
     let (most, events) = (course.counts(), course.events() as usize);
     let (threads, variables) = (rng.between(1, most.threads), rng.between(1, most.variables));
-    let counts = Counts { threads, variables, locks: rng.between(0, most.locks) };
+    let volatile = rng.chance(50);
+    let volatiles = if volatile { some_volatiles(rng, variables) } else { [false; 16] };
+    let counts = Counts { threads, variables, locks: rng.between(0, most.locks), volatiles };
     let mut s = Kept::initial(counts);
     let any = position(rng, events);
     let n = rng.pick(&[1, 50, events - 1, any, any, any]);
     s.events = n as u32;
     let few = rng.chance(50);
     let bars = rng.below(4);
+    let theme = (volatile && rng.chance(60)).then(|| rng.pick(&THEMES));
     let near = rng.pick(OF_64_BITS);
     let pool = [near, one_bit_off(rng, near)];
     let value = |rng: &mut Rng| if few { rng.pick(&pool) } else { rng.next() as Value };
     for i in 0..128 {
-        let c = cell_in_range(rng, n, bars, &value);
+        let mut c = cell_in_range(rng, n, bars, &value);
+        if let Some(theme) = theme {
+            calm(rng, n, theme, &mut c);
+        }
         s.cells[i] = c;
         for k in 0..8 {
             s.reads[8 * i + k] = Slot { value: value(rng), position: rng.next() as usize };
@@ -316,6 +362,58 @@ fn count_unlock(tally: &mut Tally, s: &State, t: usize, answer: u32) {
     }
 }
 
+/// What must occur of events on volatile variables: its name, the letter, the answer, and what holds of the state and the event.
+type Volatile = (&'static str, u8, u32, fn(&State, &Event) -> bool);
+const VOLATILES: [Volatile; 13] = [
+    ("accepted, another written or used", b'U', 0, |s, e| others(s, e).any(|c| c.written > 0 && c.used > 0)),
+    ("the last write at its read", b'U', 27, |s, e| others(s, e).any(|c| c.written == own(s, e).loaded)),
+    ("the read of a use at its read", b'U', 27, |s, e| others(s, e).any(|c| c.used == own(s, e).loaded)),
+    ("no read is loaded", b'U', 27, |s, e| own(s, e).loaded == 0),
+    ("accepted", b'A', 0, |_, _| true),
+    ("accepted", b'L', 0, |_, _| true),
+    ("accepted", b'S', 0, |_, _| true),
+    ("accepted, another has a store", b'W', 0, |s, e| others(s, e).any(|c| c.stores.len > 0)),
+    ("accepted, another has a fresh assign", b'W', 0, |s, e| others(s, e).any(|c| c.fresh)),
+    ("accepted, its own fresh assign", b'W', 0, |s, e| own(s, e).fresh),
+    ("after a load and an assign", b'U', 26, |s, e| own(s, e).after_load && own(s, e).after_assign),
+    ("after a load and an assign", b'S', 26, |s, e| own(s, e).after_load && own(s, e).after_assign),
+    ("owed", b'B', 28, |s, e| own(s, e).pending),
+];
+
+/// The cell of an event on a variable.
+fn own<'a>(s: &'a State, e: &Event) -> &'a Cell {
+    &s.cells[16 * e.thread + e.place]
+}
+
+/// The thread's cells of the other volatile variables.
+fn others<'a>(s: &'a State, e: &Event) -> impl Iterator<Item = &'a Cell> {
+    let (thread, place) = (e.thread, e.place);
+    (0..s.counts.variables).filter(move |&v| v != place && s.counts.volatiles[v]).map(move |v| &s.cells[16 * thread + v])
+}
+
+/// The parts of 27 that an event must meet alone: letter, part, and whether of its own variable.
+fn parts_of_27() -> Vec<(u8, usize, bool)> {
+    let uses = (0..4).flat_map(|part| [(b'U', part, true), (b'U', part, false)]);
+    // its own oldest store is not before itself
+    uses.chain([(b'W', 0, false), (b'W', 1, true), (b'W', 1, false)]).collect()
+}
+
+/// Counts what an event on a volatile variable with this answer meets.
+fn count_volatile(tally: &mut Tally, s: &State, e: &Event, answer: u32) {
+    for ((_, letter, number, holds), times) in VOLATILES.iter().zip(&mut tally.volatiles) {
+        *times += usize::from((*letter, *number) == (e.letter, answer) && holds(s, e));
+    }
+    if answer == 27 {
+        let parts = if e.letter == b'U' { model::use_parts(s, e).to_vec() } else { model::write_parts(s, e).to_vec() };
+        let of = |part: usize| parts[part].iter().map(move |&v| (e.letter, part, v == e.place));
+        let mut all: Vec<(u8, usize, bool)> = (0..parts.len()).flat_map(of).collect();
+        all.dedup();
+        if let [alone] = all[..] {
+            *tally.parts.entry(alone).or_insert(0) += 1;
+        }
+    }
+}
+
 /// One step against the model, the state after it included; in the short course against the full one too, where neither limit nor 8 is the
 /// answer.
 fn against_model(tally: &mut Tally, course: Course, before: &Kept, e: &Event) {
@@ -330,8 +428,11 @@ fn against_model(tally: &mut Tally, course: Course, before: &Kept, e: &Event) {
     if number == 18 && due(before, e.letter, e.thread, e.place).is_some_and(|x| x as u32 == e.value as u32) {
         *tally.halves.entry(e.letter).or_insert(0) += 1;
     }
+    if ![5, 8, course.over()].contains(&number) && model::is_volatile(before, e) {
+        count_volatile(tally, before, e, number);
+    }
     tally.over[1] += usize::from(number == course.over());
-    let line = if number == 8 { 0 } else { before.events as usize + 3 };
+    let line = if number == 8 { 0 } else { before.events as usize + before.counts.first_line() };
     let reply = if number == 0 { (0, 0) } else { (number as usize, line) };
     let said = stepped(course, before, e, reply).and_then(|after| {
         let mut wanted = before.clone();
@@ -365,7 +466,7 @@ pub fn in_range(tally: &mut Tally, rng: &mut Rng, course: Course, of: Course, ea
 }
 
 /// Refusals, and two of them at once, that no event of a paper meets: only a step from a state that no events reach.
-const IN_NO_PAPER: [(u8, u32, u32); 8] = [
+const IN_NO_PAPER: [(u8, u32, u32); 14] = [
     (b'L', 15, 0),
     (b'L', 16, 0),
     (b'L', 13, 16),
@@ -374,18 +475,25 @@ const IN_NO_PAPER: [(u8, u32, u32); 8] = [
     (b'L', 16, 18),
     (b'R', 19, 23),
     (b'P', 19, 23),
+    (b'L', 26, 13),
+    (b'S', 26, 13),
+    (b'P', 26, 13),
+    (b'P', 28, 13),
+    (b'B', 26, 18),
+    (b'B', 28, 18),
 ];
 
 /// Each refusal of each row, each two that one event can break, each part of 16 at N, and 18 of values with the same low 32 bits at each
-/// letter occurred in the steps from states in range; and the course's limit of events, there and along traces, and in the short course
-/// steps that were held to the full one. Prints how often those with 15, 16 or 23, these parts and the limits did.
+/// letter occurred in the steps from states in range, each part of 27 alone, of its own variable and of another, and each of `VOLATILES`; and
+/// the course's limit of events, there and along traces, and in the short course steps that were held to the full one. Prints how often those
+/// with 15, 16, 23 or 26 to 28, these parts and the limits did.
 pub fn every_answer(tally: &mut Tally, course: Course) {
     let pairs = PAIRS.map(|(letter, number)| (letter, number, 0));
     let mut all = Vec::new();
-    for (letter, number, later) in pairs.into_iter().chain(DOUBLES).chain(IN_NO_PAPER) {
+    for (letter, number, later) in pairs.into_iter().chain(DOUBLES).chain([(b'U', 26, 27)]).chain(IN_NO_PAPER) {
         let times = tally.answers.get(&(letter, number, later)).copied().unwrap_or(0);
         let beside = if later == 0 { String::new() } else { format!(" beside {later}") };
-        let shown = [15, 16, 23].iter().any(|n| [number, later].contains(n));
+        let shown = [15, 16, 23, 26, 27, 28].iter().any(|n| [number, later].contains(n));
         all.push((number, format!("{number}{beside} at {}", letter as char), times, shown));
     }
     for ((name, number, _), times) in UNLOCKS.iter().zip(tally.unlocks) {
@@ -394,6 +502,14 @@ pub fn every_answer(tally: &mut Tally, course: Course) {
     for letter in "ULSRWB".bytes() {
         let times = tally.halves.get(&letter).copied().unwrap_or(0);
         all.push((18, format!("18 at {}, the same low 32 bits", letter as char), times, true));
+    }
+    for (letter, part, same) in parts_of_27() {
+        let times = tally.parts.get(&(letter, part, same)).copied().unwrap_or(0);
+        let of = if same { "its own variable" } else { "another" };
+        all.push((27, format!("27 at {}, part {} alone, of {of}", letter as char, part + 1), times, true));
+    }
+    for ((name, letter, number, _), times) in VOLATILES.iter().zip(tally.volatiles) {
+        all.push((*number, format!("{number} at a volatile {}, {name}", *letter as char), times, true));
     }
     let over = course.over();
     all.push((over, format!("{over} along a trace"), tally.over[0], true));
@@ -412,13 +528,13 @@ pub fn every_answer(tally: &mut Tally, course: Course) {
 
 /// The numbers of refusal 8: how many places each has, and what puts the one at a place out of range and no other number.
 type Spoil = fn(&mut State, usize, &mut Rng, Course);
-const SPOILS: [(&str, usize, Spoil); 17] = [
+const SPOILS: [(&str, usize, Spoil); 21] = [
     ("no thread", 1, |s, _, _, _| {
         s.counts.threads = 0;
         s.holds = [Hold { holder: 0, depth: 0 }; 8];
     }),
     ("threads", 4, |s, i, _, course| s.counts.threads = [course.counts().threads + 1, 9, 256, usize::MAX][i]),
-    ("no variable", 1, |s, _, _, _| s.counts.variables = 0),
+    ("no variable", 1, |s, _, _, _| (s.counts.variables, s.counts.volatiles) = (0, [false; 16])),
     ("variables", 4, |s, i, _, course| s.counts.variables = [course.counts().variables + 1, 17, 256, usize::MAX][i]),
     ("locks", 4, |s, i, _, course| s.counts.locks = [course.counts().locks + 1, 9, 256, usize::MAX][i]),
     ("events", 4, |s, i, _, course| s.events = [course.events() + 1, 2_001, 65_536, u32::MAX][i]),
@@ -428,6 +544,16 @@ const SPOILS: [(&str, usize, Spoil); 17] = [
     ("position of a store", 1_024, |s, i, r, _| spoil_queue(s.events, &mut s.cells[i / 8].stores, &mut s.stores, i, r)),
     ("source", 128, |s, i, r, _| s.cells[i].source = above(s.events, r)),
     ("last write", 128, |s, i, r, _| s.cells[i].written = above(s.events, r)),
+    ("loaded", 128, |s, i, r, _| s.cells[i].loaded = above(s.events, r)),
+    ("used", 128, |s, i, r, _| s.cells[i].used = above(s.events, r)),
+    ("assigned", 128, |s, i, r, _| s.cells[i].assigned = above(s.events, r)),
+    // one flag past the variables, of which there are fewer where that must be
+    ("stray volatile", 15, |s, i, _, _| {
+        s.counts.variables = s.counts.variables.min(i + 1);
+        let variables = s.counts.variables;
+        s.counts.volatiles.iter_mut().skip(variables).for_each(|flag| *flag = false);
+        s.counts.volatiles[i + 1] = true;
+    }),
     ("last lock", 8, |s, i, r, _| s.locked[i] = above(s.events, r)),
     ("depth", 8, |s, i, r, _| s.holds[i] = Hold { holder: 1, depth: r.pick(&[s.events + 1, 2_001, u32::MAX]) }),
     ("holder", 8, |s, i, r, _| s.holds[i] = Hold { holder: s.counts.threads + r.pick(&[1, 2, 8, 1 << 40]), depth: 1 }),
@@ -490,12 +616,13 @@ pub fn out_of_range(tally: &mut Tally, rng: &mut Rng, course: Course) {
         }
     }
     // a letter that is none of the ten: 4 before all others
-    let mut bad = s.clone();
+    let (mut bad, mut stray) = (s.clone(), s.clone());
     bad.counts.threads = 9;
-    for kept in [&s, &bad] {
+    (stray.counts.variables, stray.counts.volatiles[15]) = (1, true);
+    for kept in [&s, &bad, &stray] {
         for letter in (0..=255).filter(|letter| !LETTERS.contains(letter)) {
             let e = Event { letter, ..any_event(rng, &s) };
-            let wanted = (4, kept.events as usize + 3);
+            let wanted = (4, kept.events as usize + kept.counts.first_line());
             tally.count(wanted, stepped(course, kept, &e, wanted).map(|_| ()));
         }
     }

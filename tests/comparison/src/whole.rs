@@ -4,6 +4,7 @@ use crate::c_api::{self, Marked};
 use marker_a::order::Section;
 use marker_a::{paper, rules, Kind, Outcome, Verdict};
 use papers::generate::Rng;
+use papers::short_course::has_v_line;
 use papers::{by_a, Course, Value};
 use std::cell::{Cell, RefCell};
 use std::slice;
@@ -158,6 +159,9 @@ struct Orders {
     uses: usize,
     /// those whose sections are not in order of their first locks
     other: usize,
+    /// those of papers with volatile variables, and their uses
+    volatile: usize,
+    volatile_uses: usize,
 }
 
 /// Checks papers.
@@ -306,7 +310,7 @@ impl Papers {
         // in the short course the order is the full one's, for the listing is
         if let (Course::Full, Some(order)) = (course, &wanted.order) {
             let uses = demand3(bytes, wanted.events, order).map_err(|e| format!("demand 3: {e}\n"))?;
-            self.count(uses, order);
+            self.count(uses, order, has_v_line(bytes));
         }
         lent_too_little(course, &mut lent, bytes)?;
         self.clean.set(true);
@@ -315,15 +319,22 @@ impl Papers {
 
     /// On how many orders demand 3 was asked.
     pub fn orders(&self) -> String {
-        let Orders { number, uses, other } = self.orders.get();
-        format!("demand 3: {number} orders with {uses} uses; {other} orders are not that of the first locks")
+        let Orders { number, uses, other, volatile, volatile_uses } = self.orders.get();
+        format!(
+            "demand 3: {number} orders with {uses} uses; {other} orders are not that of the first locks; {volatile} orders with \
+             {volatile_uses} uses are of papers with volatile variables"
+        )
     }
 
-    fn count(&self, uses: usize, order: &[u64]) {
+    fn count(&self, uses: usize, order: &[u64], volatile: bool) {
         let mut all = self.orders.get();
         all.number += 1;
         all.uses += uses;
         all.other += usize::from(!order.is_sorted_by_key(|&entry| section(entry).first));
+        if volatile {
+            all.volatile += 1;
+            all.volatile_uses += uses;
+        }
         self.orders.set(all);
     }
 }

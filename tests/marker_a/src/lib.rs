@@ -1,9 +1,10 @@
-//! A naive marker for the papers of document 01, with requests (a), (d), (e), (g) and (k) of document 02.
+//! A naive marker for the papers of document 01, with requests (a), (d), (e), (f), (g) and (k) of document 02.
 //!
 //! Every word of 01 is computed anew from the list of earlier events.
 //! The quoted sentences are 01's, for 23 those of 02 (a), for 16 at N also those of 02 (d), for the
-//! short course and 25 those of 02 (e), and for the width of values those of 02 (g). 02 (k) asks for
-//! "the same order" and changes only a limit of 7, which cannot arise here.
+//! short course and 25 those of 02 (e), for the `V` line, the lines of events and 26 to 28 those of
+//! 02 (f), and for the width of values those of 02 (g). 02 (k) asks for "the same order" and changes
+//! only a limit of 7, which cannot arise here.
 
 pub mod listing;
 pub mod order;
@@ -32,12 +33,21 @@ pub const MAX_OUTSTANDING: usize = 8;
 /// "Values become signed 64-bit whole numbers in lines, records, copies, queues and listings."
 pub type Value = i64;
 
-/// The declared counts: "`H t v l`".
+/// What a paper declares: "`H t v l`", and "An optional line `V` with rising variable numbers".
 #[derive(Clone, Copy, Debug, PartialEq, Eq)]
 pub struct Counts {
     pub threads: u32,
     pub variables: u32,
     pub locks: u32,
+    /// Whether the `V` line names the variable; all false without the line.
+    pub volatiles: [bool; MAX_VARIABLES as usize],
+}
+
+impl Counts {
+    /// The counts of a head, without a `V` line.
+    pub const fn plain(threads: u32, variables: u32, locks: u32) -> Counts {
+        Counts { threads, variables, locks, volatiles: [false; MAX_VARIABLES as usize] }
+    }
 }
 
 /// The limits of a course: "Both limits stay in force, each for its own entry".
@@ -52,10 +62,9 @@ struct Limits {
 }
 
 /// The limits of 01, with 9 for an event over them.
-const FULL: Limits =
-    Limits { counts: Counts { threads: MAX_THREADS, variables: MAX_VARIABLES, locks: MAX_LOCKS }, events: MAX_EVENTS, number: 9 };
+const FULL: Limits = Limits { counts: Counts::plain(MAX_THREADS, MAX_VARIABLES, MAX_LOCKS), events: MAX_EVENTS, number: 9 };
 /// "at most 2 threads, 4 variables, 2 locks and 200 events", with 25 "in place of 9 for events".
-const SHORT: Limits = Limits { counts: Counts { threads: 2, variables: 4, locks: 2 }, events: 200, number: 25 };
+const SHORT: Limits = Limits { counts: Counts::plain(2, 4, 2), events: 200, number: 25 };
 
 /// "An event is one of ten kinds", named by its letter.
 #[derive(Clone, Copy, Debug, PartialEq, Eq)]
@@ -143,9 +152,15 @@ pub struct Outcome {
 }
 
 /// The line of the event at place `index` (from 0) of the list; the trailer's line for the
-/// list's length.
-pub fn line_of(index: usize) -> usize {
-    index + 3
+/// list's length. "For one step the line is the events so far plus 3". "With it events start at
+/// line 4, for a step too."
+pub fn line_of(counts: Counts, index: usize) -> usize {
+    index + if has_v_line(counts) { 4 } else { 3 }
+}
+
+/// The paper has a `V` line. "a wrong or empty one is 6", so a right one names a variable.
+fn has_v_line(counts: Counts) -> bool {
+    counts.volatiles.contains(&true)
 }
 
 /// What the program `mark` prints for these bytes.
@@ -187,7 +202,7 @@ fn accepted_events(body: &[u8], counts: Counts, limits: Limits) -> Result<Vec<Ev
     let mut events = Vec::new();
     let mut rest = body;
     while let Some((line, after)) = paper::take_line(rest) {
-        let place = line_of(events.len());
+        let place = line_of(counts, events.len());
         let event = paper::event(line).ok_or(Refusal { line: place, number: 4 })?;
         let number = rules::judge_within(&events, counts, &event, limits);
         if number != 0 {
@@ -245,7 +260,7 @@ fn order_of(counts: Counts, guards: Option<&[u32]>, events: &[Event]) -> Order {
         None => Order::None,
         Some(guards) => match denial(counts, guards, events) {
             Some((number, line)) => Order::Denied { number, line },
-            None => Order::Sections(sections(events)),
+            None => Order::Sections(sections(counts, events)),
         },
     }
 }
@@ -256,8 +271,9 @@ pub fn demand3(o: &Outcome) -> Result<(), String> {
     let Order::Sections(order) = &o.order else {
         return Ok(());
     };
-    let (uses, memory) = plain_run(order, &o.events);
-    every_use_is_given(&uses, &o.events)?;
+    let counts = o.counts.ok_or("an order without counts")?;
+    let (uses, memory) = plain_run(counts, order, &o.events);
+    every_use_is_given(counts, &uses, &o.events)?;
     for u in &uses {
         if u.given != u.stated {
             return Err(format!("line {}: given {}, stated {}", u.line, u.given, u.stated));
@@ -272,10 +288,10 @@ pub fn demand3(o: &Outcome) -> Result<(), String> {
 }
 
 /// "each U": every U of the paper is run exactly once.
-fn every_use_is_given(uses: &[Given], events: &[Event]) -> Result<(), String> {
+fn every_use_is_given(counts: Counts, uses: &[Given], events: &[Event]) -> Result<(), String> {
     let mut run: Vec<usize> = uses.iter().map(|u| u.line).collect();
     run.sort_unstable();
-    let all: Vec<usize> = (0..events.len()).filter(|&i| events[i].kind == Kind::U).map(line_of).collect();
+    let all: Vec<usize> = (0..events.len()).filter(|&i| events[i].kind == Kind::U).map(|i| line_of(counts, i)).collect();
     if run == all {
         Ok(())
     } else {

@@ -51,16 +51,17 @@ fn section_end(events: &[Event], start: usize) -> Option<usize> {
 
 /// The ended sections. "The list is in order of each section's last K, one entry for each
 /// section."
-pub fn sections(events: &[Event]) -> Vec<Section> {
-    let mut list: Vec<Section> = spans(events).iter().filter_map(|span| section(events, span)).collect();
+pub fn sections(counts: Counts, events: &[Event]) -> Vec<Section> {
+    let mut list: Vec<Section> = spans(events).iter().filter_map(|span| section(counts, events, span)).collect();
     list.sort_by_key(|s| s.last_lock);
     list
 }
 
-fn section(events: &[Event], span: &Span) -> Option<Section> {
+fn section(counts: Counts, events: &[Event], span: &Span) -> Option<Section> {
     let end = span.end?;
     let last_lock = (span.start..end).rev().find(|&i| events[i].kind == K && events[i].thread == span.thread)?;
-    Some(Section { thread: span.thread, first: line_of(span.start), last: line_of(end), last_lock: line_of(last_lock) })
+    let line = |place| line_of(counts, place);
+    Some(Section { thread: span.thread, first: line(span.start), last: line(end), last_lock: line(last_lock) })
 }
 
 /// "20 and 21 event by event, 22 last": number and line of what denies the order.
@@ -68,14 +69,14 @@ pub fn denial(counts: Counts, guards: &[u32], events: &[Event]) -> Option<(u32, 
     let spans = spans(events);
     for i in 0..events.len() {
         if rule_20(guards, events, i) {
-            return Some((20, line_of(i)));
+            return Some((20, line_of(counts, i)));
         }
         if rule_21(&spans, events, i) {
-            return Some((21, line_of(i)));
+            return Some((21, line_of(counts, i)));
         }
     }
     if rule_22(counts, events) {
-        return Some((22, line_of(events.len())));
+        return Some((22, line_of(counts, events.len())));
     }
     None
 }
@@ -109,12 +110,12 @@ fn rule_22(counts: Counts, events: &[Event]) -> bool {
 /// The plain memory of demand 3. "The sections are run in the order's sequence, each to its
 /// end before the next." Gives every U in running order, and the memory at the end.
 /// "It has one value for each declared variable, 0 at the start": the memory has the 16 that
-/// can be declared, and undeclared ones stay 0.
-pub fn plain_run(order: &[Section], events: &[Event]) -> (Vec<Given>, Vec<Value>) {
+/// can be declared, and undeclared ones stay 0. The counts tell only the events' lines.
+pub fn plain_run(counts: Counts, order: &[Section], events: &[Event]) -> (Vec<Given>, Vec<Value>) {
     let mut memory = vec![0; MAX_VARIABLES as usize];
     let mut uses = Vec::new();
     for section in order {
-        run_section(section, events, &mut memory, &mut uses);
+        run_section(counts, section, events, &mut memory, &mut uses);
     }
     (uses, memory)
 }
@@ -123,9 +124,9 @@ pub fn plain_run(order: &[Section], events: &[Event]) -> (Vec<Given>, Vec<Value>
 /// last, as they stand in the paper. A and B set their variable to the event's value. U
 /// changes nothing and is given its variable's value; the value in the U itself is not
 /// looked at. Every other kind does nothing, P included".
-fn run_section(section: &Section, events: &[Event], memory: &mut [Value], uses: &mut Vec<Given>) {
+fn run_section(counts: Counts, section: &Section, events: &[Event], memory: &mut [Value], uses: &mut Vec<Given>) {
     for (i, e) in events.iter().enumerate() {
-        let line = line_of(i);
+        let line = line_of(counts, i);
         if e.thread != section.thread || line < section.first || line > section.last {
             continue;
         }

@@ -1,4 +1,4 @@
-//! The byte format of a paper: trailer, head, `G` line, event lines, numbers.
+//! The byte format of a paper: trailer, head, `G` line, `V` line, event lines, numbers.
 
 use crate::{Counts, Event, Kind, Limits, Refusal, Value};
 use crate::{FULL, MAX_BYTES, MAX_LOCKS, MAX_THREADS, MAX_VARIABLES};
@@ -6,6 +6,7 @@ use crate::{FULL, MAX_BYTES, MAX_LOCKS, MAX_THREADS, MAX_VARIABLES};
 /// The parts of a paper that 1, 2, 3, 25 and 6 do not refuse.
 #[derive(Clone, Debug, PartialEq, Eq)]
 pub struct Parts<'a> {
+    /// The counts of the head, with the variables that the `V` line names.
     pub counts: Counts,
     /// One lock number per variable; none for `G -`.
     pub guards: Option<Vec<u32>>,
@@ -37,9 +38,17 @@ pub(crate) fn find_within(paper: &[u8], limits: Limits) -> Result<Parts<'_>, Ref
     }
     // "`G` line wrong: form, count, or undeclared lock (line 2)."
     let wrong_guards = Refusal { line: 2, number: 6 };
-    let (line, body) = take_line(rest).ok_or(wrong_guards)?;
+    let (line, rest) = take_line(rest).ok_or(wrong_guards)?;
     let guards = guards(line, counts).ok_or(wrong_guards)?;
-    Ok(Parts { counts, guards, body })
+    // "An optional line `V` with rising variable numbers follows `G`; a line 3 whose first byte is
+    // `V` is meant as one, and a wrong or empty one is 6 at line 3."
+    if rest.first() != Some(&b'V') {
+        return Ok(Parts { counts, guards, body: rest });
+    }
+    let wrong_volatiles = Refusal { line: 3, number: 6 };
+    let (line, body) = take_line(rest).ok_or(wrong_volatiles)?;
+    let volatiles = volatiles(line, counts).ok_or(wrong_volatiles)?;
+    Ok(Parts { counts: Counts { volatiles, ..counts }, guards, body })
 }
 
 /// "each line ended by byte 10": the first line without its byte 10, and what follows it.
@@ -68,11 +77,9 @@ pub fn trailer(paper: &[u8]) -> Option<usize> {
 /// "`H t v l`: threads 1 to 8, variables 1 to 16, locks 0 to 8."
 fn head(line: &[u8]) -> Option<Counts> {
     match fields(line)[..] {
-        [b"H", t, v, l] => Some(Counts {
-            threads: ranged(t, 1, MAX_THREADS)?,
-            variables: ranged(v, 1, MAX_VARIABLES)?,
-            locks: ranged(l, 0, MAX_LOCKS)?,
-        }),
+        [b"H", t, v, l] => {
+            Some(Counts::plain(ranged(t, 1, MAX_THREADS)?, ranged(v, 1, MAX_VARIABLES)?, ranged(l, 0, MAX_LOCKS)?))
+        }
         _ => None,
     }
 }
@@ -94,6 +101,22 @@ fn guards(line: &[u8], counts: Counts) -> Option<Option<Vec<u32>>> {
     }
     let locks: Option<Vec<u32>> = numbers.iter().map(|n| ranged(n, 0, counts.locks - 1)).collect();
     locks.map(Some)
+}
+
+/// "An optional line `V` with rising variable numbers": which variables it names. "Each kind is
+/// numbered from 0", so a declared variable is under the head's count.
+fn volatiles(line: &[u8], counts: Counts) -> Option<[bool; MAX_VARIABLES as usize]> {
+    let parts = fields(line);
+    let (letter, numbers) = parts.split_first()?;
+    if *letter != b"V" || numbers.is_empty() {
+        return None;
+    }
+    let variables: Option<Vec<u32>> = numbers.iter().map(|n| ranged(n, 0, counts.variables - 1)).collect();
+    let variables = variables?;
+    if !variables.windows(2).all(|pair| pair[0] < pair[1]) {
+        return None;
+    }
+    Some(std::array::from_fn(|v| variables.contains(&(v as u32))))
 }
 
 /// An event line without its byte 10; none where 4 refuses it.

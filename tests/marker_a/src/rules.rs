@@ -1,24 +1,25 @@
-//! The words about earlier events, rules 5, 9 to 19, 23 and 25 for events, and the rows.
+//! The words about earlier events, rules 5, 9 to 19, 23, 25 for events, 26 to 28, and the rows.
 //!
 //! Every function here reads the list of earlier events and keeps nothing.
 //! T is `t`, V is `v`, the list is `es`.
 
 use crate::Kind::{self, A, B, K, L, N, P, R, S, U, W};
-use crate::{Counts, Event, Limits, Value, FULL, MAX_OUTSTANDING, SHORT};
+use crate::{Counts, Event, Limits, Value, FULL, MAX_OUTSTANDING, MAX_VARIABLES, SHORT};
 
 /// "the ten rows of this table are fixed", with "23, dead read, after 19 in the rows of R, A
-/// and P".
+/// and P" and "26, wrong neighbour; 27, volatile order; 28, early store or its assign on a
+/// volatile; these lead each row, in that order".
 pub const ROWS: [(Kind, &[u32]); 10] = [
-    (U, &[17, 18]),
-    (A, &[23]),
-    (L, &[10, 13, 15, 16, 18]),
-    (S, &[13, 14, 17, 18, 19]),
-    (R, &[18, 19, 23]),
-    (W, &[10, 18]),
-    (K, &[11, 13]),
-    (N, &[12, 15, 16]),
-    (P, &[13, 19, 23]),
-    (B, &[10, 18]),
+    (U, &[26, 27, 28, 17, 18]),
+    (A, &[26, 27, 28, 23]),
+    (L, &[26, 27, 28, 10, 13, 15, 16, 18]),
+    (S, &[26, 27, 28, 13, 14, 17, 18, 19]),
+    (R, &[26, 27, 28, 18, 19, 23]),
+    (W, &[26, 27, 28, 10, 18]),
+    (K, &[26, 27, 28, 11, 13]),
+    (N, &[26, 27, 28, 12, 15, 16]),
+    (P, &[26, 27, 28, 13, 19, 23]),
+    (B, &[26, 27, 28, 10, 18]),
 ];
 
 /// 0, or the number of the first rule that `e` breaks after the earlier events:
@@ -67,6 +68,9 @@ pub fn breaks(number: u32, es: &[Event], counts: Counts, e: &Event) -> bool {
         18 => rule_18(es, e),
         19 => rule_19(es, e),
         23 => rule_23(es, e),
+        26 => rule_26(es, counts, e),
+        27 => rule_27(es, counts, e),
+        28 => rule_28(counts, e),
         _ => false,
     }
 }
@@ -93,6 +97,13 @@ pub fn loads_and_reads(es: &[Event], t: u32, v: u32) -> Vec<(usize, usize)> {
     let loads = places(es, &[L], t, v);
     let reads = places(es, &[R], t, v);
     loads.into_iter().zip(reads).collect()
+}
+
+/// "the n-th store (S or P) with the n-th write": the places of store and write.
+pub fn stores_and_writes(es: &[Event], t: u32, v: u32) -> Vec<(usize, usize)> {
+    let stores = places(es, &[S, P], t, v);
+    let writes = places(es, &[W], t, v);
+    stores.into_iter().zip(writes).collect()
 }
 
 /// "Unpaired reads and stores are *outstanding*": the places of the unpaired reads.
@@ -162,6 +173,71 @@ pub fn under(es: &[Event], guards: &[u32], t: u32, v: u32) -> bool {
 /// "*Main memory* of V: the value of the latest W on V, by any thread; 0 before one."
 pub fn main_memory(es: &[Event], v: u32) -> Value {
     es.iter().rev().find(|e| e.kind == W && e.target == v).map_or(0, |e| e.value)
+}
+
+// ---- the words about volatile variables ----
+
+/// The `V` line names V.
+pub fn volatile(counts: Counts, v: u32) -> bool {
+    counts.volatiles.get(v as usize) == Some(&true)
+}
+
+/// The variables that the `V` line names, rising.
+fn volatile_variables(counts: Counts) -> Vec<u32> {
+    (0..MAX_VARIABLES).filter(|&v| volatile(counts, v)).collect()
+}
+
+/// "that thread's own events on it, R and W left aside": their places, rising.
+pub fn own_events(es: &[Event], t: u32, v: u32) -> Vec<usize> {
+    places(es, &[U, A, L, S, P, B], t, v)
+}
+
+/// The places of each event of kind `first` and of the event of kind `second` that directly
+/// follows it among T's own events on V.
+fn neighbours(es: &[Event], first: Kind, second: Kind, t: u32, v: u32) -> Vec<(usize, usize)> {
+    let own = own_events(es, t, v);
+    let pairs = own.windows(2).map(|pair| (pair[0], pair[1]));
+    pairs.filter(|&(before, after)| es[before].kind == first && es[after].kind == second).collect()
+}
+
+/// What is paired with this first place.
+fn partner(pairs: &[(usize, usize)], first: usize) -> Option<usize> {
+    pairs.iter().find(|pair| pair.0 == first).map(|pair| pair.1)
+}
+
+/// 001, 4.1: "The use action is said to be "associated" with the read action that corresponds
+/// to the load." The places of T's uses of V and of their reads.
+pub fn uses_and_reads(es: &[Event], t: u32, v: u32) -> Vec<(usize, usize)> {
+    let reads = loads_and_reads(es, t, v);
+    let used = neighbours(es, L, U, t, v);
+    used.into_iter().filter_map(|(load, usage)| partner(&reads, load).map(|read| (usage, read))).collect()
+}
+
+/// 001, 4.2: "The assign action is said to be "associated" with the write action that
+/// corresponds to the store." The places of T's assigns of V and of their writes; an assign
+/// without a write is unwritten.
+pub fn assigns_and_writes(es: &[Event], t: u32, v: u32) -> Vec<(usize, Option<usize>)> {
+    let stores = neighbours(es, A, S, t, v);
+    let writes = stores_and_writes(es, t, v);
+    let write = |assign| partner(&stores, assign).and_then(|store| partner(&writes, store));
+    places(es, &[A], t, v).into_iter().map(|assign| (assign, write(assign))).collect()
+}
+
+/// The uses and their reads on every volatile variable.
+fn volatile_uses(es: &[Event], counts: Counts, t: u32) -> Vec<(usize, usize)> {
+    volatile_variables(counts).into_iter().flat_map(|v| uses_and_reads(es, t, v)).collect()
+}
+
+/// The assigns and their writes on every volatile variable.
+fn volatile_assigns(es: &[Event], counts: Counts, t: u32) -> Vec<(usize, Option<usize>)> {
+    volatile_variables(counts).into_iter().flat_map(|v| assigns_and_writes(es, t, v)).collect()
+}
+
+/// "the one being written" at a W of T on V: the assign that the first outstanding store
+/// directly follows.
+fn being_written(es: &[Event], t: u32, v: u32) -> Option<usize> {
+    let store = *outstanding_stores(es, t, v).first()?;
+    neighbours(es, A, S, t, v).into_iter().find(|pair| pair.1 == store).map(|pair| pair.0)
 }
 
 // ---- the rules ----
@@ -285,4 +361,54 @@ fn rule_23(es: &[Event], e: &Event) -> bool {
         P => !outstanding_reads(es, t, v).is_empty(),
         _ => false,
     }
+}
+
+/// "26, wrong neighbour": "On a volatile variable, U must directly follow L and S directly
+/// follow A among that thread's own events on it, R and W left aside, and after L or A nothing
+/// else may come."
+fn rule_26(es: &[Event], counts: Counts, e: &Event) -> bool {
+    if matches!(e.kind, R | W | K | N) || !volatile(counts, e.target) {
+        return false;
+    }
+    let before = own_events(es, e.thread, e.target).last().map(|&place| es[place].kind);
+    match e.kind {
+        U => before != Some(L),
+        S => before != Some(A),
+        _ => matches!(before, Some(L | A)),
+    }
+}
+
+/// "27, volatile order".
+fn rule_27(es: &[Event], counts: Counts, e: &Event) -> bool {
+    match e.kind {
+        U => volatile(counts, e.target) && use_out_of_order(es, counts, e),
+        W => volatile(counts, e.target) && write_out_of_order(es, counts, e),
+        _ => false,
+    }
+}
+
+/// "At U, its read must follow the writes of all the thread's earlier volatile assigns and the
+/// reads of its earlier volatile uses."
+fn use_out_of_order(es: &[Event], counts: Counts, e: &Event) -> bool {
+    let with_use = [es, &[*e]].concat();
+    let Some(read) = partner(&uses_and_reads(&with_use, e.thread, e.target), es.len()) else {
+        return false;
+    };
+    let follows_writes = volatile_assigns(es, counts, e.thread).iter().all(|assign| assign.1.is_some_and(|write| read > write));
+    let follows_reads = volatile_uses(es, counts, e.thread).iter().all(|usage| read > usage.1);
+    !(follows_writes && follows_reads)
+}
+
+/// "At W on a volatile variable with a store outstanding, no volatile assign of the thread
+/// before the one being written may be unwritten."
+fn write_out_of_order(es: &[Event], counts: Counts, e: &Event) -> bool {
+    let Some(assign) = being_written(es, e.thread, e.target) else {
+        return false;
+    };
+    volatile_assigns(es, counts, e.thread).iter().any(|&(earlier, write)| earlier < assign && write.is_none())
+}
+
+/// "28, early store or its assign on a volatile".
+fn rule_28(counts: Counts, e: &Event) -> bool {
+    matches!(e.kind, P | B) && volatile(counts, e.target)
 }

@@ -3,12 +3,13 @@
 /// What a variable holds.
 pub type Value = i64;
 
-/// What the head declares.
+/// What the head declares, and which variables are volatile.
 #[derive(Clone, Copy, Debug, PartialEq, Eq)]
 pub struct Counts {
     pub threads: usize,
     pub variables: usize,
     pub locks: usize,
+    pub volatiles: [bool; VARIABLES],
 }
 
 /// An event: its letter, thread, variable (or lock) and value. A lock event has no value: 0 stands there.
@@ -49,8 +50,8 @@ impl Course {
     /// How many threads, variables and locks may be declared.
     pub fn counts(self) -> Counts {
         match self {
-            Course::Full => Counts { threads: THREADS, variables: VARIABLES, locks: LOCKS },
-            Course::Short => Counts { threads: 2, variables: 4, locks: 2 },
+            Course::Full => Counts::new(THREADS, VARIABLES, LOCKS),
+            Course::Short => Counts::new(2, 4, 2),
         }
     }
 
@@ -72,21 +73,35 @@ impl Course {
 }
 
 impl Counts {
+    /// None is volatile.
+    pub const fn new(threads: usize, variables: usize, locks: usize) -> Counts {
+        Counts { threads, variables, locks, volatiles: [false; VARIABLES] }
+    }
+
     /// Whether none is greater than that of another.
     pub fn within(self, most: Counts) -> bool {
         self.threads <= most.threads && self.variables <= most.variables && self.locks <= most.locks
+    }
+
+    pub fn has_volatiles(&self) -> bool {
+        self.volatiles.contains(&true)
+    }
+
+    /// The line of the first event: it is behind the `V` line where there is one.
+    pub fn first_line(&self) -> u32 {
+        FIRST_LINE + u32::from(self.has_volatiles())
     }
 }
 
 /// The most of each in every course.
 const THREADS: usize = 8;
-const VARIABLES: usize = 16;
+pub const VARIABLES: usize = 16;
 const LOCKS: usize = 8;
 const ROOM: usize = 8;
 const BYTES: usize = 65_536;
 const FIRST_LINE: u32 = 3;
 
-/// The outstanding reads or stores of a cell, in a ring: value and position.
+/// The outstanding reads or stores of a cell, in a ring: value and position. That of a store is its assign's, that of an early one its own.
 #[derive(Clone, Copy, Default)]
 struct Ring {
     slots: [(Value, u32); ROOM],
@@ -123,6 +138,12 @@ struct Cell {
     /// the latest position among its assigns and the reads of its loads: usable when after the thread's last lock
     source: u32,
     last_write: u32,
+    /// the reads of the latest load and of the latest use, and the latest A
+    loaded: u32,
+    used: u32,
+    assigned: u32,
+    /// the letter of the thread's latest event on the variable, R and W left aside; 0 is none
+    latest: u8,
     announced: Value,
     fresh: bool,
     owed: bool,
@@ -160,6 +181,7 @@ struct Section {
 pub struct State {
     course: Course,
     counts: Counts,
+    first_line: u32,
     guards: Option<[usize; VARIABLES]>,
     events: u32,
     cells: [[Cell; VARIABLES]; THREADS],
@@ -175,6 +197,7 @@ impl State {
         State {
             course,
             counts,
+            first_line: counts.first_line(),
             guards: guards.map(|list| {
                 let mut all = [0; VARIABLES];
                 all[..list.len()].copy_from_slice(list);
@@ -196,6 +219,44 @@ impl State {
 
     fn usable(&self, t: usize, v: usize) -> bool {
         self.cells[t][v].source > self.threads[t].last_lock
+    }
+
+    /// The line of the next event.
+    fn line(&self) -> u32 {
+        self.events + self.first_line
+    }
+
+    /// A thread's cells of the volatile variables.
+    fn volatile_cells(&self, t: usize) -> impl Iterator<Item = &Cell> {
+        self.cells[t].iter().zip(self.counts.volatiles).filter(|(_, volatile)| *volatile).map(|(cell, _)| cell)
+    }
+
+    /// Whether a use of a read would be out of the volatile order: a volatile assign of the thread is unwritten or was written after the read,
+    /// or a read after it, or the same, is used already.
+    fn use_is_late(&self, t: usize, read: u32) -> bool {
+        self.volatile_cells(t).any(|c| c.fresh || c.stores.len > 0 || c.last_write >= read || c.used >= read)
+    }
+
+    /// Whether a write of this assign would be out of the volatile order: an earlier volatile assign of the thread is unwritten.
+    fn write_is_early(&self, t: usize, assign: u32) -> bool {
+        self.volatile_cells(t).any(|c| {
+            let stored = c.stores.front().is_some_and(|(_, earlier)| earlier < assign);
+            stored || (c.fresh && c.assigned < assign)
+        })
+    }
+
+    /// The refusal of an event on a volatile variable by 26, 27 and 28; 0 where none of them holds.
+    fn judge_volatile(&self, letter: u8, t: usize, v: usize) -> u32 {
+        let cell = &self.cells[t][v];
+        let own = letter != b'R' && letter != b'W';
+        let neighbours = (letter == b'U') == (cell.latest == b'L') && (letter == b'S') == (cell.latest == b'A');
+        match letter {
+            _ if own && !neighbours => 26,
+            b'U' if self.use_is_late(t, cell.loaded) => 27,
+            b'W' if cell.stores.front().is_some_and(|(_, assign)| self.write_is_early(t, assign)) => 27,
+            b'P' | b'B' => 28,
+            _ => 0,
+        }
     }
 
     /// The refusal of the next event; 0 when it is accepted.
@@ -230,6 +291,12 @@ impl State {
             };
         }
         let cell = &self.cells[t][p];
+        if self.counts.volatiles[p] {
+            let number = self.judge_volatile(letter, t, p);
+            if number != 0 {
+                return number;
+            }
+        }
         match letter {
             b'U' if !self.usable(t, p) => 17,
             b'U' if cell.copy != x => 18,
@@ -273,14 +340,14 @@ impl State {
     /// The next event broke a rule of the order: only the first one counts.
     fn deny(&mut self, number: u32) {
         if self.denied.is_none() {
-            self.denied = Some((self.events + FIRST_LINE, number));
+            self.denied = Some((self.line(), number));
         }
     }
 
     /// Takes in an accepted event.
     fn take(&mut self, e: Event) {
         let Event { letter, thread: t, place: p, value: x } = e;
-        let line = self.events + FIRST_LINE;
+        let line = self.line();
         if let (b'U' | b'A' | b'B', Some(guards)) = (letter, self.guards) {
             if !self.holds(t, guards[p]) {
                 self.deny(20);
@@ -312,24 +379,30 @@ impl State {
             }
             _ => {
                 let cell = &mut self.cells[t][p];
+                if letter != b'R' && letter != b'W' {
+                    cell.latest = letter;
+                }
                 match letter {
+                    b'U' => cell.used = cell.loaded,
                     b'A' => {
                         thread.fresh += u32::from(!cell.fresh);
                         cell.fresh = true;
                         cell.copy = x;
                         cell.source = now;
+                        cell.assigned = now;
                     }
                     b'L' => {
                         let (_, position) = cell.reads.front().unwrap();
                         cell.reads.pop();
                         cell.copy = x;
                         cell.source = cell.source.max(position);
+                        cell.loaded = position;
                     }
                     b'S' => {
                         thread.fresh -= 1;
                         thread.unwritten += 1;
                         cell.fresh = false;
-                        cell.stores.push(x, now);
+                        cell.stores.push(x, cell.assigned);
                     }
                     b'R' => cell.reads.push(x, now),
                     b'W' => {
@@ -373,7 +446,7 @@ impl State {
     /// Why the events have no order, after the last one.
     fn denial(&self) -> Option<(u32, u32)> {
         let open = self.threads.iter().any(|thread| thread.depth > 0 || thread.owed > 0);
-        self.denied.or(open.then_some((self.events + FIRST_LINE, 22)))
+        self.denied.or(open.then_some((self.line(), 22)))
     }
 
     /// The listing of an accepted paper.
@@ -446,6 +519,28 @@ impl State {
         }
     }
 
+    /// An accepted event after which a volatile L or A of the thread, or the L of a read of it, can never have its U or S, or the U not be under
+    /// its guard.
+    pub fn strands(&self, e: Event) -> bool {
+        let (t, v) = (e.thread, e.place);
+        let last_lock = self.threads[t].last_lock;
+        // the read of a load that is not used, else the oldest that is not loaded
+        let waiting = |c: &Cell| if c.latest == b'L' { Some(c.loaded) } else { c.reads.front().map(|(_, read)| read) };
+        let unwritten = || self.volatile_cells(t).any(|c| c.fresh || c.stores.len > 0);
+        if !e.is_lock() && !self.counts.volatiles[v] {
+            return false;
+        }
+        match e.letter {
+            b'R' => unwritten() || self.guards.is_some_and(|guards| !self.holds(t, guards[v])),
+            b'L' => self.cells[t][v].reads.front().is_some_and(|(_, read)| read <= last_lock || self.use_is_late(t, read)),
+            b'U' => self.volatile_cells(t).filter_map(waiting).any(|read| read < self.cells[t][v].loaded),
+            b'A' => self.volatile_cells(t).any(|c| waiting(c).is_some()),
+            b'K' => self.volatile_cells(t).any(|c| waiting(c).is_some() || c.latest == b'A'),
+            b'N' => self.guards.is_some() && self.volatile_cells(t).any(|c| waiting(c).is_some()),
+            _ => false,
+        }
+    }
+
     pub fn busy(&self, t: usize) -> bool {
         let thread = &self.threads[t];
         thread.depth > 0 || thread.owed > 0 || thread.fresh > 0 || thread.unwritten > 0
@@ -514,7 +609,7 @@ fn read_head(line: &[u8]) -> Option<Counts> {
     if t < 1 || t > THREADS as u64 || v < 1 || v > VARIABLES as u64 || l > LOCKS as u64 {
         return None;
     }
-    Some(Counts { threads: t as usize, variables: v as usize, locks: l as usize })
+    Some(Counts::new(t as usize, v as usize, l as usize))
 }
 
 /// The locks of a `G` line; an empty list for `G -`.
@@ -533,6 +628,23 @@ fn read_guards(line: &[u8], counts: Counts) -> Option<Vec<usize>> {
         c.end()?;
     }
     Some(guards)
+}
+
+/// The volatile variables of a `V` line: at least one, rising.
+fn read_volatiles(line: &[u8], counts: Counts) -> Option<[bool; VARIABLES]> {
+    let mut c = Cursor::new(line);
+    c.byte(b'V')?;
+    let mut volatiles = [false; VARIABLES];
+    let mut least = 0;
+    while least == 0 || c.end().is_none() {
+        let v = c.spaced()?;
+        if v < least || v >= counts.variables as u64 {
+            return None;
+        }
+        volatiles[v as usize] = true;
+        least = v + 1;
+    }
+    Some(volatiles)
 }
 
 fn read_event(line: &[u8]) -> Option<Event> {
@@ -559,26 +671,31 @@ fn find_trailer(paper: &[u8]) -> Option<usize> {
     (last == 10 && n == start as u64).then_some(start)
 }
 
+/// Takes the first line away from the rest, and its byte 10.
+fn next_line<'a>(rest: &mut &'a [u8]) -> Option<&'a [u8]> {
+    let end = rest.iter().position(|&b| b == 10)?;
+    let line = &rest[..end];
+    *rest = &rest[end + 1..];
+    Some(line)
+}
+
 /// The state after the paper's events, or line and number of the refusal.
 fn run(course: Course, paper: &[u8]) -> Result<State, (u32, u32)> {
     if paper.len() > BYTES {
         return Err((0, 1));
     }
     let mut rest = &paper[..find_trailer(paper).ok_or((0, 2))?];
-    let mut next_line = || {
-        let end = rest.iter().position(|&b| b == 10)?;
-        let line = &rest[..end];
-        rest = &rest[end + 1..];
-        Some(line)
-    };
-    let counts = next_line().and_then(read_head).ok_or((1, 3))?;
+    let mut counts = next_line(&mut rest).and_then(read_head).ok_or((1, 3))?;
     if !counts.within(course.counts()) {
         return Err((1, course.over()));
     }
-    let guards = next_line().and_then(|line| read_guards(line, counts)).ok_or((2, 6))?;
+    let guards = next_line(&mut rest).and_then(|line| read_guards(line, counts)).ok_or((2, 6))?;
+    if rest.first() == Some(&b'V') {
+        counts.volatiles = next_line(&mut rest).and_then(|line| read_volatiles(line, counts)).ok_or((3, 6))?;
+    }
     let mut state = State::new(course, counts, if guards.is_empty() { None } else { Some(&guards) });
-    while let Some(line) = next_line() {
-        let at = state.events + FIRST_LINE;
+    while let Some(line) = next_line(&mut rest) {
+        let at = state.line();
         let number = read_event(line).map_or(4, |e| state.step(e));
         if number != 0 {
             return Err((at, number));

@@ -3,6 +3,7 @@
 use crate::fields::{load, long_fields, unread};
 use crate::find::Found;
 use crate::rows::*;
+use crate::volatiles::Accesses;
 use crate::{Counts, Limits, Value, EVENTS, FIRST_LINE, LOCKS, SECTIONS, THREADS, VARIABLES};
 use std::marker::PhantomData;
 use std::mem::MaybeUninit;
@@ -25,6 +26,8 @@ pub struct Room {
     values: [Value; EVENTS],
     /// entries of the order list, the position of the section's last lock in the upper half
     sections: [u64; SECTIONS],
+    /// what is kept of the volatile variables, by thread; filled where there are any
+    accesses: [Accesses; THREADS],
     /// the last lines of the paper, with enough bytes around them
     tail: [u8; 3 * AROUND],
 }
@@ -34,6 +37,7 @@ pub struct Machine<'a> {
     counts: Counts,
     limits: Limits,
     guards: [u64; LOCKS],
+    volatiles: u32,
     room: *mut Room,
     /// where the next line starts, where too few bytes follow, where the events end; and the length of the trailer behind
     at: *const u8,
@@ -65,10 +69,15 @@ impl<'a> Machine<'a> {
                 }
             }
         }
+        if found.volatiles != 0 {
+            // SAFETY: there are as many, and zeros are one.
+            unsafe { (&raw mut (*room).accesses).cast::<Accesses>().write_bytes(0, threads) };
+        }
         Machine {
             counts: found.counts,
             limits: found.limits,
             guards: found.guards,
+            volatiles: found.volatiles,
             room,
             at: start.wrapping_add(found.start),
             stop: start.wrapping_add(by_words.min(found.end)),
@@ -88,7 +97,7 @@ impl<'a> Machine<'a> {
 
     /// The line of the next event.
     pub fn line(&self) -> usize {
-        self.events + FIRST_LINE
+        self.events + FIRST_LINE + usize::from(self.volatiles != 0)
     }
 
     /// A lock is held or an assign owed.
@@ -133,12 +142,22 @@ impl<'a> Machine<'a> {
         }
     }
 
-    /// Marks the events, with `ORDER` up to one that denies the order. It goes on where it ended before.
-    pub fn run<const ORDER: bool>(&mut self) -> End {
+    /// Marks the events, with `order` up to one that denies the order. It goes on where it ended before.
+    pub fn run(&mut self, order: bool) -> End {
+        match (order, self.volatiles != 0) {
+            (true, false) => self.run_for::<true, false>(),
+            (false, false) => self.run_for::<false, false>(),
+            (true, true) => self.run_for::<true, true>(),
+            (false, true) => self.run_for::<false, true>(),
+        }
+    }
+
+    /// The same; with `VOLATILE` there are volatile variables.
+    fn run_for<const ORDER: bool, const VOLATILE: bool>(&mut self) -> End {
         loop {
-            let end = self.run_lines::<ORDER>();
+            let end = self.run_lines::<ORDER, VOLATILE>();
             // SAFETY: 16 is said of an unlock alone, and its line is the next.
-            if !matches!(end, End::Refused(16)) || !unsafe { self.unlock_over_early::<ORDER>() } {
+            if !matches!(end, End::Refused(16)) || !unsafe { self.unlock_over_early::<ORDER, VOLATILE>() } {
                 return end;
             }
         }
@@ -146,10 +165,10 @@ impl<'a> Machine<'a> {
 
     /// The same, up to an unlock of a thread with outstanding stores, which is refused with 16.
     #[inline(never)]
-    fn run_lines<const ORDER: bool>(&mut self) -> End {
+    fn run_lines<const ORDER: bool, const VOLATILE: bool>(&mut self) -> End {
         loop {
             // SAFETY: enough bytes of the paper, or of the tail, are around the lines that start before `stop`.
-            let end = unsafe { self.run_by_words::<ORDER>() };
+            let end = unsafe { self.run_by_words::<ORDER, VOLATILE>() };
             if !matches!(end, End::Done) || self.at == self.end {
                 return end;
             }
@@ -171,7 +190,7 @@ impl<'a> Machine<'a> {
     }
 
     #[inline(always)]
-    unsafe fn run_by_words<const ORDER: bool>(&mut self) -> End {
+    unsafe fn run_by_words<const ORDER: bool, const VOLATILE: bool>(&mut self) -> End {
         let Counts { threads, variables, locks } = self.counts;
         let most = self.limits.events;
         let one_digit = variables.min(10);
@@ -200,9 +219,9 @@ impl<'a> Machine<'a> {
                 }
                 next = at.add(6);
                 let end = if letter == b'K' {
-                    self.lock::<ORDER>(t, place, events)
+                    self.lock::<ORDER, VOLATILE>(t, place, events)
                 } else {
-                    self.unlock::<ORDER, true>(t, place, events)
+                    self.unlock::<ORDER, VOLATILE, true>(t, place, events)
                 };
                 if !matches!(end, End::Done) {
                     break end;
@@ -217,7 +236,7 @@ impl<'a> Machine<'a> {
                     };
                     (place, value, next) = long;
                 }
-                let end = self.access::<ORDER>(letter, t, place, value, events);
+                let end = self.access::<ORDER, VOLATILE>(letter, t, place, value, events);
                 if !matches!(end, End::Done) {
                     break end;
                 }
@@ -235,7 +254,14 @@ impl<'a> Machine<'a> {
     /// An event on a variable, whatever its letter: all that a row may ask and do, by the row's numbers. Letters follow each other
     /// without a pattern, and a wrong guess of a branch would cost more than what a row does not need.
     #[inline(always)]
-    unsafe fn access<const ORDER: bool>(&mut self, letter: u8, t: usize, v: usize, value: Value, events: usize) -> End {
+    unsafe fn access<const ORDER: bool, const VOLATILE: bool>(
+        &mut self,
+        letter: u8,
+        t: usize,
+        v: usize,
+        value: Value,
+        events: usize,
+    ) -> End {
         let row = TABLE.get_unchecked(usize::from(letter % 32));
         if row.letter != letter {
             return End::Refused(4);
@@ -245,6 +271,14 @@ impl<'a> Machine<'a> {
         let thread = self.threads.get_unchecked_mut(t);
         let bits = *BITS.get_unchecked(v);
         let counts = u64::from_le_bytes((*cell).counts);
+        let accesses = (&raw mut (*self.room).accesses).cast::<Accesses>().add(t);
+        let volatile = VOLATILE && self.volatiles >> v & 1 != 0;
+        if volatile {
+            let number = (*accesses).broken(letter, v, (*cell).counts);
+            if number != 0 {
+                return End::Refused(number);
+            }
+        }
         let due_cell = if letter == b'R' { main } else { cell };
         let due = slot(due_cell, cell, row.due).read();
         let read = u32::from(*(*cell).positions.get_unchecked(usize::from((*cell).counts[READS_OUT])));
@@ -259,6 +293,9 @@ impl<'a> Machine<'a> {
         if ORDER && row.under & !(thread.under >> v) != 0 {
             return End::Denied(20);
         }
+        if volatile {
+            (*accesses).take(letter, v, (*cell).counts, events as u16 + 1);
+        }
         let to_cell = if letter == b'W' { main } else { cell };
         slot(to_cell, cell, row.to).write(value);
         // the position if it is a read. With eight outstanding the place is the oldest's, and this position does as well as its own: once
@@ -271,7 +308,7 @@ impl<'a> Machine<'a> {
     }
 
     #[inline(always)]
-    unsafe fn lock<const ORDER: bool>(&mut self, t: usize, l: usize, events: usize) -> End {
+    unsafe fn lock<const ORDER: bool, const VOLATILE: bool>(&mut self, t: usize, l: usize, events: usize) -> End {
         let thread = self.threads.get_unchecked_mut(t);
         let depth = self.depths.get_unchecked_mut(l);
         if (*depth != 0) & (thread.held >> l & 1 == 0) {
@@ -283,7 +320,7 @@ impl<'a> Machine<'a> {
         if ORDER && thread.unlocked {
             return End::Denied(21);
         }
-        thread.first = if thread.held == 0 { (events + FIRST_LINE) as u32 } else { thread.first };
+        thread.first = if thread.held == 0 { (events + first_line::<VOLATILE>()) as u32 } else { thread.first };
         *depth += 1;
         thread.held |= 1 << l;
         thread.last_lock = events as u32 + 1;
@@ -294,7 +331,12 @@ impl<'a> Machine<'a> {
 
     /// With `STORES_BAR` every outstanding store bars it.
     #[inline(always)]
-    unsafe fn unlock<const ORDER: bool, const STORES_BAR: bool>(&mut self, t: usize, l: usize, events: usize) -> End {
+    unsafe fn unlock<const ORDER: bool, const VOLATILE: bool, const STORES_BAR: bool>(
+        &mut self,
+        t: usize,
+        l: usize,
+        events: usize,
+    ) -> End {
         let thread = self.threads.get_unchecked_mut(t);
         let depth = self.depths.get_unchecked_mut(l);
         if thread.held >> l & 1 == 0 {
@@ -312,7 +354,7 @@ impl<'a> Machine<'a> {
         thread.under &= !(self.guards.get_unchecked(l) & u64::from(free).wrapping_neg());
         thread.unlocked = thread.held != 0;
         if ORDER && thread.held == 0 {
-            self.close_section(t, events + FIRST_LINE);
+            self.close_section(t, events + first_line::<VOLATILE>());
         }
         End::Done
     }
@@ -321,7 +363,7 @@ impl<'a> Machine<'a> {
     /// one of a variable. Apart from the loop, which would be slower with a call that comes back to it.
     #[cold]
     #[inline(never)]
-    unsafe fn unlock_over_early<const ORDER: bool>(&mut self) -> bool {
+    unsafe fn unlock_over_early<const ORDER: bool, const VOLATILE: bool>(&mut self) -> bool {
         let word = load(self.at);
         let (t, l) = ((word >> 16 & 15) as usize, (word >> 32 & 15) as usize);
         let sets = self.threads[t].sets;
@@ -330,7 +372,7 @@ impl<'a> Machine<'a> {
         if sets / UNWRITTEN > early as u64 {
             return false;
         }
-        self.unlock::<ORDER, false>(t, l, self.events);
+        self.unlock::<ORDER, VOLATILE, false>(t, l, self.events);
         (*self.room).what[self.events] = u32::from(b'N') << 16 | (t << 8 | l) as u32;
         (*self.room).values[self.events] = 0;
         self.events += 1;
@@ -353,6 +395,11 @@ impl<'a> Machine<'a> {
         *list.add(place) = entry;
         self.closed += 1;
     }
+}
+
+/// The line of the first event: it is behind the `V` line where there are volatile variables.
+const fn first_line<const VOLATILE: bool>() -> usize {
+    FIRST_LINE + VOLATILE as usize
 }
 
 /// The slot in a cell that is picked by the counts of this or another cell.

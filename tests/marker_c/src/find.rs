@@ -1,4 +1,4 @@
-//! Trailer, head and `G` line. Every number in them has few digits, so that a longer field is a wrong one.
+//! Trailer, head, `G` line and `V` line. Every number in them has few digits, so that a longer field is a wrong one.
 
 use crate::{Counts, Limits, LOCKS, PAPER, THREADS, VARIABLES};
 
@@ -10,6 +10,8 @@ pub struct Found<'a> {
     pub guarded: bool,
     /// for each lock the variables that it guards, a bit each
     pub guards: [u64; LOCKS],
+    /// the volatile variables, a bit each
+    pub volatiles: u32,
     /// where the events begin, and where the trailer does
     pub start: usize,
     pub end: usize,
@@ -29,8 +31,20 @@ pub fn find(paper: &[u8], limits: Limits) -> Result<Found<'_>, (usize, usize)> {
         return Err((1, limits.over));
     }
     let guards = guards(&mut c, counts).ok_or((2, 6))?;
-    let start = c.at;
-    Ok(Found { paper, counts, limits, guarded: guards.is_some(), guards: guards.unwrap_or_default(), start, end })
+    let mut volatiles = 0;
+    if c.paper[c.at] == b'V' {
+        volatiles = volatile_line(&mut c, counts).ok_or((3, 6))?;
+    }
+    Ok(Found {
+        paper,
+        counts,
+        limits,
+        guarded: guards.is_some(),
+        guards: guards.unwrap_or_default(),
+        volatiles,
+        start: c.at,
+        end,
+    })
 }
 
 /// Where the trailer begins: it is the last line and counts the bytes before it, at most five digits.
@@ -109,4 +123,26 @@ fn guards(c: &mut Cursor, counts: Counts) -> Option<Option<[u64; LOCKS]>> {
     }
     c.byte(10)?;
     Some(Some(guards))
+}
+
+/// The variables of a `V` line, at least one and rising, a bit each.
+#[cold]
+#[inline(never)]
+fn volatile_line(c: &mut Cursor, counts: Counts) -> Option<u32> {
+    c.byte(b'V')?;
+    let mut volatiles = 0;
+    loop {
+        let mut v = c.digit(9)?;
+        if v == 1 && c.paper[c.at].is_ascii_digit() {
+            v = 10 + usize::from(c.next() - b'0');
+        }
+        if v >= counts.variables || volatiles >> v != 0 {
+            return None;
+        }
+        volatiles |= 1 << v;
+        if c.paper[c.at] == 10 {
+            c.at += 1;
+            return Some(volatiles);
+        }
+    }
 }

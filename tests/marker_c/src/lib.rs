@@ -6,6 +6,7 @@ mod fields;
 mod find;
 mod listing;
 mod rows;
+mod volatiles;
 
 use events::{End, Machine};
 use listing::Listing;
@@ -70,6 +71,7 @@ const SECTIONS: usize = 1_000;
 const SCRATCH: usize = 1_000;
 const PAPER: usize = 65_536;
 const OUT: usize = 32_768;
+/// The line of the first event, without a `V` line.
 const FIRST_LINE: usize = 3;
 
 /// Where an order goes.
@@ -111,11 +113,11 @@ fn into(course: Course, paper: &[u8], what: &mut [u32], values: &mut [Value], ou
     let order = if found.guarded { order } else { None };
     let mut room = MaybeUninit::uninit();
     let mut machine = Machine::new(&found, &mut room);
-    let mut end = if order.is_some() { machine.run::<true>() } else { machine.run::<false>() };
+    let mut end = machine.run(order.is_some());
     let mut denial = (0, 0);
     if let End::Denied(number) = end {
         denial = (machine.line(), number);
-        end = machine.run::<false>();
+        end = machine.run(false);
     }
     if let End::Refused(number) = end {
         return refused(out, machine.line(), number);

@@ -1,7 +1,7 @@
 //! Short traces with marker A's answers as a file of definitions, to be compared by one `refl`.
 
 use crate::by_a::After;
-use crate::generate::{self, candidates, short, Aim, Rng, Short, DOUBLES, PAIRS};
+use crate::generate::{aims, candidates, short, Aim, Rng, Short};
 use crate::{Counts, Event, Value};
 
 fn value(x: Value) -> String {
@@ -42,17 +42,22 @@ fn list(items: impl Iterator<Item = String>) -> String {
     out + "[]"
 }
 
+fn volatiles(c: Counts) -> String {
+    list(c.volatiles.iter().map(bool::to_string))
+}
+
 fn case(s: &Short) -> String {
     let marked = match s.bad {
         None => "accepted".to_string(),
-        Some((_, number)) => format!("(refused {number} {})", s.good.len() + 3),
+        Some((_, number)) => format!("(refused {number} {})", s.good.len() + s.counts.first_line() as usize),
     };
     let after = After::new(s.counts, &s.good);
     format!(
-        "case {} {} {} ({}) ({}) {marked} ({}) ({})",
+        "case {} {} {} ({}) ({}) ({}) {marked} ({}) ({})",
         s.counts.threads,
         s.counts.variables,
         s.counts.locks,
+        volatiles(s.counts),
         list(s.good.iter().map(event)),
         list(s.bad.iter().map(|(e, _)| event(e))),
         list(after.main().into_iter().map(value)),
@@ -62,6 +67,7 @@ fn case(s: &Short) -> String {
 
 const USES: &str = "use Prim.Native.Nat.{ℕ}
 use mathlib.Core.Path.{_≡_, refl}
+use mathlib.Core.Bool.{Bool, true, false}
 use mathlib.Core.List.{List, [], _∷_, _++_, map, reverse}
 use lib.IntN.{ℤ, pos, negsuc}
 use Rattle.rules.specs.declared.Kind.{Kind}
@@ -69,9 +75,9 @@ use Rattle.rules.specs.declared.Kind.the-variants.{Use, Assign, Load, St
 use Rattle.rules.specs.declared.Event.{Event}
 use Rattle.rules.specs.declared.Counts.{Counts}
 use Rattle.rules.specs.Events.{is, of, on, onLock, locks, unlocks, eqZ}
-use Rattle.rules.specs.Limits.{full, firstLine, declared}
-use Rattle.rules.specs.Words.{latest, valueIn, letterIn, lastAt, count, inOrder, by, locksBy, acquires, releases, reads, stores, copy, fresh, pending, announced, lastLock, lastWrite, usable, depth, main}
-use Rattle.rules.specs.Rules.{wordsOf, some, noPartner, lockTaken, notHeld, pendingBars, notFresh, notStored, readBeforeWrite, unwritten, notWritten, notUsable, differs, eightAlready, deadRead, breaks, rows, rowIn, firstBroken, judge, answer, verdict, Marked, accepted, refused, markFrom, mark}
+use Rattle.rules.specs.Limits.{full, volatile, anyVolatile, firstLine, declared}
+use Rattle.rules.specs.Words.{latest, valueIn, letterIn, lastAt, count, inOrder, by, locksBy, acquires, releases, reads, stores, copy, fresh, pending, announced, lastLock, lastWrite, usable, depth, main, afterLoad, afterAssign, loadedRead, usedRead, lastAssign}
+use Rattle.rules.specs.Rules.{wordsOf, some, noPartner, lockTaken, notHeld, pendingBars, notFresh, notStored, readBeforeWrite, unwritten, notWritten, notUsable, differs, eightAlready, deadRead, wrongNeighbour, barsUse, barsWrite, useBarred, writeBarred, volatileOrder, prescientVolatile, breaks, rows, rowIn, firstBroken, judge, answer, verdict, Marked, accepted, refused, markFrom, mark}
 use Rattle.rules.specs.Memories.{Copy, below, each, memory, copies}
 use Rattle.rules.specs.Traces.{ev}
 
@@ -80,7 +86,7 @@ cp t v x = record { thread = t; variable = v; value = x }
 
 ";
 
-const UNFOLDING: &str = "ev cp is of on onLock locks unlocks eqZ firstLine declared latest valueIn letterIn lastAt count inOrder by locksBy acquires releases reads stores copy fresh pending announced lastLock lastWrite usable depth main wordsOf some noPartner lockTaken notHeld pendingBars notFresh notStored readBeforeWrite unwritten notWritten notUsable differs eightAlready deadRead breaks rows rowIn firstBroken judge answer verdict markFrom mark below each memory copies";
+const UNFOLDING: &str = "ev cp is of on onLock locks unlocks eqZ volatile anyVolatile firstLine declared latest valueIn letterIn lastAt count inOrder by locksBy acquires releases reads stores copy fresh pending announced lastLock lastWrite usable depth main afterLoad afterAssign loadedRead usedRead lastAssign wordsOf some noPartner lockTaken notHeld pendingBars notFresh notStored readBeforeWrite unwritten notWritten notUsable differs eightAlready deadRead wrongNeighbour barsUse barsWrite useBarred writeBarred volatileOrder prescientVolatile breaks rows rowIn firstBroken judge answer verdict markFrom mark below each memory copies";
 
 const CASES: &str = "pub record Case : Type 0 where
   pub head : Counts
@@ -90,8 +96,8 @@ const CASES: &str = "pub record Case : Type 0 where
   pub memory0 : List ℤ
   pub copies0 : List Copy
 
-unfoldable pub case : ℕ → ℕ → ℕ → List Event → List Event → Marked → List ℤ → List Copy → Case
-case t v l es bs m xs cs = record { head = record { threads = t; variables = v; locks = l }; good = es; bad = bs; marked = m; memory0 = xs; copies0 = cs }
+unfoldable pub case : ℕ → ℕ → ℕ → List Bool → List Event → List Event → Marked → List ℤ → List Copy → Case
+case t v l ws es bs m xs cs = record { head = record { threads = t; variables = v; locks = l; volatiles = ws }; good = es; bad = bs; marked = m; memory0 = xs; copies0 = cs }
 
 unfoldable pub again : Case → Case
 again r = record {
@@ -108,21 +114,16 @@ random =
     ";
 
 /// The traces of one batch: some accepted, some undeclared, `each` for every pair of a letter and a refusal, for every two refusals that
-/// one event can break at once, and for every case.
+/// one event can break at once, and for every case, those with volatile variables included.
 pub fn batch(seed: u64, each: usize, most: usize) -> Vec<Short> {
     let mut rng = Rng::new(seed);
-    let mut aims = vec![Aim::Accepted; 8 * each];
-    aims.extend(vec![Aim::Undeclared; 3 * each]);
-    for (letter, number) in PAIRS {
-        aims.extend(vec![Aim::Refused(letter, number); each]);
-    }
-    for (letter, number, later) in DOUBLES {
-        aims.extend(vec![Aim::Both(letter, number, later); each]);
-    }
-    for case in generate::CASES {
-        aims.extend(vec![Aim::Case(case); each]);
-    }
-    aims.into_iter().map(|aim| short(&mut rng, aim, most)).collect()
+    let times = |aim: &Aim| match aim {
+        Aim::Accepted => 8 * each,
+        Aim::Undeclared => 3 * each,
+        _ => each,
+    };
+    let all: Vec<Aim> = aims(false).into_iter().flat_map(|aim| vec![aim; times(&aim)]).collect();
+    all.into_iter().map(|aim| short(&mut rng, aim, most)).collect()
 }
 
 /// Each trace: verdict, main memory and usable copies after the accepted events.
@@ -170,7 +171,7 @@ pub fn accepted(most: usize) -> Vec<Vec<Event>> {
     found
 }
 
-const FEW: Counts = Counts { threads: 2, variables: 1, locks: 1 };
+const FEW: Counts = Counts::new(2, 1, 1);
 const VALUES: [Value; 2] = [0, 1];
 
 /// Each accepted trace: the verdict on every next event, main memory and usable copies.
@@ -190,7 +191,7 @@ pub fn every_file(traces: &[Vec<Event>]) -> String {
     format!(
         "-- Short traces, and what marker A says of every next event.
 {USES}{NODES}abbrev pub few : Counts
-few = record {{ threads = 2; variables = 1; locks = 1 }}
+few = record {{ threads = 2; variables = 1; locks = 1; volatiles = {} }}
 
 unfoldable pub next : List Event
 next = {next}
@@ -210,6 +211,7 @@ nodes =
 pub every-agree : map again nodes ≡ nodes
 unfolding nodes node next again {UNFOLDING}
 every-agree = refl
-"
+",
+        volatiles(FEW)
     )
 }

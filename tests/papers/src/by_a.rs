@@ -4,7 +4,8 @@ use crate::{Counts, Course, Event, Value};
 use marker_a::{rules, Kind};
 
 pub fn counts(c: Counts) -> marker_a::Counts {
-    marker_a::Counts { threads: c.threads as u32, variables: c.variables as u32, locks: c.locks as u32 }
+    let Counts { threads, variables, locks, volatiles } = c;
+    marker_a::Counts { threads: threads as u32, variables: variables as u32, locks: locks as u32, volatiles }
 }
 
 pub fn event(e: &Event) -> marker_a::Event {
@@ -23,6 +24,21 @@ pub fn event(e: &Event) -> marker_a::Event {
     };
     let number = |n: usize| u32::try_from(n).unwrap_or(u32::MAX);
     marker_a::Event { kind, thread: number(e.thread), target: number(e.place), value: e.value }
+}
+
+fn letter(kind: Kind) -> u8 {
+    match kind {
+        Kind::U => b'U',
+        Kind::A => b'A',
+        Kind::L => b'L',
+        Kind::S => b'S',
+        Kind::R => b'R',
+        Kind::W => b'W',
+        Kind::K => b'K',
+        Kind::N => b'N',
+        Kind::P => b'P',
+        Kind::B => b'B',
+    }
 }
 
 fn events(es: &[Event]) -> Vec<marker_a::Event> {
@@ -80,6 +96,17 @@ impl After {
         self.earlier.iter().any(|e| (e.kind, e.thread, e.target) == (Kind::W, t as u32, v as u32))
     }
 
+    /// Whether a value was used.
+    pub fn used(&self, t: usize, v: usize) -> bool {
+        self.last(t, v, &[Kind::U]).is_some()
+    }
+
+    /// The threads but the event's.
+    pub fn others(&self, e: &Event) -> impl Iterator<Item = usize> {
+        let own = e.thread;
+        (0..self.counts.threads as usize).filter(move |&t| t != own)
+    }
+
     /// Whether this holds of an event's thread and each variable.
     pub fn each(&self, e: &Event, holds: impl Fn(usize, usize) -> bool) -> bool {
         self.variables().all(|v| holds(e.thread, v))
@@ -98,6 +125,97 @@ impl After {
 
     pub fn is_owed(&self, e: &Event) -> bool {
         self.owed(e.thread, e.place)
+    }
+
+    /// Whether the event is on a volatile variable.
+    pub fn is_volatile(&self, e: &Event) -> bool {
+        !e.is_lock() && self.counts.volatiles[e.place]
+    }
+
+    /// The letter of the thread's latest event on the variable, R and W left aside; 0 where there is none.
+    pub fn latest(&self, e: &Event) -> u8 {
+        let own = [Kind::U, Kind::A, Kind::L, Kind::S, Kind::P, Kind::B];
+        self.last(e.thread, e.place, &own).map_or(0, |i| letter(self.earlier[i].kind))
+    }
+
+    /// The position of the latest of a thread's events of these kinds on a variable, from 0.
+    fn last(&self, t: usize, v: usize, kinds: &[Kind]) -> Option<usize> {
+        self.earlier.iter().rposition(|e| kinds.contains(&e.kind) && (e.thread, e.target) == (t as u32, v as u32))
+    }
+
+    /// Whether an event of this letter, thread and variable has come since the latest of the thread's own on the variable.
+    pub fn since_own(&self, letter: u8, e: &Event) -> bool {
+        let own = self.last(e.thread, e.place, &[Kind::U, Kind::A, Kind::L, Kind::S, Kind::P, Kind::B]);
+        self.last(e.thread, e.place, &[event(&Event { letter, ..*e }).kind]) > own
+    }
+
+    /// The position of the read of the latest load among so many events, from 1; 0 where there is none.
+    fn read_among(&self, n: usize, t: usize, v: usize) -> usize {
+        let of = |kind: Kind| {
+            let places = (0..n).filter(move |&i| {
+                let e = &self.earlier[i];
+                e.kind == kind && (e.thread, e.target) == (t as u32, v as u32)
+            });
+            places.collect::<Vec<usize>>()
+        };
+        of(Kind::L).len().checked_sub(1).map_or(0, |load| of(Kind::R)[load] + 1)
+    }
+
+    /// Whether a read is loaded.
+    pub fn is_loaded(&self, e: &Event) -> bool {
+        self.last(e.thread, e.place, &[Kind::L]).is_some()
+    }
+
+    /// The volatile variables, and those that are not.
+    pub fn volatiles(&self) -> impl Iterator<Item = usize> + '_ {
+        self.variables().filter(|&v| self.counts.volatiles[v])
+    }
+
+    pub fn plain(&self) -> impl Iterator<Item = usize> + '_ {
+        self.variables().filter(|&v| !self.counts.volatiles[v])
+    }
+
+    /// Whether an assign is not written.
+    pub fn is_unwritten(&self, t: usize, v: usize) -> bool {
+        self.fresh(t, v) || !self.unwritten(t, v).is_empty()
+    }
+
+    /// The parts of 27 at a U that hold of some volatile variable: a fresh assign, an outstanding store, the last write not before the use's
+    /// read, the read of the latest use not before it.
+    pub fn use_parts(&self, e: &Event) -> [bool; 4] {
+        let (t, now) = (e.thread, self.earlier.len());
+        let read = self.read_among(now, t, e.place);
+        let written = |v| self.last(t, v, &[Kind::W]).map_or(0, |i| i + 1);
+        let used = |v| self.last(t, v, &[Kind::U]).map_or(0, |i| self.read_among(i, t, v));
+        [
+            self.volatiles().any(|v| self.fresh(t, v)),
+            self.volatiles().any(|v| !self.unwritten(t, v).is_empty()),
+            self.volatiles().any(|v| written(v) >= read),
+            self.volatiles().any(|v| used(v) >= read),
+        ]
+    }
+
+    /// The position of the assign of the oldest outstanding store, from 1; its own for an early one.
+    fn oldest_assign(&self, t: usize, v: usize) -> Option<usize> {
+        let store = *rules::outstanding_stores(&self.earlier, t as u32, v as u32).first()?;
+        if self.earlier[store].kind == Kind::P {
+            return Some(store + 1);
+        }
+        let before = After { counts: self.counts, earlier: self.earlier[..store].to_vec() };
+        before.last(t, v, &[Kind::A]).map(|i| i + 1)
+    }
+
+    /// Of a W: whether a variable's oldest outstanding store has an earlier assign than the one that is written; whether a fresh assign is
+    /// earlier.
+    pub fn earlier_assign(&self, e: &Event, v: usize) -> [bool; 2] {
+        let Some(written) = self.oldest_assign(e.thread, e.place) else { return [false; 2] };
+        let assigned = self.last(e.thread, v, &[Kind::A]).map_or(0, |i| i + 1);
+        [self.oldest_assign(e.thread, v).is_some_and(|assign| assign < written), self.fresh(e.thread, v) && assigned < written]
+    }
+
+    /// The parts of 27 at a W that hold of some volatile variable.
+    pub fn write_parts(&self, e: &Event) -> [bool; 2] {
+        [0, 1].map(|part| self.volatiles().any(|v| self.earlier_assign(e, v)[part]))
     }
 
     /// How many reads are outstanding.

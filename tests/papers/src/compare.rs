@@ -1,10 +1,10 @@
 //! Marker A against other markers, over generated papers.
 
 use crate::by_a::{self, After};
-use crate::generate::{self, candidates, Aim, Rng, CASES, DOUBLES, PAIRS};
+use crate::generate::{self, candidates, Rng};
 use crate::short_course::{self, SITUATIONS};
 use crate::shrink::shrink;
-use crate::{expected, Counts, Course, Event, Value};
+use crate::{expected, volatiles, Counts, Course, Event, Value};
 use marker_a::Kind;
 use marker_b::State;
 use std::collections::BTreeMap;
@@ -34,6 +34,10 @@ pub struct Comparison {
     pub answers: BTreeMap<String, usize>,
     /// how many papers have an order and an unlock over which an early store waits
     pub waiting: usize,
+    /// how many papers have an order and each part of `volatile_order`
+    pub volatile_orders: [usize; 2],
+    /// the same among the random papers
+    pub in_random: [usize; 2],
     /// of how many papers `has_many_k` holds
     pub many_k: usize,
     /// how many papers there were of each of `SITUATIONS`
@@ -45,11 +49,27 @@ const PRINTED_FAILURES: usize = 20;
 const IN_NO_PAPER: [&str; 2] = ["refused 15 L", "refused 16 L"];
 /// For so many random papers there must be at least one with an order and an unlock over which an early store waits.
 const WAITING_IN: usize = 200;
+/// For so many random papers there must be at least one with an order and each part of `volatile_order`.
+const VOLATILE_ORDERS_IN: [usize; 2] = [40, 600];
 /// For so many papers with many K there must be at least one of which `has_many_k` holds.
 const MANY_K_IN: usize = 4;
 /// For so many papers about the limits of the short course there must be at least one of each of `SITUATIONS`.
 const SITUATION_IN: usize = 1_000;
-const FEW: Counts = Counts { threads: 2, variables: 1, locks: 1 };
+const FEW: Counts = Counts::new(2, 1, 1);
+/// The same with its variable volatile; one thread with two volatile variables, and with a volatile and a plain one.
+const ONE_VOLATILE: Counts = volatile(FEW, 1);
+const TWO_VOLATILES: Counts = volatile(Counts::new(1, 2, 0), 2);
+const MIXED: Counts = volatile(Counts::new(1, 2, 0), 1);
+
+/// The same with the first so many variables volatile.
+const fn volatile(mut counts: Counts, variables: usize) -> Counts {
+    let mut v = 0;
+    while v < variables {
+        counts.volatiles[v] = true;
+        v += 1;
+    }
+    counts
+}
 
 /// The kind of a paper's listing: the refusal, with the letter where it is one of a row, or what became of the order.
 fn kind(paper: &[u8], listing: &str) -> String {
@@ -61,6 +81,7 @@ fn kind(paper: &[u8], listing: &str) -> String {
             let letter = paper.split(|&b| b == 10).nth(line - 1).and_then(|line| line.first());
             format!("refused {number} {}", *letter.unwrap_or(&b'?') as char)
         }
+        "refused" if last.starts_with("refused 3 6") => "refused 06 at line 3".to_string(),
         "refused" => format!("refused {number:0>2}"),
         "unordered" => format!("unordered {number}"),
         "section" => match listing.lines().filter(|l| l.starts_with("section")).count() {
@@ -94,6 +115,25 @@ fn waits(paper: &[u8]) -> bool {
         }
         false
     })
+}
+
+/// Whether a paper that has an order has a use and a write of volatile variables; and a use of one that gives what another thread wrote.
+fn volatile_order(paper: &[u8]) -> [bool; 2] {
+    let parts = marker_a::paper::find(paper).expect("an accepted paper");
+    let (mut used, mut given) = (false, false);
+    // the thread of each volatile variable's last write
+    let mut writers: BTreeMap<u32, u32> = BTreeMap::new();
+    for e in parts.body.split(|&b| b == 10).filter_map(marker_a::paper::event) {
+        if matches!(e.kind, Kind::U | Kind::W) && parts.counts.volatiles[e.target as usize] {
+            if e.kind == Kind::W {
+                writers.insert(e.target, e.thread);
+            } else {
+                used = true;
+                given |= writers.get(&e.target).is_some_and(|&writer| writer != e.thread);
+            }
+        }
+    }
+    [used && !writers.is_empty(), given]
 }
 
 /// Whether a paper that has an order has more than 900 K, one of them on a lock that is held already, and sections that are not in order of
@@ -137,6 +177,8 @@ impl Comparison {
             failed: 0,
             answers: BTreeMap::new(),
             waiting: 0,
+            volatile_orders: [0; 2],
+            in_random: [0; 2],
             many_k: 0,
             situations: [0; SITUATIONS.len()],
         }
@@ -179,6 +221,9 @@ impl Comparison {
                 let kind = kind(paper, &listing);
                 if kind.starts_with("ordered") {
                     self.waiting += usize::from(waits(paper));
+                    for (number, holds) in self.volatile_orders.iter_mut().zip(volatile_order(paper)) {
+                        *number += usize::from(holds);
+                    }
                     self.many_k += usize::from(has_many_k(paper, &listing));
                 }
                 for ((_, holds), number) in SITUATIONS.iter().zip(&mut self.situations) {
@@ -201,7 +246,7 @@ impl Comparison {
     /// The papers with known listings.
     pub fn known(&mut self) {
         let plain = expected::papers().into_iter().map(|e| (e, None));
-        let both = short_course::papers().into_iter().map(|(e, short)| (e, Some(short)));
+        let both = short_course::papers().into_iter().chain(volatiles::papers()).map(|(e, short)| (e, Some(short)));
         for (e, short) in plain.chain(both) {
             self.paper(&e.name, &e.paper, true);
             let failure = match self.checked(&e.paper, true) {
@@ -218,28 +263,31 @@ impl Comparison {
         }
     }
 
-    /// Every trace of up to `most` events with two threads, one variable, one lock and two values, with its guard and without.
+    /// Every trace of up to `most` events with these counts and values, without guards and, where there is a lock, with it for a guard.
     /// Nothing is looked at after a refused event, so a trace ends with its first one.
-    pub fn every_short_trace(&mut self, most: usize, values: [Value; 2]) {
-        let all = candidates(FEW, &values);
-        for guards in [Some(&[0][..]), None] {
-            self.extend(guards, &all, most, &mut Vec::new(), &State::new(Course::Full, FEW, guards));
+    pub fn every_short_trace(&mut self, counts: Counts, most: usize, values: &[Value]) {
+        let all = candidates(counts, values);
+        let guards = vec![0; counts.variables];
+        let guarded = (counts.locks > 0).then_some(Some(&guards[..]));
+        for guards in guarded.into_iter().chain([None]) {
+            self.extend(guards, &all, most, &mut Vec::new(), &State::new(Course::Full, counts, guards));
         }
     }
 
     fn extend(&mut self, guards: Option<&[usize]>, all: &[Event], most: usize, events: &mut Vec<Event>, state: &State) {
-        self.paper("short trace", &generate::paper(FEW, guards, events), true);
+        let counts = state.counts();
+        self.paper("short trace", &generate::paper(counts, guards, events), true);
         if events.len() == most {
             return;
         }
-        let after = After::new(FEW, events);
+        let after = After::new(counts, events);
         for &e in all {
             let refused = after.refusal(&e).is_some();
             let mut next = state.clone();
             let refused_too = next.step(e) != 0;
             events.push(e);
             if refused || refused_too {
-                self.paper("short trace", &generate::paper(FEW, guards, events), true);
+                self.paper("short trace", &generate::paper(counts, guards, events), true);
             } else {
                 self.extend(guards, all, most, events, &next);
             }
@@ -264,11 +312,7 @@ impl Comparison {
     /// half of the papers.
     pub fn aimed(&mut self, seed: u64, each: usize) {
         let mut rng = Rng::new(seed);
-        let mut aims = vec![Aim::Accepted, Aim::Undeclared];
-        aims.extend(PAIRS.map(|(letter, number)| Aim::Refused(letter, number)));
-        aims.extend(DOUBLES.map(|(letter, number, later)| Aim::Both(letter, number, later)));
-        aims.extend(CASES.map(Aim::Case));
-        for aim in aims {
+        for aim in generate::aims(true) {
             for _ in 0..each {
                 let s = generate::short(&mut rng, aim, 20);
                 let guards: Vec<usize> = (0..s.counts.variables).map(|_| rng.below(s.counts.locks)).collect();
@@ -329,13 +373,20 @@ pub fn run(check: Check, size: Size) -> (usize, usize) {
     };
     let Size { seed, random, damaged, large, large_by_a, many_k, at_short_limits, aimed, short } = size;
     part("known listings", &|c| c.known());
-    part("every short trace", &|c| c.every_short_trace(short, [0, 1]));
+    part("every short trace", &|c| c.every_short_trace(FEW, short, &[0, 1]));
     part("every short trace of values with the same low 32 bits", &|c| {
-        c.every_short_trace(short.saturating_sub(1), [0, 1 << 32])
+        c.every_short_trace(FEW, short.saturating_sub(1), &[0, 1 << 32])
     });
+    part("every short trace with a volatile variable", &|c| c.every_short_trace(ONE_VOLATILE, short, &[0, 1]));
+    part("every short trace with two volatile variables", &|c| c.every_short_trace(TWO_VOLATILES, short + 3, &[0]));
+    part("every short trace with a volatile and a plain variable", &|c| c.every_short_trace(MIXED, short + 1, &[0]));
     part("every trace, past refused events too", &|c| c.every_trace(short.saturating_sub(2)));
     part("aimed papers", &|c| c.aimed(seed, aimed));
-    part("random papers", &|c| c.seeds("seed", generate::random_paper, seed, random, random));
+    part("random papers", &|c| {
+        c.volatile_orders = [0; 2];
+        c.seeds("seed", generate::random_paper, seed, random, random);
+        c.in_random = c.volatile_orders;
+    });
     part("damaged papers", &|c| c.seeds("damaged seed", generate::damaged_paper, seed, damaged, damaged));
     part("large papers", &|c| c.seeds("large seed", generate::large_paper, seed, large, large_by_a));
     part("papers with many K", &|c| {
@@ -346,8 +397,12 @@ pub fn run(check: Check, size: Size) -> (usize, usize) {
         c.situations = [0; SITUATIONS.len()];
         c.seeds("short course, seed", generate::paper_at_short_limits, seed, at_short_limits, at_short_limits)
     });
+    let [volatile, given] = comparison.in_random;
+    let [volatile_wanted, given_wanted] = VOLATILE_ORDERS_IN.map(|papers| random as usize / papers);
     for (what, found, wanted) in [
         ("an early store waits over an unlock", comparison.waiting, random as usize / WAITING_IN),
+        ("volatile variables are used and written", volatile, volatile_wanted),
+        ("a volatile variable gives what another thread wrote", given, given_wanted),
         ("more than 900 K, locks taken again, not by the first K", comparison.many_k, many_k as usize / MANY_K_IN),
     ] {
         println!("ordered, and {what}: {found}");

@@ -2,7 +2,7 @@
 
 use crate::by_a::After;
 use crate::{Counts, Course, Event, Value};
-use marker_b::State;
+use marker_b::{State, VARIABLES};
 
 /// SplitMix64: the same seed gives the same papers.
 pub struct Rng(u64);
@@ -54,7 +54,7 @@ impl Rng {
 pub const LETTERS: &[u8; 10] = b"UALSRWKNPB";
 
 /// Every pair of a letter and a refusal of its row that a paper can have. No L of a paper meets 15 or 16: 23 comes before.
-pub const PAIRS: [(u8, u32); 26] = [
+pub const PAIRS: [(u8, u32); 36] = [
     (b'U', 17),
     (b'U', 18),
     (b'A', 23),
@@ -81,12 +81,23 @@ pub const PAIRS: [(u8, u32); 26] = [
     (b'P', 23),
     (b'B', 10),
     (b'B', 18),
+    (b'U', 26),
+    (b'A', 26),
+    (b'L', 26),
+    (b'S', 26),
+    (b'P', 26),
+    (b'B', 26),
+    (b'U', 27),
+    (b'W', 27),
+    (b'P', 28),
+    (b'B', 28),
 ];
 
 /// Every letter and two refusals of its row that one event of a paper can break at once; the first is the answer. With an outstanding
 /// read there is no outstanding store, no own write after it, and a fresh assign only where one is owed, so that L has no 16 beside 13, and R
-/// and P have no 23 beside 19.
-pub const DOUBLES: [(u8, u32, u32); 25] = [
+/// and P have no 23 beside 19. A volatile variable is never owed, so that nothing has 13 beside 26 or 28; and W without a store has no 27.
+/// 27 beside 26 at U is one of `VOLATILE_CASES`.
+pub const DOUBLES: [(u8, u32, u32); 47] = [
     (b'U', 17, 18),
     (b'L', 10, 13),
     (b'L', 10, 15),
@@ -112,6 +123,65 @@ pub const DOUBLES: [(u8, u32, u32); 25] = [
     (b'P', 13, 19),
     (b'P', 13, 23),
     (b'B', 10, 18),
+    (b'U', 26, 17),
+    (b'U', 26, 18),
+    (b'U', 27, 17),
+    (b'U', 27, 18),
+    (b'A', 26, 23),
+    (b'L', 26, 10),
+    (b'L', 26, 15),
+    (b'L', 26, 16),
+    (b'L', 26, 18),
+    (b'S', 26, 14),
+    (b'S', 26, 17),
+    (b'S', 26, 18),
+    (b'S', 26, 19),
+    (b'W', 27, 18),
+    (b'P', 26, 28),
+    (b'P', 26, 19),
+    (b'P', 26, 23),
+    (b'P', 28, 19),
+    (b'P', 28, 23),
+    (b'B', 26, 28),
+    (b'B', 26, 10),
+    (b'B', 28, 10),
+];
+
+/// A letter that is refused with 26 on a volatile variable, and the thread's latest event on it, R and W left aside; 0 is none.
+pub const NEIGHBOURS: [(u8, u8); 16] = [
+    (b'U', 0),
+    (b'U', b'U'),
+    (b'U', b'A'),
+    (b'U', b'S'),
+    (b'S', 0),
+    (b'S', b'U'),
+    (b'S', b'L'),
+    (b'S', b'S'),
+    (b'A', b'A'),
+    (b'A', b'L'),
+    (b'L', b'A'),
+    (b'L', b'L'),
+    (b'P', b'A'),
+    (b'P', b'L'),
+    (b'B', b'A'),
+    (b'B', b'L'),
+];
+
+/// A letter and a refusal of its row behind 26, 27 and 28 that a paper can have on a volatile variable.
+pub const ON_VOLATILES: [(u8, u32); 13] = [
+    (b'U', 17),
+    (b'U', 18),
+    (b'A', 23),
+    (b'L', 10),
+    (b'L', 18),
+    (b'S', 17),
+    (b'S', 18),
+    (b'S', 19),
+    (b'R', 18),
+    (b'R', 19),
+    (b'R', 23),
+    (b'W', 10),
+    (b'W', 18),
 ];
 
 /// A letter, its answer, 0 where it is accepted, and what holds of the event and the events before it.
@@ -151,6 +221,37 @@ pub const CASES: [Case; 17] = [
     // and the load of such a read, after the B: with an A between read and B; with a fresh assign before the read
     (b'L', 0, |after, e| after.at_read(e).is_some_and(|then| then.is_owed(e)) && after.since_read(b'A', e)),
     (b'L', 0, |after, e| after.at_read(e).is_some_and(|then| then.is_owed(e) && then.is_fresh(e))),
+];
+
+/// Parts of 27, and what is accepted beside them; of traces with volatile variables.
+pub const VOLATILE_CASES: [Case; 19] = [
+    // U: out of order too, though not directly after its load
+    (b'U', 26, |after, e| after.is_loaded(e) && after.use_parts(e).contains(&true)),
+    // U: each part alone
+    (b'U', 27, |after, e| after.use_parts(e) == [true, false, false, false]),
+    (b'U', 27, |after, e| after.use_parts(e) == [false, true, false, false]),
+    (b'U', 27, |after, e| after.use_parts(e) == [false, false, true, false]),
+    (b'U', 27, |after, e| after.use_parts(e) == [false, false, false, true]),
+    // W: each part alone
+    (b'W', 27, |after, e| after.write_parts(e) == [true, false]),
+    (b'W', 27, |after, e| after.write_parts(e) == [false, true]),
+    // U after a write, or a use, of another volatile variable; while a plain one is unwritten; while another thread has a volatile one unwritten
+    (b'U', 0, |after, e| after.is_volatile(e) && after.volatiles().any(|v| v != e.place && after.written(e.thread, v))),
+    (b'U', 0, |after, e| after.is_volatile(e) && after.volatiles().any(|v| v != e.place && after.used(e.thread, v))),
+    (b'U', 0, |after, e| after.is_volatile(e) && after.plain().any(|v| after.is_unwritten(e.thread, v))),
+    (b'U', 0, |after, e| after.is_volatile(e) && after.others(e).any(|t| after.volatiles().any(|v| after.is_unwritten(t, v)))),
+    // W on a volatile variable while a later volatile assign is unwritten; while an earlier plain one is; of another thread's before
+    (b'W', 0, |after, e| after.is_volatile(e) && after.volatiles().any(|v| v != e.place && after.is_unwritten(e.thread, v))),
+    (b'W', 0, |after, e| after.is_volatile(e) && after.plain().any(|v| after.earlier_assign(e, v).contains(&true))),
+    (b'W', 0, |after, e| after.is_volatile(e) && after.others(e).any(|t| after.volatiles().any(|v| after.is_unwritten(t, v)))),
+    // W on a plain variable while an earlier volatile assign is unwritten
+    (b'W', 0, |after, e| !after.is_volatile(e) && after.write_parts(e).contains(&true)),
+    // U behind an R or W after its L; S behind a W after its A
+    (b'U', 0, |after, e| after.is_volatile(e) && after.since_own(b'R', e)),
+    (b'S', 0, |after, e| after.is_volatile(e) && after.since_own(b'W', e)),
+    // N: no assign but volatile ones is fresh, or unwritten
+    (b'N', 15, |after, e| after.broken(e) == [15] && after.plain().all(|v| !after.fresh(e.thread, v))),
+    (b'N', 16, |after, e| after.plain().all(|v| after.unwritten(e.thread, v).is_empty())),
 ];
 
 /// Values of many lengths, and about the ends of 32 and 64 bits. Some have the same low 32 bits as another, or as 0.
@@ -218,12 +319,65 @@ pub enum Aim {
     /// The same, and it breaks this later rule of its row too.
     Both(u8, u32, u32),
     Case(Case),
+    /// The same in a trace with volatile variables.
+    Volatile(Case),
+    /// An event of this letter, refused with 26, where the thread's latest on its variable is the other; 0 is none.
+    Neighbour(u8, u8),
+    /// An event of this letter on a volatile variable, refused with this number.
+    OnVolatile(u8, u32),
+}
+
+impl Aim {
+    /// Whether a trace without volatile variables cannot meet it.
+    fn needs_volatiles(&self) -> bool {
+        match *self {
+            Aim::Refused(_, number) | Aim::Both(_, number, _) => number >= 26,
+            Aim::Volatile(_) | Aim::Neighbour(..) | Aim::OnVolatile(..) => true,
+            _ => false,
+        }
+    }
+
+    /// The letter, its number and what else is wanted of an event, for the aims at one.
+    fn event(self) -> Option<(u8, u32, Box<dyn Fn(&After, &Event) -> bool>)> {
+        Some(match self {
+            Aim::Accepted | Aim::Undeclared => return None,
+            Aim::Refused(letter, number) => (letter, number, Box::new(|_, _| true)),
+            Aim::Both(letter, number, later) => (letter, number, Box::new(move |after, e| after.broken(e).contains(&later))),
+            Aim::Case((letter, number, holds)) | Aim::Volatile((letter, number, holds)) => (letter, number, Box::new(holds)),
+            Aim::Neighbour(letter, latest) => (letter, 26, Box::new(move |after, e| after.latest(e) == latest)),
+            Aim::OnVolatile(letter, number) => (letter, number, Box::new(|after, e| after.is_volatile(e))),
+        })
+    }
+}
+
+/// Every aim: with `volatiles` those at the neighbours and at the rules behind 26 to 28 too.
+pub fn aims(volatiles: bool) -> Vec<Aim> {
+    let mut aims = vec![Aim::Accepted, Aim::Undeclared];
+    aims.extend(PAIRS.map(|(letter, number)| Aim::Refused(letter, number)));
+    aims.extend(DOUBLES.map(|(letter, number, later)| Aim::Both(letter, number, later)));
+    aims.extend(CASES.map(Aim::Case));
+    aims.extend(VOLATILE_CASES.map(Aim::Volatile));
+    if volatiles {
+        aims.extend(NEIGHBOURS.map(|(letter, latest)| Aim::Neighbour(letter, latest)));
+        aims.extend(ON_VOLATILES.map(|(letter, number)| Aim::OnVolatile(letter, number)));
+    }
+    aims
+}
+
+/// One volatile variable of the declared ones, some, or all.
+pub fn some_volatiles(rng: &mut Rng, variables: usize) -> [bool; VARIABLES] {
+    let (one, way) = (rng.below(variables), rng.below(3));
+    std::array::from_fn(|v| v < variables && (v == one || way == 2 || way == 1 && rng.chance(50)))
 }
 
 /// A short trace of at most `most` events, by marker A.
 pub fn short(rng: &mut Rng, aim: Aim, most: usize) -> Short {
     loop {
-        let counts = Counts { threads: rng.between(2, 3), variables: rng.between(2, 3), locks: rng.between(2, 3) };
+        let mut counts = Counts::new(rng.between(2, 3), rng.between(2, 3), rng.between(2, 3));
+        let volatiles = aim.needs_volatiles();
+        if volatiles || rng.chance(20) {
+            counts.volatiles = some_volatiles(rng, counts.variables);
+        }
         let mut values = vec![0];
         while values.len() < 3 {
             let other = rng.pick(&values);
@@ -234,9 +388,16 @@ pub fn short(rng: &mut Rng, aim: Aim, most: usize) -> Short {
         }
         let all = candidates(counts, &values);
         let mut weights: Vec<usize> = (0..10).map(|_| rng.pick(&[1, 2, 2, 3, 6])).collect();
+        // on a volatile variable each L wants a U and each A an S
+        if volatiles && rng.chance(70) {
+            weights = LETTERS.iter().map(|l| if b"ULASRW".contains(l) { rng.pick(&[3, 4, 6]) } else { 1 }).collect();
+        }
         let mut focus_percent = rng.pick(&[0, 50, 80]);
-        let focus = (rng.below(counts.threads), rng.below(counts.variables));
-        if let Aim::Refused(letter, 19) | Aim::Both(letter, _, 19) = aim {
+        // a thread and a variable, or a thread alone
+        let variable = Some(rng.below(counts.variables));
+        let mut focus = (rng.below(counts.threads), variable.filter(|_| !volatiles || rng.chance(50)));
+        if let Aim::Refused(letter, 19) | Aim::Both(letter, _, 19) | Aim::OnVolatile(letter, 19) = aim {
+            focus.1 = Some(rng.below(counts.variables));
             focus_percent = 97;
             weights = LETTERS.iter().map(|l| if b"ASPRBWK".contains(l) { 1 } else { 0 }).collect();
             let heavy: &[(u8, usize)] = match letter {
@@ -252,7 +413,7 @@ pub fn short(rng: &mut Rng, aim: Aim, most: usize) -> Short {
         let wanted = rng.between(0, most - 1);
         let mut good: Vec<Event> = Vec::new();
         loop {
-            let near = |e: &Event| e.thread == focus.0 && (e.is_lock() || e.place == focus.1);
+            let near = |e: &Event| e.thread == focus.0 && (e.is_lock() || focus.1.is_none_or(|v| e.place == v));
             let after = After::new(counts, &good);
             let verdicts: Vec<Option<u32>> = all.iter().map(|e| after.refusal(e)).collect();
             if good.len() >= wanted {
@@ -268,26 +429,11 @@ pub fn short(rng: &mut Rng, aim: Aim, most: usize) -> Short {
                         }
                         vec![(e, 5)]
                     }
-                    Aim::Refused(letter, number) => all
-                        .iter()
-                        .zip(&verdicts)
-                        .filter(|(e, &r)| e.letter == letter && r == Some(number))
-                        .map(|(&e, _)| (e, number))
-                        .collect(),
-                    Aim::Both(letter, number, later) => all
-                        .iter()
-                        .zip(&verdicts)
-                        .filter(|(e, &r)| e.letter == letter && r == Some(number))
-                        .filter(|(e, _)| after.broken(e).contains(&later))
-                        .map(|(&e, _)| (e, number))
-                        .collect(),
-                    Aim::Case((letter, number, holds)) => all
-                        .iter()
-                        .zip(&verdicts)
-                        .filter(|(e, &r)| e.letter == letter && r.unwrap_or(0) == number)
-                        .filter(|(e, _)| holds(&after, e))
-                        .map(|(&e, _)| (e, number))
-                        .collect(),
+                    _ => {
+                        let (letter, number, holds) = aim.event().expect("an aim at an event");
+                        let of = all.iter().zip(&verdicts).filter(|(e, r)| e.letter == letter && r.unwrap_or(0) == number);
+                        of.map(|(&e, _)| (e, number)).filter(|(e, _)| holds(&after, e)).collect()
+                    }
                 };
                 if !fit.is_empty() {
                     let (last, number) = rng.pick(&fit);
@@ -319,7 +465,7 @@ pub fn short(rng: &mut Rng, aim: Aim, most: usize) -> Short {
 
 // ---- papers
 
-/// The bytes of a paper: head, `G` line and body with the trailer that counts right.
+/// The bytes of a paper: head, `G` line, `V` line where a variable is volatile, and body with the trailer that counts right.
 pub fn close(mut body: Vec<u8>) -> Vec<u8> {
     let n = body.len();
     body.extend(format!("Z {n}\n").bytes());
@@ -338,6 +484,11 @@ fn of_lines(counts: Counts, guards: Option<&[usize]>, lines: impl Iterator<Item 
         Some(list) => list.iter().for_each(|l| text += &format!(" {l}")),
     }
     text += "\n";
+    if counts.has_volatiles() {
+        text += "V";
+        (0..VARIABLES).filter(|&v| counts.volatiles[v]).for_each(|v| text += &format!(" {v}"));
+        text += "\n";
+    }
     for line in lines {
         text += &line;
         text += "\n";
@@ -351,6 +502,8 @@ struct Style {
     weights: [usize; 10],
     /// in how many of a hundred events the order's rules are kept
     discipline: usize,
+    /// in how many of a hundred events no volatile L or A, and no read of one, is left without its U or S
+    care: usize,
     /// in how many of a hundred events the thread stays the same as before
     stay: usize,
     values: Vec<Value>,
@@ -379,7 +532,7 @@ fn style(rng: &mut Rng, pool: &[Value]) -> Style {
     for _ in 0..rng.between(1, 4) {
         values.push(rng.pick(pool));
     }
-    Style { weights, discipline: rng.pick(&[100, 100, 100, 98, 60, 0]), stay: rng.pick(&[0, 50, 90]), values }
+    Style { weights, discipline: rng.pick(&[100, 100, 100, 98, 60, 0]), care: 100, stay: rng.pick(&[0, 50, 90]), values }
 }
 
 fn any_event(rng: &mut Rng, counts: Counts, values: &[Value]) -> Event {
@@ -393,20 +546,50 @@ fn any_event(rng: &mut Rng, counts: Counts, values: &[Value]) -> Event {
     }
 }
 
+/// Every U and W with the value that is due that is refused with 27.
+fn out_of_order(state: &State) -> Vec<Event> {
+    let Counts { threads, variables, .. } = state.counts();
+    let mut list = Vec::new();
+    for thread in 0..threads {
+        for place in (0..variables).filter(|&v| state.counts().volatiles[v]) {
+            for letter in [b'U', b'W'] {
+                let value = state.due(letter, thread, place).unwrap_or(0);
+                list.push(Event { letter, thread, place, value });
+            }
+        }
+    }
+    list.retain(|&e| state.judge(e) == 27);
+    list
+}
+
 /// An accepted event of thread t, by the style; none where there is none.
 fn open_event(rng: &mut Rng, state: &State, style: &Style, t: usize, closing: bool) -> Option<Event> {
+    let care = state.counts().has_volatiles() && rng.chance(style.care);
+    let found = fit_event(rng, state, style, t, closing, care);
+    if closing && care {
+        found.or_else(|| fit_event(rng, state, style, t, closing, false))
+    } else {
+        found
+    }
+}
+
+/// The same, with care or without. With `closing` only one that leads to nothing held, owed or outstanding: to that of a volatile variable
+/// by its L and U.
+fn fit_event(rng: &mut Rng, state: &State, style: &Style, t: usize, closing: bool, care: bool) -> Option<Event> {
     let counts = state.counts();
     let keep = closing || rng.chance(style.discipline);
     let mut open: [Vec<Event>; 10] = Default::default();
     for (i, &letter) in LETTERS.iter().enumerate() {
-        if closing && !b"SWNB".contains(&letter) {
-            continue;
-        }
+        let closes = |place: usize| match letter {
+            b'S' | b'W' | b'N' | b'B' => true,
+            b'L' | b'U' => counts.volatiles[place],
+            _ => false,
+        };
         let lock = matches!(letter, b'K' | b'N');
-        for place in 0..if lock { counts.locks } else { counts.variables } {
+        for place in (0..if lock { counts.locks } else { counts.variables }).filter(|&place| !closing || closes(place)) {
             let value = if lock { 0 } else { state.due(letter, t, place).unwrap_or_else(|| rng.pick(&style.values)) };
             let e = Event { letter, thread: t, place, value };
-            if state.judge(e) == 0 && !(keep && state.denies(e)) {
+            if state.judge(e) == 0 && !(keep && state.denies(e)) && !(care && state.strands(e)) {
                 open[i].push(e);
             }
         }
@@ -422,24 +605,41 @@ fn open_event(rng: &mut Rng, state: &State, style: &Style, t: usize, closing: bo
 /// Counts, guards and events.
 pub type Trace = (Counts, Option<Vec<usize>>, Vec<Event>);
 
-/// What a paper has, with values of 64 bits; accepted but for the bad events that are put in, so many in a hundred. An orderly paper
-/// has guards, keeps the order's rules, and ends with nothing held, owed or outstanding.
+/// What a paper has, with values of 64 bits and, in `VOLATILE_SHARE` of a hundred, volatile variables; accepted but for the bad events that
+/// are put in, so many in a hundred. An orderly paper has guards, keeps the order's rules, and ends with nothing held, owed or outstanding.
 pub fn long(rng: &mut Rng, length: usize, bad_percent: usize, orderly: bool) -> Trace {
-    long_of(rng, OF_64_BITS, length, bad_percent, orderly)
+    let mut counts = long_counts(rng, orderly);
+    if rng.chance(VOLATILE_SHARE) {
+        counts.volatiles = some_volatiles(rng, counts.variables);
+        // one lock for several threads, so that their sections hand values on
+        if rng.chance(50) {
+            (counts.threads, counts.locks) = (counts.threads.max(2), 1);
+        }
+    }
+    long_with(rng, counts, OF_64_BITS, length, bad_percent, orderly)
 }
 
-/// The same, with 0 and some of these values.
+/// In so many of a hundred papers some variables are volatile.
+const VOLATILE_SHARE: usize = 40;
+
+/// The same without volatile variables, with 0 and some of these values.
 pub fn long_of(rng: &mut Rng, pool: &[Value], length: usize, bad_percent: usize, orderly: bool) -> Trace {
+    let counts = long_counts(rng, orderly);
+    long_with(rng, counts, pool, length, bad_percent, orderly)
+}
+
+/// Few threads, variables and locks in most papers. An orderly one has a lock.
+pub fn long_counts(rng: &mut Rng, orderly: bool) -> Counts {
     let mut counts = match rng.below(10) {
-        0 => Counts { threads: 8, variables: 16, locks: 8 },
-        1 => Counts { threads: rng.between(1, 8), variables: rng.between(1, 16), locks: rng.between(0, 8) },
-        2 => Counts { threads: 1, variables: 1, locks: rng.between(0, 2) },
-        _ => Counts { threads: rng.between(1, 3), variables: rng.between(1, 3), locks: rng.between(1, 3) },
+        0 => Counts::new(8, 16, 8),
+        1 => Counts::new(rng.between(1, 8), rng.between(1, 16), rng.between(0, 8)),
+        2 => Counts::new(1, 1, rng.between(0, 2)),
+        _ => Counts::new(rng.between(1, 3), rng.between(1, 3), rng.between(1, 3)),
     };
     if orderly {
         counts.locks = counts.locks.max(1);
     }
-    long_with(rng, counts, pool, length, bad_percent, orderly)
+    counts
 }
 
 /// The same, with these counts. An orderly paper has a lock.
@@ -449,6 +649,12 @@ pub fn long_with(rng: &mut Rng, counts: Counts, pool: &[Value], length: usize, b
     let mut style = style(rng, pool);
     if orderly {
         style.discipline = 100;
+    } else if counts.has_volatiles() {
+        style.care = rng.pick(&[100, 100, 100, 90, 0]);
+    }
+    if counts.has_volatiles() && rng.chance(60) {
+        // U A L S R W K N P B: volatile values go through main memory, from section to section
+        style.weights = [20, 8, 20, 20, 9, 20, 2, 14, 1, 4];
     }
     let mut state = State::new(Course::Full, counts, guards.as_deref());
     let mut events = Vec::new();
@@ -466,6 +672,10 @@ pub fn long_with(rng: &mut Rng, counts: Counts, pool: &[Value], length: usize, b
             }
             if rng.chance(10) {
                 e.place = rng.below(17);
+            }
+            let late = out_of_order(&state);
+            if !late.is_empty() && rng.chance(50) {
+                e = rng.pick(&late);
             }
             state.step(e);
             events.push(e);
@@ -537,6 +747,40 @@ const FIELDS: [&[u8]; 38] = [
     b" ",
 ];
 
+/// Lines that are meant as a `V` line and are wrong with up to four variables; with five some are right.
+const WRONG_V_LINES: [&str; 20] = [
+    "V",
+    "V ",
+    "V  0",
+    "V 0 ",
+    "V 0 0",
+    "V 1 0",
+    "V 0 2 1",
+    "V 0  1",
+    "V 4",
+    "V 0 4",
+    "V 0 16",
+    "V 00",
+    "V 0 01",
+    "V -1",
+    "V 0 -",
+    "V0",
+    "VV 0",
+    "V\t0",
+    "V 0\r",
+    "V 18446744073709551616",
+];
+
+/// Puts a line that is meant as a `V` line behind the `G` line, right or wrong, in the place of line 3 if that is one.
+fn other_v_line(rng: &mut Rng, body: &mut Vec<u8>) {
+    let starts: Vec<usize> = (0..body.len()).filter(|&i| body[i] == 10).map(|i| i + 1).collect();
+    if let [_, start, ..] = starts[..] {
+        let end = if body.get(start) == Some(&b'V') { starts.get(2).copied().unwrap_or(start) } else { start };
+        let line = if rng.chance(50) { rng.pick(&WRONG_V_LINES) } else { rng.pick(&["V 0", "V 1", "V 0 1", "V 0 1 2"]) };
+        body.splice(start..end, format!("{line}\n").into_bytes());
+    }
+}
+
 /// Changes some bytes of a paper; the trailer then counts right in half of the papers.
 pub fn damage(rng: &mut Rng, paper: &[u8]) -> Vec<u8> {
     let before = paper[..paper.len() - 1].iter().rposition(|&b| b == 10).map_or(0, |i| i + 1);
@@ -549,12 +793,12 @@ pub fn damage(rng: &mut Rng, paper: &[u8]) -> Vec<u8> {
         let at = rng.below(body.len().max(1)).min(body.len());
         let starts: Vec<usize> =
             std::iter::once(0).chain(body.iter().enumerate().filter(|(_, &b)| b == 10).map(|(i, _)| i + 1)).collect();
-        match rng.below(12) {
+        match rng.below(13) {
             0 if at < body.len() => {
                 body.remove(at);
             }
-            1 => body.insert(at, rng.pick(b"0123456789 -+UALSRWKNPBHGZz\n\r\t\0")),
-            2 if at < body.len() => body[at] = rng.pick(b"0123456789 -+UALSRWKNPBHGZz\n\r\t\0\xff"),
+            1 => body.insert(at, rng.pick(b"0123456789 -+UALSRWKNPBHGVZz\n\r\t\0")),
+            2 if at < body.len() => body[at] = rng.pick(b"0123456789 -+UALSRWKNPBHGVZz\n\r\t\0\xff"),
             3 if at < body.len() => body[at] = rng.next() as u8,
             // a field that is another
             4..=7 => {
@@ -581,6 +825,8 @@ pub fn damage(rng: &mut Rng, paper: &[u8]) -> Vec<u8> {
                     b"\n".as_slice(),
                     b"Z 0\n",
                     b"G -\n",
+                    b"V 0\n",
+                    b"V\n",
                     b"H 1 1 1\n",
                     b"K 0\n",
                     b"K 0 0 0\n",
@@ -598,6 +844,7 @@ pub fn damage(rng: &mut Rng, paper: &[u8]) -> Vec<u8> {
                 ]);
                 body.splice(s..s, line.iter().copied());
             }
+            11 => other_v_line(rng, &mut body),
             _ => {
                 body.truncate(at);
                 whole = whole || rng.chance(50);
@@ -624,7 +871,8 @@ fn short_paper(rng: &mut Rng) -> Vec<u8> {
         _ => rng.between(120, 400),
     };
     let bad_percent = rng.pick(&[0, 0, 0, 2, 5]);
-    let (counts, guards, events) = long(rng, length, bad_percent, false);
+    let orderly = bad_percent == 0 && rng.chance(20);
+    let (counts, guards, events) = long(rng, length, bad_percent, orderly);
     paper(counts, guards.as_deref(), &events)
 }
 
@@ -642,7 +890,10 @@ pub fn large_paper(seed: u64) -> Vec<u8> {
         let mut body = b"H 1 1 1\nG 0\n".to_vec();
         let mut field = vec![rng.pick(b"09"); 60_000 + rng.below(6_000)];
         field[0] = rng.pick(b"19");
-        body.extend(rng.pick(&[b"A ".as_slice(), b"A 0 ", b"A 0 0 ", b"A 0 0 -", b"K ", b"N 0 "]));
+        if rng.chance(VOLATILE_SHARE) {
+            body.extend(rng.pick(&[b"V 0\n".as_slice(), b"V ", b"V 0 "]));
+        }
+        body.extend(rng.pick(&[b"A ".as_slice(), b"A 0 ", b"A 0 0 ", b"A 0 0 -", b"K ", b"N 0 ", b""]));
         body.extend(field);
         body.extend(rng.pick(&[b" 0 0\n".as_slice(), b" 0\n", b"\n"]));
         return close(body);
@@ -673,14 +924,17 @@ pub fn large_paper(seed: u64) -> Vec<u8> {
 /// these have 1,000 K.
 pub fn paper_with_many_k(seed: u64) -> Vec<u8> {
     let mut rng = Rng::new(seed ^ 0x3333_0000_0000_0000);
-    let counts = Counts { threads: rng.between(2, 8), variables: rng.between(1, 3), locks: rng.between(2, 8) };
+    let mut counts = Counts::new(rng.between(2, 8), rng.between(1, 3), rng.between(2, 8));
+    if rng.chance(VOLATILE_SHARE) {
+        counts.volatiles = some_volatiles(&mut rng, counts.variables);
+    }
     let guards: Vec<usize> = (0..counts.variables).map(|_| rng.below(counts.locks)).collect();
     // K and N alone; or reads, loads, uses and early stores too, but no A, which could not be stored after a K
     let others = rng.below(2);
     let (k, n) = rng.pick(&[(100, 100), (300, 100), (900, 100)]);
     // U A L S R W K N P B
     let weights = [4 * others, 0, 4 * others, 0, 2 * others, 300, k, n, others, 300];
-    let style = Style { weights, discipline: 100, stay: rng.pick(&[0, 50, 90]), values: vec![0, 1, 1 << 32] };
+    let style = Style { weights, discipline: 100, care: 100, stay: rng.pick(&[0, 50, 90]), values: vec![0, 1, 1 << 32] };
     // in one of five papers thread 0 takes lock 0 again and again and keeps it: no order, and in most of them more than 1,000 K
     let keeps = rng.chance(20);
     let fit = |e: &Event| !keeps || e.thread > 0 || (e.letter, e.place) == (b'K', 0);
@@ -705,7 +959,7 @@ pub fn paper_with_many_k(seed: u64) -> Vec<u8> {
 }
 
 /// Lines to stand for the 201st event: some are none, some have an undeclared number, some break a rule of their row in most papers.
-const AFTER_200: [&str; 16] = [
+const AFTER_200: [&str; 20] = [
     "X",
     "",
     "A 0 0",
@@ -713,6 +967,7 @@ const AFTER_200: [&str; 16] = [
     "K 0 0 0",
     "G -",
     "A 0 0 9223372036854775808",
+    "V 0",
     "A 9 0 0",
     "A 0 16 0",
     "K 0 8",
@@ -722,20 +977,22 @@ const AFTER_200: [&str; 16] = [
     "W 0 2 77",
     "B 0 0 77",
     "L 0 1 77",
+    "P 0 0 77",
+    "S 0 1 77",
+    "B 0 2 77",
 ];
 
 /// A paper about the limits of the short course: 1 to 3 threads, 3 to 5 variables, 1 to 3 locks, and about 200 events.
 pub fn paper_at_short_limits(seed: u64) -> Vec<u8> {
     let mut rng = Rng::new(seed ^ 0x7777_0000_0000_0000);
-    let counts = Counts {
-        threads: rng.pick(&[1, 2, 2, 2, 2, 3]),
-        variables: rng.pick(&[3, 4, 4, 4, 4, 5]),
-        locks: rng.pick(&[1, 2, 2, 2, 2, 3]),
-    };
+    let mut counts = Counts::new(rng.pick(&[1, 2, 2, 2, 2, 3]), rng.pick(&[3, 4, 4, 4, 4, 5]), rng.pick(&[1, 2, 2, 2, 2, 3]));
+    if rng.chance(VOLATILE_SHARE) {
+        counts.volatiles = some_volatiles(&mut rng, counts.variables);
+    }
     let most = Course::Short.events() as usize;
     let number = if rng.chance(30) { most } else { rng.between(most - 5, most + 5) };
     let orderly = rng.chance(50);
-    let (counts, guards, mut events) = of_length(&mut rng, counts, OF_64_BITS, number, orderly);
+    let (mut counts, guards, mut events) = of_length(&mut rng, counts, OF_64_BITS, number, orderly);
     // an event of the last ten is another
     if rng.chance(20) {
         let at = events.len() - 1 - rng.below(10);
@@ -744,6 +1001,11 @@ pub fn paper_at_short_limits(seed: u64) -> Vec<u8> {
     let mut lines: Vec<String> = events.iter().map(Event::line).collect();
     if lines.len() > most && rng.chance(50) {
         lines[most] = rng.pick(&AFTER_200).to_string();
+    }
+    // a wrong `V` line
+    if rng.chance(6) {
+        counts.volatiles = [false; VARIABLES];
+        lines.insert(0, rng.pick(&WRONG_V_LINES).to_string());
     }
     // counts that no head has, or a lock that is not declared
     let guards = guards.map(|list| if rng.chance(5) { vec![counts.locks; list.len()] } else { list });
@@ -776,7 +1038,7 @@ fn go_on(rng: &mut Rng, counts: Counts, guards: Option<&[usize]>, events: &mut V
     }
     // U A L S R W K N P B
     let weights = if orderly { [0, 0, 1, 0, 1, 0, 0, 0, 0, 0] } else { [1; 10] };
-    let style = Style { weights, discipline: 0, stay: 0, values: vec![0, 1, 1 << 32] };
+    let style = Style { weights, discipline: 0, care: 100, stay: 0, values: vec![0, 1, 1 << 32] };
     // a thread may have assigns that can neither be stored nor read again
     for _ in 0..100 * number {
         if events.len() >= number {

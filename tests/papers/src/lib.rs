@@ -9,5 +9,6 @@ pub mod locking;
 pub mod short_course;
 pub mod shrink;
 pub mod values;
+pub mod volatiles;
 
 pub use marker_b::{Counts, Course, Event, Value, COURSES};

@@ -8,11 +8,13 @@ use crate::generate::close;
 const HEAD: &str = "H 2 4 2";
 const MAIN: &str = "main 0 0, main 1 0, main 2 0, main 3 0";
 
-/// The line of the 201st event. A paper of 200 events has as many lines.
+/// The line of the 201st event, without a `V` line and with one. A paper of 200 events has as many lines.
 const LAST_LINE: usize = 203;
+const LAST_LINE_BEHIND_V: usize = 204;
 
-const OVER_HEAD: &str = "refused 1 25";
-const OVER_EVENTS: &str = "refused 203 25";
+pub const OVER_HEAD: &str = "refused 1 25";
+pub const OVER_EVENTS: &str = "refused 203 25";
+pub const OVER_EVENTS_BEHIND_V: &str = "refused 204 25";
 
 /// What is said in the short course: what the full one says, or 25.
 #[derive(Clone, Copy)]
@@ -302,15 +304,30 @@ fn over(paper: &[u8]) -> bool {
     numbers.zip([2, 4, 2]).any(|(n, most): (usize, usize)| n > most)
 }
 
+/// Whether line 3 is meant as a `V` line.
+pub fn has_v_line(paper: &[u8]) -> bool {
+    paper.split(|&b| b == 10).nth(2).is_some_and(|line| line.first() == Some(&b'V'))
+}
+
+/// The line of the 201st event.
+fn last_line(paper: &[u8]) -> usize {
+    if has_v_line(paper) {
+        LAST_LINE_BEHIND_V
+    } else {
+        LAST_LINE
+    }
+}
+
 /// The listing of the short course, from that of the full one: the same, but for 25.
 pub fn from_full(paper: &[u8], full: &str) -> String {
+    let last = last_line(paper);
     match refused(full) {
         Some((_, 1..=3)) => full.into(),
         _ if over(paper) => lines(OVER_HEAD),
-        Some((line, _)) if line < LAST_LINE => full.into(),
-        Some((LAST_LINE, 4)) => full.into(),
-        _ if paper.iter().filter(|&&b| b == 10).count() <= LAST_LINE => full.into(),
-        _ => lines(OVER_EVENTS),
+        Some((line, _)) if line < last => full.into(),
+        Some((line, 4)) if line == last => full.into(),
+        _ if paper.iter().filter(|&&b| b == 10).count() <= last => full.into(),
+        _ => format!("refused {last} 25\n"),
     }
 }
 
@@ -322,7 +339,7 @@ fn is_over_head(short: &str) -> bool {
 }
 
 fn is_over_events(short: &str) -> bool {
-    short.trim_end() == OVER_EVENTS
+    [OVER_EVENTS, OVER_EVENTS_BEHIND_V].contains(&short.trim_end())
 }
 
 /// The listing of an accepted paper of 200 events whose last line begins and ends so.
@@ -331,28 +348,42 @@ fn ends(short: &str, begin: &str, end: &str) -> bool {
     short.starts_with("accepted 200\n") && last.starts_with(begin) && last.ends_with(end)
 }
 
-pub const SITUATIONS: [Situation; 17] = [
+pub const SITUATIONS: [Situation; 25] = [
     ("25 at the head, accepted in the full course", |_, full, short| is_over_head(short) && refused(full).is_none()),
     ("25 at the head, 6 in the full course", |_, full, short| is_over_head(short) && refused(full) == Some((2, 6))),
+    ("25 at the head, 6 at line 3 in the full course", |_, full, short| is_over_head(short) && refused(full) == Some((3, 6))),
     ("25 at the head, an event refused in the full course", |_, full, short| {
-        is_over_head(short) && refused(full).is_some_and(|(line, _)| line > 2)
+        is_over_head(short) && refused(full).is_some_and(|(line, number)| line > 2 && number != 6)
     }),
     ("3", |_, _, short| refused(short) == Some((1, 3))),
     ("6", |_, _, short| refused(short) == Some((2, 6))),
+    ("6 at line 3", |_, _, short| refused(short) == Some((3, 6))),
     ("25 at event 201, accepted in the full course", |_, full, short| is_over_events(short) && refused(full).is_none()),
-    ("25 at event 201, undeclared", |_, full, short| is_over_events(short) && refused(full) == Some((203, 5))),
-    ("25 at event 201, which breaks a row", |_, full, short| {
-        is_over_events(short) && refused(full).is_some_and(|(line, number)| line == 203 && number > 9)
+    ("25 at event 201 behind a V line, accepted in the full course", |_, full, short| {
+        short.trim_end() == OVER_EVENTS_BEHIND_V && refused(full).is_none()
     }),
-    ("25 at event 201, a later line refused in the full course", |_, full, short| {
-        is_over_events(short) && refused(full).is_some_and(|(line, _)| line > 203)
+    ("25 at event 201, undeclared", |paper, full, short| is_over_events(short) && refused(full) == Some((last_line(paper), 5))),
+    ("25 at event 201, which breaks a row", |paper, full, short| {
+        is_over_events(short) && refused(full).is_some_and(|(line, number)| line == last_line(paper) && number > 9)
     }),
-    ("4 at line 203", |_, _, short| refused(short) == Some((203, 4))),
-    ("event 200 refused", |_, _, short| refused(short).is_some_and(|(line, _)| line == 202)),
+    ("25 at event 201, which breaks 26, 27 or 28", |paper, full, short| {
+        is_over_events(short) && refused(full).is_some_and(|(line, number)| line == last_line(paper) && number > 25)
+    }),
+    ("25 at event 201, a later line refused in the full course", |paper, full, short| {
+        is_over_events(short) && refused(full).is_some_and(|(line, _)| line > last_line(paper))
+    }),
+    ("4 at line 203", |_, _, short| refused(short) == Some((LAST_LINE, 4))),
+    ("4 at line 204", |_, _, short| refused(short) == Some((LAST_LINE_BEHIND_V, 4))),
+    ("event 200 refused", |paper, _, short| refused(short).is_some_and(|(line, _)| line + 1 == last_line(paper))),
     ("199 events accepted", |_, _, short| short.starts_with("accepted 199\n")),
     ("200 events with an order", |_, _, short| ends(short, "section ", "")),
+    ("200 events behind a V line with an order", |paper, _, short| has_v_line(paper) && ends(short, "section ", "")),
     ("200 events without guards", |paper, _, short| ends(short, "", "") && paper.windows(5).any(|line| line == b"\nG -\n")),
+    ("200 events behind a V line without guards", |paper, _, short| {
+        has_v_line(paper) && ends(short, "", "") && paper.windows(5).any(|line| line == b"\nG -\n")
+    }),
     ("200 events, 20", |_, _, short| ends(short, "unordered ", " 20")),
     ("200 events, 21", |_, _, short| ends(short, "unordered ", " 21")),
     ("200 events, 22", |_, _, short| ends(short, "unordered 203 22", "")),
+    ("200 events behind a V line, 22", |_, _, short| ends(short, "unordered 204 22", "")),
 ];

@@ -17,6 +17,7 @@ pub fn shrink(paper: &[u8], bad: Bad) -> Vec<u8> {
         let before = best.clone();
         best = fewer_lines(&best, bad);
         best = smaller_numbers(&best, bad);
+        best = fewer_volatiles(&best, bad);
         best = smaller_head(&best, bad);
         best = fewer_bytes(&best, bad);
         if best == before {
@@ -98,13 +99,17 @@ fn joined(fields: &[Vec<u8>]) -> Vec<u8> {
     [fields.join(&b' '), b"\n".to_vec()].concat()
 }
 
+/// Whether a line with this first field is the head, a `G` line or a `V` line.
+fn is_frame(first: &[u8]) -> bool {
+    matches!(first, b"H" | b"G" | b"V")
+}
+
 /// Makes a thread, variable, lock or value another one, in all event lines at once.
 fn smaller_numbers(paper: &[u8], bad: Bad) -> Vec<u8> {
     let mut lines = Lines::of(paper);
     // a lock stands in the second field of a line of three, a variable in that of a line of four
     for (count, field) in [(0, 1), (3, 2), (4, 2), (4, 3)] {
-        let fits =
-            |f: &[Vec<u8>]| f.len() > field && f.len() >= 3 && (count == 0 || f.len() == count) && f[0] != b"H" && f[0] != b"G";
+        let fits = |f: &[Vec<u8>]| f.len() > field && f.len() >= 3 && (count == 0 || f.len() == count) && !is_frame(&f[0]);
         let mut used: Vec<Vec<u8>> =
             lines.list.iter().map(|line| fields(line)).filter(|f| fits(f)).map(|f| f[field].clone()).collect();
         used.sort();
@@ -136,7 +141,33 @@ fn smaller_numbers(paper: &[u8], bad: Bad) -> Vec<u8> {
     lines.paper()
 }
 
-/// Declares fewer threads, variables (with their guards) and locks; takes away the guards.
+/// Takes away numbers of the `V` line.
+fn fewer_volatiles(paper: &[u8], bad: Bad) -> Vec<u8> {
+    let mut lines = Lines::of(paper);
+    let mut at = 1;
+    while let Some(mut volatiles) = lines.list.get(2).map(|line| fields(line)).filter(|f| f[0] == b"V" && at < f.len()) {
+        volatiles.remove(at);
+        let mut other = lines.list.clone();
+        other[2] = joined(&volatiles);
+        if !lines.try_other(other, bad) {
+            at += 1;
+        }
+    }
+    lines.paper()
+}
+
+/// The `V` line without this number, where it is the last and not the only one; any other line as it is.
+fn without_volatile(line: &[u8], number: usize) -> Vec<u8> {
+    let mut volatiles = fields(line);
+    let last = volatiles.last() == Some(&number.to_string().into_bytes());
+    if volatiles[0] == b"V" && volatiles.len() > 2 && last {
+        volatiles.pop();
+        return joined(&volatiles);
+    }
+    line.to_vec()
+}
+
+/// Declares fewer threads, variables (with their guards, and not volatile) and locks; takes away the guards.
 fn smaller_head(paper: &[u8], bad: Bad) -> Vec<u8> {
     let mut lines = Lines::of(paper);
     for field in 1..=3 {
@@ -155,6 +186,9 @@ fn smaller_head(paper: &[u8], bad: Bad) -> Vec<u8> {
             let mut other = lines.list.clone();
             other[0] = joined(&h);
             other[1] = joined(&g);
+            if field == 2 && other.len() > 2 {
+                other[2] = without_volatile(&other[2], n - 1);
+            }
             if !lines.try_other(other, bad) {
                 break;
             }

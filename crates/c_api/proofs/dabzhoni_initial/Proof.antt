@@ -1,5 +1,5 @@
--- `c_api::dabzhoni_initial` meets its contract: a walk of its MIR, by hand. The borrow is opened, the state that `state::initial` returns is stored whole, and the borrow is closed at it.
--- All that the walk knows of `initial` is its contract. Assumes nothing.
+-- `c_api::dabzhoni_initial` meets its contract: a walk of its MIR, by hand. The borrow is opened, the state that `initial_numbers` returns is stored whole, and the borrow is closed at it.
+-- All that the walk knows of `initial_numbers` is its contract. Assumes nothing.
 use mathlib.Core.Path.{_≡_, refl, ap}
 use Prim.Native.Nat.{ℕ, _<_, _^_}
 use mathlib.Core.List.{[], _∷_, List}
@@ -17,7 +17,6 @@ use contract.Monad.{Fun, fact}
 use contract.Running.{givenOf, tables, tablesOf}
 use types.Kit.{Given, ‵, raw, some, later, _⊛_, _$_, _∵_, !, qed, by, move, keep, drop, use0, use1, split, join, pick, await, fsplit, fsplit3, fjoin, fjoin3, feqI, rewrite, suffices, frame, done}
 use types.Run.{look, init, store-raw, forget, stop, hop, from, load, unit-lit, of-opd, and-then, no-more, land, assigns, returns, enter, alloc1, alloc0, params1, pass1, pass0, free1, free0}
-use types.Part.{agg}
 use types.SemTy.{Body}
 use sound.WpLaws.{FmC, fmOf, WpFn-mono}
 use denote.RattleType.{owns}
@@ -38,17 +37,14 @@ use denote.Triple.Spec.{Meets, tripleOf}
 use denote.Triple.Table.{entered, cited}
 use denote.Triple.Walked.{says, Stays, stay-ref, stay-none, walkOf, AllGo, goes-none, goes-ref, Walks, ends-at, walked, walk-meets}
 use denote.Exit.{yes}
-use Rattle.rules.specs.declared.Counts.{Counts}
-use Rattle.rules.proofs.Counts as N
-use Rattle.rules.proofs.Counts.Laws as N′
 use Rattle.state.specs.declared.State.{State}
-use Rattle.state.specs.State.{start}
 use Rattle.state.proofs.State as T
 use Rattle.state.proofs.State.Laws as T′
-use Rattle.state.proofs.initial as initial
-use Rattle.state.proofs.initial.Symbol as initial-def
-use Rattle.state.proofs.initial.Symbol.{name as #initial}
-use Rattle.state.proofs.initial.Met as initial-thm
+use Rattle.c_api.specs.Replies.{initialOf}
+use Rattle.c_api.proofs.initial_numbers as initial
+use Rattle.c_api.proofs.initial_numbers.Symbol as initial-def
+use Rattle.c_api.proofs.initial_numbers.Symbol.{name as #initial}
+use Rattle.c_api.proofs.initial_numbers.Met as initial-thm
 use Rattle.c_api.proofs.dabzhoni_initial.Key.{name as #begin}
 use Rattle.c_api.proofs.dabzhoni_initial as begin
 use Rattle.c_api.proofs.dabzhoni_initial.Statement as stated
@@ -65,8 +61,8 @@ module _ {M : Type 1} (𝓤 : URA M) (H : Heap 𝓤) (A : Atoms 𝓤) (at-mem : 
   abbrev Initial : Contract 𝓤
   Initial = tripleOf 𝓤 H A initial.signature (initial.spec 𝓤 H A at-mem run)
 
-  begun-of : (n : Counts) (r : State) → ent 𝓤 (ensured 𝓤 H A initial.ended (initial.clauses 𝓤 H A at-mem run) tt (n, tt) tt r) (fact 𝓤 (r ≡ start n))
-  begun-of n r = exE 𝓤 _ (λ ws. snd∗ 𝓤 (sem 𝓤 H A (lasts initial.ended tt (n, tt) ws)) (fact 𝓤 (r ≡ start n)))
+  begun-of : (t v l : ℕ) (r : State) → ent 𝓤 (ensured 𝓤 H A initial.ended (initial.clauses 𝓤 H A at-mem run) tt (t, (v, (l, tt))) tt r) (fact 𝓤 (r ≡ initialOf t v l))
+  begun-of t v l r = exE 𝓤 _ (λ ws. snd∗ 𝓤 (sem 𝓤 H A (lasts initial.ended tt (t, (v, (l, tt))) ws)) (fact 𝓤 (r ≡ initialOf t v l)))
 
 module _ {M : Type 1} (𝓤 : URA M) (H : Heap 𝓤) (A : Atoms 𝓤) (W : Given 𝓤 H A) (at-mem : Memory → SProp 𝓤) (run : Routine → Fun 𝓤) (κ : Lft) (q : Share) (b o : ℕ) (γ : GName) (h : State) (t v l : ℕ) (t-fits : t < 2 ^ 64) (v-fits : v < 2 ^ 64) (l-fits : l < 2 ^ 64) where
   abbrev a : Arg
@@ -78,16 +74,10 @@ module _ {M : Type 1} (𝓤 : URA M) (H : Heap 𝓤) (A : Atoms 𝓤) (W : Given
   abbrev vals : State → List Val
   vals = LL.vals T.the-type T′.the-laws
 
-  abbrev n : Counts
-  n = record { threads = t; variables = v; locks = l }
-
-  counts-are : Is N.the-row n (LL.vals N.the-type N′.the-laws n)
-  counts-are = LL.owes N.the-type N′.the-laws n ((refl, t-fits), ((refl, v-fits), ((refl, l-fits), tt)))
-
   abbrev Post : Val → SProp 𝓤
   Post = walkOf 𝓤 H A begin.ended stayed (begin.clauses 𝓤 H A at-mem run) .post (((κ, tt), (q, tt), tt, a, at), tt)
 
-  exits : (r : State) → r ≡ start n → ent 𝓤 (sep 𝓤 (A .obs γ (T.the-row .coded .code r)) (sep 𝓤 (A .bor κ (Body (mem T.the-row) b o γ)) (A .lft κ q))) (Post vunit)
+  exits : (r : State) → r ≡ initialOf t v l → ent 𝓤 (sep 𝓤 (A .obs γ (T.the-row .coded .code r)) (sep 𝓤 (A .bor κ (Body (mem T.the-row) b o γ)) (A .lft κ q))) (Post vunit)
   exits r e =
       qed W (‵ (fobs γ (T.the-row .coded .code r)) ∷ ‵ (fbor κ (Body (mem T.the-row) b o γ)) ∷ ‵ (flft κ q) ∷ []) ∵
       suffices ! _ (ends-at 𝓤 H A begin.ended stayed (begin.clauses 𝓤 H A at-mem run) W (((κ, tt), (q, tt), tt, a, at), tt) vunit tt (r, (tt, (tt, (tt, tt)))) (tt, (tt, (tt, (tt, tt))))) $ says ! e $
@@ -98,10 +88,12 @@ module _ {M : Type 1} (𝓤 : URA M) (H : Heap 𝓤) (A : Atoms 𝓤) (W : Given
 
   -- what `initial`'s triple binds outside, and what it asks, which is had for nothing
   abbrev to-initial : Initial 𝓤 H A at-mem run .Ghost
-  to-initial = ((tt, tt, tt, (n, tt), (LL.vals N.the-type N′.the-laws n, tt)), tt)
+  to-initial = ((tt, tt, tt, (t, (v, (l, tt))), (vint w64 t ∷ [], (vint w64 v ∷ [], (vint w64 l ∷ [], tt)))), tt)
 
   goes : ent 𝓤 (emp 𝓤) (Initial 𝓤 H A at-mem run .pre to-initial)
-  goes = qed W [] ∵ nothing ! $ owned ! N.the-row (Is N.the-row) (LL.makes N.the-type N′.the-plain 𝓤 H A) n _ counts-are $ fjoin ! $ nothing ! $ join ! $ frame ! $ done !
+  goes =
+      qed W [] ∵ nothing ! $ owned ! usize (Is usize) (uint-makes 𝓤 H A W w64) l _ (refl, l-fits) $ fjoin ! $ owned ! usize (Is usize) (uint-makes 𝓤 H A W w64) v _ (refl, v-fits) $ fjoin ! $
+      owned ! usize (Is usize) (uint-makes 𝓤 H A W w64) t _ (refl, t-fits) $ fjoin ! $ nothing ! $ join ! $ frame ! $ done !
 
   state-is : (r : State) (u : Val) → Is T.the-row r (u ∷ []) → Is T.the-row r (vals r)
   state-is r u is = LL.owes T.the-type T′.the-laws r (LL.owed T.the-type T′.the-laws r (u ∷ []) is)
@@ -112,25 +104,24 @@ module _ {M : Type 1} (𝓤 : URA M) (H : Heap 𝓤) (A : Atoms 𝓤) (W : Given
         qed W ((‵ (flft κ q) ⊛ ‵ ftrue) ∷ ‵ (owns (MutRef (named 0) κ T.the-row ∷ usize ∷ usize ∷ usize ∷ []) a at) ∷ []) ∵ split ! $ move ! (2 ∷ []) $ fsplit ! $ fsplit3 ! $ drop ! $ move ! (0 ∷ 1 ∷ 3 ∷ []) $
         -- [obs; the borrow; the token; the others'; true]
         enter ! C Λ code.function (vptr b o ∷ vint w64 t ∷ vint w64 v ∷ vint w64 l ∷ []) _ $
-        alloc1 ! (λ l₀. alloc1 ! (λ l₁. alloc1 ! (λ l₂. alloc1 ! (λ l₃. alloc1 ! (λ l₄. alloc1 ! (λ l₅. alloc1 ! (λ l₆. alloc0 ! $ params1 ! $
-        pass1 ! (init ! 10 refl (tt, tt)) $ pass1 ! (init ! 8 refl (tt, record { fits = t-fits })) $ pass1 ! (init ! 6 refl (tt, record { fits = v-fits })) $ pass1 ! (init ! 4 refl (tt, record { fits = l-fits })) $ pass0 ! $
-        move ! (14 ∷ 15 ∷ 16 ∷ []) $ opens ! tt T.the-row {h = h} b o (λ vs. spelt ! T.the-row (Is T.the-row) (shows 𝓤 H A T.the-row) vals (LL.tells T.the-type T′.the-laws) fullShare h vs b o $
-        -- [the state's cell; what it owns; the open borrow; obs; auth; _6; …; _1; …; room for _0; …]
-        assigns ! (agg ! (and-then ! (load ! (from ! (stop !)) (look ! 13 refl)) (and-then ! (load ! (from ! (stop !)) (look ! 11 refl)) (and-then ! (load ! (from ! (stop !)) (look ! 9 refl)) (no-more !))))) (from ! (stop !)) (init ! 7 refl (LL.lawful N.the-type N′.the-laws 𝓤 H A W .typed n _ counts-are .0)) $
+        alloc1 ! (λ l₀. alloc1 ! (λ l₁. alloc1 ! (λ l₂. alloc1 ! (λ l₃. alloc1 ! (λ l₄. alloc1 ! (λ l₅. alloc0 ! $ params1 ! $
+        pass1 ! (init ! 8 refl (tt, tt)) $ pass1 ! (init ! 6 refl (tt, record { fits = t-fits })) $ pass1 ! (init ! 4 refl (tt, record { fits = v-fits })) $ pass1 ! (init ! 2 refl (tt, record { fits = l-fits })) $ pass0 ! $
+        move ! (12 ∷ 13 ∷ 14 ∷ []) $ opens ! tt T.the-row {h = h} b o (λ vs. spelt ! T.the-row (Is T.the-row) (shows 𝓤 H A T.the-row) vals (LL.tells T.the-type T′.the-laws) fullShare h vs b o $
+        -- [the state's cell; what it owns; the open borrow; obs; auth; _5; …; _1; …; room for _0; …]
         use0 W (raw (Initial 𝓤 H A at-mem run .pre to-initial)) goes $
-        calls-at ! fm (Initial 𝓤 H A at-mem run) known to-initial (and-then ! (load ! (from ! (stop !)) (look ! 8 refl)) (no-more !)) (λ u.
-        use1 W (later (some (λ (r : State). (‵ ftrue ⊛ ‵ (T.the-row .own r (u ∷ []))) ⊛ raw (ensured 𝓤 H A initial.ended (initial.clauses 𝓤 H A at-mem run) tt (n, tt) tt r)))) (id⊢ 𝓤 _) $ await ! tt $ pick ! (λ r.
-        split ! $ move ! (1 ∷ []) $ use1 W (raw (fact 𝓤 (r ≡ start n))) (begun-of 𝓤 H A at-mem run n r) $ heard ! (r ≡ start n) (λ e. split ! $ drop ! $
+        calls-at ! fm (Initial 𝓤 H A at-mem run) known to-initial (and-then ! (load ! (from ! (stop !)) (look ! 12 refl)) (and-then ! (load ! (from ! (stop !)) (look ! 10 refl)) (and-then ! (load ! (from ! (stop !)) (look ! 8 refl)) (no-more !)))) (λ u.
+        use1 W (later (some (λ (r : State). (‵ ftrue ⊛ ‵ (T.the-row .own r (u ∷ []))) ⊛ raw (ensured 𝓤 H A initial.ended (initial.clauses 𝓤 H A at-mem run) tt (t, (v, (l, tt))) tt r)))) (id⊢ 𝓤 _) $ await ! tt $ pick ! (λ r.
+        split ! $ move ! (1 ∷ []) $ use1 W (raw (fact 𝓤 (r ≡ initialOf t v l))) (begun-of 𝓤 H A at-mem run t v l r) $ heard ! (r ≡ initialOf t v l) (λ e. split ! $ drop ! $
         peeks ! T.the-row (Is T.the-row) (shows 𝓤 H A T.the-row) r (u ∷ []) (λ is.
         land ! (from ! (stop !)) (init ! 6 refl (LL.lawful T.the-type T′.the-laws 𝓤 H A W .typed r _ is .0)) $
-        rewrite ! 6 (λ (w : Val). ‵ (fat fullShare T′.mir l₆ 0 w)) (ap only (LL.tells T.the-type T′.the-laws r (u ∷ []) is)) refl $ drop ! $
-        assigns ! (of-opd ! (load ! (from ! (stop !)) (look ! 5 refl))) (from ! (hop ! (look ! 15 refl) (stop !))) (store-raw ! 0 refl (LL.lawful T.the-type T′.the-laws 𝓤 H A W .typed r _ (state-is r u is) .0)) $
-        assigns ! (of-opd ! (unit-lit !)) (from ! (stop !)) (init ! 17 refl (tt, tt)) $
+        rewrite ! 6 (λ (w : Val). ‵ (fat fullShare T′.mir l₅ 0 w)) (ap only (LL.tells T.the-type T′.the-laws r (u ∷ []) is)) refl $ drop ! $
+        assigns ! (of-opd ! (load ! (from ! (stop !)) (look ! 5 refl))) (from ! (hop ! (look ! 13 refl) (stop !))) (store-raw ! 0 refl (LL.lawful T.the-type T′.the-laws 𝓤 H A W .typed r _ (state-is r u is) .0)) $
+        assigns ! (of-opd ! (unit-lit !)) (from ! (stop !)) (init ! 15 refl (tt, tt)) $
         move ! (1 ∷ []) $ drop ! $ owned ! T.the-row (Is T.the-row) (LL.makes T.the-type T′.the-plain 𝓤 H A) r _ (state-is r u is) $ move ! (1 ∷ 0 ∷ []) $ closes ! tt T.the-row r (vals r) b o $
-        -- [obs; the borrow; the token; _6; …; _0; …]
-        returns ! (look ! 15 refl) $ forget ! 3 refl $ forget ! 5 refl $ forget ! 7 refl $ forget ! 9 refl $ forget ! 11 refl $ forget ! 13 refl $ forget ! 15 refl $
-        move ! (15 ∷ 16 ∷ []) $ free1 ! $ move ! (13 ∷ 14 ∷ []) $ free1 ! $ move ! (11 ∷ 12 ∷ []) $ free1 ! $ move ! (9 ∷ 10 ∷ []) $ free1 ! $ move ! (7 ∷ 8 ∷ []) $ free1 ! $ move ! (5 ∷ 6 ∷ []) $ free1 ! $ move ! (3 ∷ 4 ∷ []) $ free1 ! $ free0 ! $
-        keep ! (0 ∷ 1 ∷ 2 ∷ []) $ by ! (exits r e)))))))))))))
+        -- [obs; the borrow; the token; _5; …; _0; …]
+        returns ! (look ! 13 refl) $ forget ! 3 refl $ forget ! 5 refl $ forget ! 7 refl $ forget ! 9 refl $ forget ! 11 refl $ forget ! 13 refl $
+        move ! (13 ∷ 14 ∷ []) $ free1 ! $ move ! (11 ∷ 12 ∷ []) $ free1 ! $ move ! (9 ∷ 10 ∷ []) $ free1 ! $ move ! (7 ∷ 8 ∷ []) $ free1 ! $ move ! (5 ∷ 6 ∷ []) $ free1 ! $ move ! (3 ∷ 4 ∷ []) $ free1 ! $ free0 ! $
+        keep ! (0 ∷ 1 ∷ 2 ∷ []) $ by ! (exits r e))))))))))))
 
 module _ {M : Type 1} (𝓤 : URA M) (H : Heap 𝓤) (A : Atoms 𝓤) (W : Given 𝓤 H A) (at-mem : Memory → SProp 𝓤) (run : Routine → Fun 𝓤) where
   begin-walks : (C : Calls 𝓤 H) (Λ : Loops 𝓤 H) → FmC 𝓤 H (W .laws) C → Triple 𝓤 (C #initial) (Initial 𝓤 H A at-mem run) → Walks 𝓤 H A begin.ended stayed (WpFn 𝓤 H C Λ code.function) (begin.clauses 𝓤 H A at-mem run)
@@ -154,4 +145,4 @@ dabzhoni-initial-spec 𝓤 H 𝓜 𝓖 𝓡 =
     entered 𝓤 H (tripleOf 𝓤 H (𝓖 .A) begin.signature (begin.spec 𝓤 H (𝓖 .A) (𝓜 .mem) (𝓡 .run)))
     (tables 𝓤 H 𝓜 𝓡 code.env .C) (tables 𝓤 H 𝓜 𝓡 code.env .Λ) #begin code.function (code.unfolded 𝓤 H 𝓜 𝓡)
     (begin-meets 𝓤 H (𝓖 .A) (givenOf 𝓤 H 𝓜 𝓖) (𝓜 .mem) (𝓡 .run) (tablesOf 𝓤 H 𝓜 (tables 𝓤 H 𝓜 𝓡 code.env))
-    (cited 𝓤 H (Initial 𝓤 H (𝓖 .A) (𝓜 .mem) (𝓡 .run)) 𝓜 𝓡 code.env #initial initial-def.routine code.calls-state·initial (initial-thm.met 𝓤 H 𝓜 𝓖 𝓡)))
+    (cited 𝓤 H (Initial 𝓤 H (𝓖 .A) (𝓜 .mem) (𝓡 .run)) 𝓜 𝓡 code.env #initial initial-def.routine code.calls-c-api·initial-numbers (initial-thm.met 𝓤 H 𝓜 𝓖 𝓡)))

@@ -2,7 +2,7 @@
 use mir.ValLaws.{toZ-ofZ}
 use Rattle.rules.specs.Limits.{valueWidth}
 use Rattle.state.specs.Step.{nextCell}
-use Rattle.judging.specs.Computed.Turns.{useRule, cellTurn}
+use Rattle.judging.specs.Computed.Turns.{afterUse, useRule, cellTurn}
 use Rattle.state.proofs.Letters.{not-letter}
 use borrow.Author.Needs.{needs}
 use mathlib.Core.Path.{refl}
@@ -13,6 +13,9 @@ use Rattle.judging.proofs.cell_turn.Tie as tie
 
 use-rule-requires : tie.Need-use-rule-requires
 use-rule-requires c κs = search needs
+
+used-requires : tie.Need-used-requires
+used-requires c κs = search needs
 
 assign-checks-requires : tie.Need-assign-checks-requires
 assign-checks-requires c κs = search needs
@@ -39,8 +42,8 @@ prescient-assigned-requires : tie.Need-prescient-assigned-requires
 prescient-assigned-requires c κs = search needs
 
 returns : tie.Need-returns
-unfolding useRule cellTurn nextCell rowOf table rows rowIn
-returns c = rw (c .use-rule .ensures, c .before .if1 .taken, toZ-ofZ valueWidth (c .before .before .args .x) (c .before .before .fits .x)) refl
+unfolding useRule afterUse cellTurn nextCell rowOf table rows rowIn
+returns c = rw (c .used .ensures, c .before .use-rule .ensures, c .before .before .if1 .taken, toZ-ofZ valueWidth (c .before .before .before .args .x) (c .before .before .before .fits .x)) refl
 
 returns-2 : tie.Need-returns-2
 unfolding useRule cellTurn nextCell rowOf table rows rowIn
@@ -59,6 +62,7 @@ cell-turn-spec =
     tie.close
     (tie.spec
     use-rule-requires
+    used-requires
     assign-checks-requires
     row-at-requires
     first-of-requires

@@ -72,9 +72,9 @@ prescientStoreChecks c = five (c .pending) (leb most (c .stores .len)) (not (eqb
 abbrev pub prescientAssignChecks : Cell → ℤ → Checks
 prescientAssignChecks c x = five (not (c .pending)) (not (eqZ x (c .announced))) false false false
 
--- a row with zeros up to five
+-- a row with zeros up to eight
 abbrev pub filled : List ℕ → List ℕ
-filled ns = ns ++ replicate (5 - length ns) 0
+filled ns = ns ++ replicate (8 - length ns) 0
 
 -- the row of a letter, and the table of all rows
 unfoldable pub rowOf : ℕ → List ℕ
@@ -83,7 +83,7 @@ rowOf k = filled (rowIn rows k)
 unfoldable pub table : List (List ℕ)
 table = map (λ r. filled (r .checks)) rows
 
--- the rule of a row at its first broken check, 0 where none is
+-- the rule of a row at its first broken check, the three that lead it left aside; 0 where none is
 abbrev pub firstOf : Checks → List ℕ → ℕ
 firstOf b row =
-    cond (b .first) (getD row 0 0) (cond (b .second) (getD row 1 0) (cond (b .third) (getD row 2 0) (cond (b .fourth) (getD row 3 0) (cond (b .fifth) (getD row 4 0) 0))))
+    cond (b .first) (getD row 3 0) (cond (b .second) (getD row 4 0) (cond (b .third) (getD row 5 0) (cond (b .fourth) (getD row 6 0) (cond (b .fifth) (getD row 7 0) 0))))

@@ -1,10 +1,10 @@
 -- What a turn answers: the first broken check of the letter's row, and the parts as the event leaves them. A letter that is none of a
 -- turn's breaks nothing there and leaves everything.
 use Prim.Native.Nat.{ℕ}
-use mathlib.Core.Bool.{Bool, cond, _&&_}
+use mathlib.Core.Bool.{Bool, cond, _&&_, not}
 use mathlib.Core.List.{List, [], _∷_}
 use lib.Dec.{eqb, ltb}
-use lib.IntN.{ℤ}
+use lib.IntN.{ℤ, pos}
 use lib.ListN.{getD}
 use Rattle.rules.specs.declared.Slot.{Slot}
 use Rattle.rules.specs.Events.{A, B, K, L, N, P, R, S, U, W, among}
@@ -33,6 +33,14 @@ cellOn ks p r k x c = cond (among ks k) (nextCell p r k x c) c
 unfoldable pub holdFor : Hold → ℕ → ℕ → Hold
 holdFor a t k = cond (ltb t 8 && ltb (a .depth) 2000) (holdAfter a t k) a
 
+-- a cell after U, wherever it stands and whatever its value
+unfoldable pub afterUse : Cell → Cell
+afterUse c = nextCell 0 noSlot U (pos 0) c
+
+-- U leaves it as it is: the latest of its thread's own events is neither L nor A, and the read of its latest load is that of its latest use
+unfoldable pub isUsed : Cell → Bool
+isUsed c = not (c .«after_load») && not (c .«after_assign») && eqb (c .used) (c .loaded)
+
 -- U; q is the position of the thread's last lock
 unfoldable pub useRule : Cell → ℕ → ℤ → ℕ
 useRule c q x = firstOf (useChecks c q x) (rowOf U)
@@ -41,7 +49,7 @@ useRule c q x = firstOf (useChecks c q x) (rowOf U)
 unfoldable pub cellTurn : Cell → ℕ → ℕ → ℤ → ℕ → CellTurn
 cellTurn c q k x p = record {
   rule = firstOf (cond (eqb U k) (useChecks c q x) (cond (eqb A k) (assignChecks c) (cond (eqb B k) (prescientAssignChecks c x) noChecks))) (rowOf k);
-  cell = cellOn (A ∷ B ∷ []) p noSlot k x c;
+  cell = cellOn (U ∷ A ∷ B ∷ []) p noSlot k x c;
 }
 
 -- R, L; r is the oldest outstanding read, b stands behind the last
@@ -61,7 +69,7 @@ unfoldable pub storesWith : Cell → Slot → Slot → Main → ℕ → ℕ → 
 storesWith c r b m q k x p = record {
   rule = firstOf (cond (eqb W k) (writeChecks c r x) (cond (eqb S k) (storeChecks c q x) (cond (eqb P k) (prescientStoreChecks c) noChecks))) (rowOf k);
   cell = cellOn (W ∷ S ∷ P ∷ []) p noSlot k x c;
-  slot = storeAfter b k x p;
+  slot = storeAfter b k x (c .assigned) p;
   main = mainAfter m k x;
 }
 

@@ -1,94 +1,169 @@
 -- `machine::run` meets its contract: `Running` holds at each record. Assumes nothing.
 use Prim.Native.Nat.{ℕ, _-_, _<_}
 use native.Mathlib.Omega.{arith}
-use mathlib.Core.Path.{_≡_, refl, sym, ap, _∙_}
+use mathlib.Core.Path.{_≡_, refl, sym, ap, _∙_, subst}
+use mathlib.Core.Logic.{⊎-elim}
 use mathlib.Core.Bool.{true, false}
+use mathlib.Core.List.{[], _∷_}
+use lib.Dec.{T, eqb}
 use borrow.Author.Needs.{needs}
 use borrow.Author.Tests.{not-true, not-false}
-use lib.IntN.{pos}
+use lib.IntN.{ℤ, pos}
 use mir.Val.{ofZ, toZ}
 use mir.ValLaws.{toZ-ofZ}
 use lib.ListN.{length, getD}
 use denote.Ref.{now}
-use Rattle.rules.specs.Events.{isLetter, isLockLetter}
-use Rattle.rules.specs.Limits.{valueWidth}
-use Rattle.rules.specs.Memories.{noMemories}
+use Rattle.rules.specs.Events.{K, N, U, R, L, among, isLetter, isLockLetter}
+use Rattle.rules.specs.declared.Counts.{Counts}
+use Rattle.rules.specs.Limits.{valueWidth, volatile, lineAfter}
 use Rattle.rules.specs.Rules.{refused, said}
+use Rattle.rules.specs.Memories.{noMemories}
+use Rattle.rules.proofs.Laws.{or-right}
+use Rattle.state.specs.declared.State.{State}
+use Rattle.state.specs.State.{blank, wordsIn}
+use Rattle.state.specs.Computed.Places.{cellPlace}
+use Rattle.judging.specs.Computed.Leads.{leadWith, leadAt}
 use Rattle.machine.specs.declared.Outcome.{Outcome}
 use Rattle.machine.specs.Computed.Walk.{outcomeOf}
-use Rattle.machine.proofs.Copies.{memories-in}
-use Rattle.machine.proofs.OneStep.{shallow}
-use Rattle.machine.proofs.Tallies.{some-is, small, tallied-at, tallied-reads, tallied-same}
-use Rattle.judging.proofs.Turned.{use-rule, use-put, cell-rule, cell-put, reads-rule, reads-next, reads-put, stores-rule, stores-put, lock-rule, lock-put}
-use Rattle.machine.proofs.Running.{Running, running-start, running-end, Turn, turn-none, turn-limit, turn-thread, turn-place, numbers, numbers-valued, Known, known, turn-broken, turn-more, lock-arm, reads-arm, stores-arm, cell-arm}
+use Rattle.machine.proofs.Copies.{memories-of, memories-in}
+use Rattle.machine.proofs.OneStep.{shallow, lock-among}
+use Rattle.machine.proofs.Tallies.{some-is, small, tallied-at, tallied-kept-at, tallied-same}
+use Rattle.judging.proofs.Rows.{leading, led, unled, unled-lock}
+use Rattle.judging.proofs.Leads.{lead-by, lead-found, lead-none}
+use Rattle.judging.proofs.Turned.{By, use-rule, use-next, use-put, use-kept, cell-rule, cell-put, reads-rule, reads-next, reads-put, stores-rule, stores-put, lock-rule, lock-put}
+use Rattle.machine.proofs.Running.{Running, running-start, running-end, Turn, turn-none, turn-limit, turn-thread, turn-place, here, numbers, numbers-valued, Known, known, turn-broken, turn-more, lock-arm, use-arm, reads-arm, stores-arm, cell-arm}
 use Rattle.machine.proofs.run.Statement.{statement}
 use Rattle.machine.proofs.run.Tie as tie
 
 abbrev Inv-loop : tie.InvT-loop
-Inv-loop what value s₀ tallies₀ i₀ s tallies i = Running s₀ what value s tallies i
+Inv-loop what value flags s₀ tallies₀ i₀ s tallies i = Running s₀ what value s tallies i
 
 abbrev μ-loop : tie.MeasureT-loop
-μ-loop what value s₀ tallies₀ i₀ s tallies i = length what - i
-
--- a refusal
-abbrev stopped : ℕ → ℕ → Outcome
-stopped number line = record { verdict = said (refused number line); memories = noMemories }
+μ-loop what value flags s₀ tallies₀ i₀ s tallies i = length what - i
 
 -- ---- the places that the answers go back to
 
-abbrev Line : Type 0
-Line = tie.After-line-after Inv-loop μ-loop
+-- the record at i
+abbrev Head : Type 0
+Head = tie.After-h Inv-loop μ-loop
 
--- the record at i, taken apart
-turn : (c : Line) → Turn (c .before .before .before .before .before .before .before .before .before .before .args .start) (now (c .before .before .before .before .before .before .before .before .before .before .args .what)) (now (c .before .before .before .before .before .before .before .before .before .before .args .value)) (c .before .before .before .before .before .before .before .before .loop .s) (c .before .before .before .before .before .before .before .before .loop .tallies) (c .before .before .before .before .before .before .before .before .loop .i) (c .before .before .before .before .letter-in .result) (c .before .before .before .thread-in .result) (c .before .before .place-in .result)
-turn c = record { running = c .before .before .before .before .before .before .before .before .loop .inv; more = c .before .before .before .before .before .before .before .loop-test .taken; letter = c .before .before .before .before .letter-in .ensures; thread = c .before .before .before .thread-in .ensures; place = c .before .before .place-in .ensures }
+abbrev state : Head → State
+state c = c .before .before .before .before .before .before .before .loop .s
+
+abbrev letter : Head → ℕ
+letter c = c .before .before .before .letter-in .result
+
+abbrev thread : Head → ℕ
+thread c = c .before .before .thread-in .result
+
+abbrev place : Head → ℕ
+place c = c .before .place-in .result
+
+-- taken apart
+turn : (c : Head) → Turn (c .before .before .before .before .before .before .before .before .before .before .args .start) (now (c .before .before .before .before .before .before .before .before .before .before .args .what)) (now (c .before .before .before .before .before .before .before .before .before .before .args .value)) (state c) (c .before .before .before .before .before .before .before .loop .tallies) (c .before .before .before .before .before .before .before .loop .i) (letter c) (thread c) (place c)
+turn c = record { running = c .before .before .before .before .before .before .before .loop .inv; more = c .before .before .before .before .before .before .loop-test .taken; letter = c .before .before .before .letter-in .ensures; thread = c .before .before .thread-in .ensures; place = c .before .place-in .ensures }
+
+-- the declared counts are the state's
+declared : (c : Head) → c .before .before .before .before .before .before .before .before .before .before .args .start .counts ≡ state c .counts
+declared c = sym (turn c .running .counts)
+
+-- so is the line of a refusal
+lined : (c : Head) (k : ℕ) → _≡_ {A = Outcome} (record { verdict = said (refused k (lineAfter (c .before .before .before .before .before .before .before .before .before .before .args .start .counts) (state c .events))); memories = noMemories }) (record { verdict = said (refused k (lineAfter (state c .counts) (state c .events))); memories = noMemories })
+lined c k = ap (λ (h : Counts). record { verdict = said (refused k (lineAfter h (state c .events))); memories = noMemories }) (declared c)
 
 -- its value, as it is handed on
-valued : (c : Line) → toZ valueWidth (ofZ valueWidth (getD (now (c .before .before .before .before .before .before .before .before .before .before .args .value)) (c .before .before .before .before .before .before .before .before .loop .i) (pos 0))) ≡ getD (now (c .before .before .before .before .before .before .before .before .before .before .args .value)) (c .before .before .before .before .before .before .before .before .loop .i) (pos 0)
+abbrev passed : Head → ℤ
+passed c = toZ valueWidth (ofZ valueWidth (getD (now (c .before .before .before .before .before .before .before .before .before .before .args .value)) (c .before .before .before .before .before .before .before .loop .i) (pos 0)))
+
+valued : (c : Head) → passed c ≡ getD (now (c .before .before .before .before .before .before .before .before .before .before .args .value)) (c .before .before .before .before .before .before .before .loop .i) (pos 0)
 valued c = toZ-ofZ valueWidth _ (search needs)
 
 -- it has a letter, there is room for an event, and its thread is declared
 abbrev Row : Type 0
 Row = tie.Else3 Inv-loop μ-loop
 
-abbrev line : Row → Line
-line c = c .before .before .before .before .before
+abbrev head : Row → Head
+head c = c .before .before .before .before .before
 
-is-named : (c : Row) → isLetter (c .before .before .before .before .before .before .before .before .before .letter-in .result) ≡ true
+is-named : (c : Row) → isLetter (letter (head c)) ≡ true
 is-named c = sym (c .before .before .before .before .is-letter .ensures) ∙ not-false _ (c .before .before .before .if1 .left)
 
--- its lock is declared, or its variable
+thread-low : (c : Row) → thread (head c) < 8
+thread-low c = omega (arith, c .if3 .left, turn (head c) .running .threads)
+
+-- its lock is declared
 abbrev Lock : Type 0
 Lock = tie.Else5 Inv-loop μ-loop
 
+abbrev lock-row : Lock → Row
+lock-row c = c .before .before .before .before
+
+lock-low : (c : Lock) → place (head (lock-row c)) < 8
+lock-low c = omega (arith, c .if5 .left, turn (head (lock-row c)) .running .locks)
+
+is-lock : (c : Lock) → isLockLetter (letter (head (lock-row c))) ≡ true
+is-lock c = sym (c .before .before .before .is-lock-letter .ensures) ∙ c .before .before .if4 .taken
+
+lock-known : (c : Lock) → Known (turn (head (lock-row c))) (is-named (lock-row c))
+lock-known c = known (turn (head (lock-row c))) (is-named (lock-row c)) true (is-lock c) (c .before .before .before .before .before .before .if2 .left) (c .before .before .before .before .if3 .left) (c .if5 .left)
+
+-- nothing leads the row of a lock
+lock-led : (c : Lock) → leading (state (head (lock-row c)) .counts) (wordsIn (state (head (lock-row c)))) (here (turn (head (lock-row c)))) ≡ 0
+lock-led c = unled-lock _ _ _ (subst (λ (m : ℕ). T (among (K ∷ N ∷ []) m)) (numbers (turn (head (lock-row c))) (is-named (lock-row c)) .letter) (lock-arm _ (is-lock c)))
+
+-- its variable is declared
 abbrev Variable : Type 0
 Variable = tie.Else7 Inv-loop μ-loop
 
-thread-low : (c : Row) → c .before .before .before .before .before .before .before .before .thread-in .result < 8
-thread-low c = omega (arith, c .if3 .left, turn (line c) .running .threads)
+abbrev row : Variable → Row
+row c = c .before .before .before .before
 
-lock-low : (c : Lock) → c .before .before .before .before .before .before .before .before .before .before .before .place-in .result < 8
-lock-low c = omega (arith, c .if5 .left, turn (line (c .before .before .before .before)) .running .locks)
+variable-low : (c : Variable) → place (head (row c)) < 16
+variable-low c = omega (arith, c .if7 .left, turn (head (row c)) .running .variables)
 
-variable-low : (c : Variable) → c .before .before .before .before .before .before .before .before .before .before .before .place-in .result < 16
-variable-low c = omega (arith, c .if7 .left, turn (line (c .before .before .before .before)) .running .variables)
-
-is-lock : (c : Lock) → isLockLetter (c .before .before .before .before .before .before .before .before .before .before .before .before .before .letter-in .result) ≡ true
-is-lock c = sym (c .before .before .before .is-lock-letter .ensures) ∙ c .before .before .if4 .taken
-
-lock-known : (c : Lock) → Known (turn (line (c .before .before .before .before))) (is-named (c .before .before .before .before))
-lock-known c = known (turn (line (c .before .before .before .before))) (is-named (c .before .before .before .before)) true (is-lock c) (c .before .before .before .before .before .before .if2 .left) (c .before .before .before .before .if3 .left) (c .if5 .left)
-
-is-variable : (c : Variable) → isLockLetter (c .before .before .before .before .before .before .before .before .before .before .before .before .before .letter-in .result) ≡ false
+is-variable : (c : Variable) → isLockLetter (letter (head (row c))) ≡ false
 is-variable c = sym (c .before .before .before .is-lock-letter .ensures) ∙ c .before .before .if4 .left
 
-variable-known : (c : Variable) → Known (turn (line (c .before .before .before .before))) (is-named (c .before .before .before .before))
-variable-known c = known (turn (line (c .before .before .before .before))) (is-named (c .before .before .before .before)) false (is-variable c) (c .before .before .before .before .before .before .if2 .left) (c .before .before .before .before .if3 .left) (c .if7 .left)
+variable-known : (c : Variable) → Known (turn (head (row c))) (is-named (row c))
+variable-known c = known (turn (head (row c))) (is-named (row c)) false (is-variable c) (c .before .before .before .before .before .before .if2 .left) (c .before .before .before .before .if3 .left) (c .if7 .left)
+
+by-numbers : (c : Variable) → By (here (turn (head (row c)))) (thread (head (row c))) (place (head (row c))) (letter (head (row c))) (passed (head (row c)))
+by-numbers c = numbers-valued (turn (head (row c))) (is-named (row c)) (is-variable c) (valued (head (row c)))
+
+-- what leads its row
+lead-same : (c : Variable) → leadAt (state (head (row c))) (thread (head (row c))) (place (head (row c))) (letter (head (row c))) ≡ leading (state (head (row c)) .counts) (wordsIn (state (head (row c)))) (here (turn (head (row c))))
+lead-same c = lead-by (state (head (row c))) (here (turn (head (row c)))) (variable-known c .within) (turn (head (row c)) .running .variables) (by-numbers c) (lock-among (letter (head (row c))) ∙ is-variable c)
+
+-- the same, as it is computed at the cell's place
+lead-at : (c : Variable) {i r : ℕ} → i ≡ cellPlace (thread (head (row c))) (place (head (row c))) → r ≡ leadWith ((head (row c)) .before .before .before .before .before .before .before .before .before .before .args .start .counts) (getD (state (head (row c)) .cells) i blank) (state (head (row c)) .cells) (state (head (row c)) .stores) (thread (head (row c))) (place (head (row c))) (letter (head (row c)))
+    → r ≡ leadAt (state (head (row c))) (thread (head (row c))) (place (head (row c))) (letter (head (row c)))
+lead-at c ei er = let s = state (head (row c)) in er ∙ (λ j. leadWith (declared (head (row c)) j) (getD (s .cells) (ei j) blank) (s .cells) (s .stores) (thread (head (row c))) (place (head (row c))) (letter (head (row c))))
+
+-- behind the test of a volatile variable: nothing that leads the row is broken
+abbrev Behind : Type 0
+Behind = tie.Joined8 Inv-loop μ-loop
+
+abbrev variable : Behind → Variable
+variable c = c .before .before
+
+-- what the flags say of its variable
+flagged : (c : Variable) → getD (c .before .before .before .before .before .before .before .before .before .before .before .before .before .before .before .before .before .before .before .args .start .counts .volatiles) (place (head (row c))) false ≡ volatile (state (head (row c)) .counts) (place (head (row c)))
+unfolding volatile
+flagged c = ap (λ (h : Counts). getD (h .volatiles) (place (head (row c))) false) (sym (turn (head (row c)) .running .counts))
+
+kept : (c : Behind) → leading (state (head (row (variable c))) .counts) (wordsIn (state (head (row (variable c))))) (here (turn (head (row (variable c))))) ≡ 0
+kept c =
+    let h = head (row (variable c)) in
+    let s = state h in
+    sym (lead-same (variable c)) ∙ sym (⊎-elim
+    (λ w. sym (w .6 .left) ∙ lead-at (variable c) (w .1 .ensures .0) (w .5 .ensures))
+    (λ w. lead-none (s .counts) (getD (s .cells) (cellPlace (thread h) (place h)) blank) (s .cells) (s .stores) (thread h) (place h) (letter h) (flagged (variable c)) (w .left))
+    (c .if8 .came))
 
 -- ---- the answers
 
 loop-holds : tie.Need-loop-holds Inv-loop μ-loop
-loop-holds c = running-start (c .before .args .start) _ (now (c .before .args .what)) (now (c .before .args .value)) (c .before .pre .0)
+loop-holds c = running-start (c .before .before .args .start) _ (now (c .before .before .args .what)) (now (c .before .before .args .value)) (c .before .before .pre .0)
 
 mul-w : tie.Need-mul-w Inv-loop μ-loop
 mul-w c = omega arith
@@ -111,29 +186,26 @@ thread-in-requires c κs = search needs
 place-in-requires : tie.Need-place-in-requires Inv-loop μ-loop
 place-in-requires c κs = search needs
 
-line-after-requires : tie.Need-line-after-requires Inv-loop μ-loop
-line-after-requires c κs = search needs
-
 is-letter-requires : tie.Need-is-letter-requires Inv-loop μ-loop
 is-letter-requires c κs = search needs
 
-refuse-requires : tie.Need-refuse-requires Inv-loop μ-loop
-refuse-requires c κs = search needs
+refuse-after-requires : tie.Need-refuse-after-requires Inv-loop μ-loop
+refuse-after-requires c κs = search needs
 
 returns : tie.Need-returns Inv-loop μ-loop
-returns c = c .refuse .ensures ∙ ap (stopped 4) (c .before .before .before .line-after .ensures) ∙ ap outcomeOf (turn-none (turn (c .before .before .before)) (sym (c .before .before .is-letter .ensures) ∙ not-true _ (c .before .if1 .taken)))
+returns c = c .refuse-after .ensures ∙ lined (c .before .before .before) _ ∙ ap outcomeOf (turn-none (turn (c .before .before .before)) (sym (c .before .before .is-letter .ensures) ∙ not-true _ (c .before .if1 .taken)))
 
-refuse-requires-2 : tie.Need-refuse-requires-2 Inv-loop μ-loop
-refuse-requires-2 c κs = search needs
+refuse-after-requires-2 : tie.Need-refuse-after-requires-2 Inv-loop μ-loop
+refuse-after-requires-2 c κs = search needs
 
 returns-2 : tie.Need-returns-2 Inv-loop μ-loop
-returns-2 c = c .refuse2 .ensures ∙ ap (stopped 9) (c .before .before .before .before .line-after .ensures) ∙ ap outcomeOf (turn-limit (turn (c .before .before .before .before)) (sym (c .before .before .before .is-letter .ensures) ∙ not-false _ (c .before .before .if1 .left)) (c .before .if2 .taken))
+returns-2 c = c .refuse-after2 .ensures ∙ lined (c .before .before .before .before) _ ∙ ap outcomeOf (turn-limit (turn (c .before .before .before .before)) (sym (c .before .before .before .is-letter .ensures) ∙ not-false _ (c .before .before .if1 .left)) (c .before .if2 .taken))
 
-refuse-requires-3 : tie.Need-refuse-requires-3 Inv-loop μ-loop
-refuse-requires-3 c κs = search needs
+refuse-after-requires-3 : tie.Need-refuse-after-requires-3 Inv-loop μ-loop
+refuse-after-requires-3 c κs = search needs
 
 returns-3 : tie.Need-returns-3 Inv-loop μ-loop
-returns-3 c = c .refuse3 .ensures ∙ ap (stopped 5) (c .before .before .before .before .before .before .line-after .ensures) ∙ ap outcomeOf (turn-thread (turn (c .before .before .before .before .before .before)) (sym (c .before .before .before .before .before .is-letter .ensures) ∙ not-false _ (c .before .before .before .before .if1 .left)) _ refl (c .before .before .before .if2 .left) (c .before .if3 .taken))
+returns-3 c = c .refuse-after3 .ensures ∙ lined (c .before .before .before .before .before .before) _ ∙ ap outcomeOf (turn-thread (turn (c .before .before .before .before .before .before)) (sym (c .before .before .before .before .before .is-letter .ensures) ∙ not-false _ (c .before .before .before .before .if1 .left)) _ refl (c .before .before .before .if2 .left) (c .before .if3 .taken))
 
 add-events : tie.Need-add-events Inv-loop μ-loop
 add-events c = omega arith
@@ -144,11 +216,13 @@ cast-p c = search needs
 is-lock-letter-requires : tie.Need-is-lock-letter-requires Inv-loop μ-loop
 is-lock-letter-requires c κs = search needs
 
-refuse-requires-4 : tie.Need-refuse-requires-4 Inv-loop μ-loop
-refuse-requires-4 c κs = search needs
+refuse-after-requires-4 : tie.Need-refuse-after-requires-4 Inv-loop μ-loop
+refuse-after-requires-4 c κs = search needs
 
 returns-4 : tie.Need-returns-4 Inv-loop μ-loop
-returns-4 c = c .refuse4 .ensures ∙ ap (stopped 5) (c .before .before .before .before .before .before .before .before .before .before .line-after .ensures) ∙ ap outcomeOf (turn-place (turn (line (c .before .before .before .before .before))) (is-named (c .before .before .before .before .before)) true (sym (c .before .before .before .before .is-lock-letter .ensures) ∙ c .before .before .before .if4 .taken) (c .before .before .before .before .before .before .before .if2 .left) (c .before .if5 .taken))
+returns-4 c =
+    let r = c .before .before .before .before .before in
+    c .refuse-after4 .ensures ∙ lined (head r) _ ∙ ap outcomeOf (turn-place (turn (head r)) (is-named r) true (sym (c .before .before .before .before .is-lock-letter .ensures) ∙ c .before .before .before .if4 .taken) (c .before .before .before .before .before .before .before .if2 .left) (c .before .if5 .taken))
 
 mul-tally : tie.Need-mul-tally Inv-loop μ-loop
 mul-tally c = omega arith
@@ -174,17 +248,17 @@ element-copy-out-last c = omega arith
 lock-turn-requires : tie.Need-lock-turn-requires Inv-loop μ-loop
 lock-turn-requires c κs = search needs
 
-refuse-requires-5 : tie.Need-refuse-requires-5 Inv-loop μ-loop
-refuse-requires-5 c κs = search needs
+refuse-after-requires-5 : tie.Need-refuse-after-requires-5 Inv-loop μ-loop
+refuse-after-requires-5 c κs = search needs
 
 returns-5 : tie.Need-returns-5 Inv-loop μ-loop
 returns-5 c =
     let d = c .before .before .before .before .before .before .before .before in
-    let u = turn (line (d .before .before .before .before)) in
-    let l = is-named (d .before .before .before .before) in
+    let h = head (lock-row d) in
+    let u = turn h in
+    let l = is-named (lock-row d) in
     let o = lock-known d in
-    let s = d .before .before .before .before .before .before .before .before .before .before .before .before .before .before .before .before .before .loop .s in
-    c .refuse5 .ensures ∙ ap (stopped (c .before .before .before .lock-turn .result .rule)) (c .before .before .before .before .before .before .before .before .before .before .before .before .before .before .before .before .before .line-after .ensures) ∙ ap outcomeOf (turn-broken u l o _ (lock-rule s _ (numbers u l) (o .within) (lock-arm _ (is-lock d)) _ (c .before .before .before .lock-turn .ensures) (some-is s _ _ _ (u .running .tallied .each _ (thread-low (d .before .before .before .before))) (c .before .before .before .before .before .before .some-in .ensures)) (u .running .threads)) (c .before .if6 .taken))
+    c .refuse-after5 .ensures ∙ lined h _ ∙ ap outcomeOf (turn-broken u l o _ (unled _ _ _ (lock-led d) (lock-rule (state h) _ (numbers u l) (o .within) (lock-arm _ (is-lock d)) _ (c .before .before .before .lock-turn .ensures) (some-is (state h) _ _ _ (u .running .tallied .each _ (thread-low (lock-row d))) (c .before .before .before .before .before .before .some-in .ensures)) (u .running .threads))) (c .before .if6 .taken))
 
 mul-s : tie.Need-mul-s Inv-loop μ-loop
 mul-s c = omega (arith, thread-low (c .before .before .before .before .before .before .before .before .before .before .before .before))
@@ -199,28 +273,58 @@ element-set-from-held : tie.Need-element-set-from-held Inv-loop μ-loop
 element-set-from-held c = omega (arith, lock-low (c .before .before .before .before .before .before .before .before))
 
 add-i : tie.Need-add-i Inv-loop μ-loop
-add-i c = omega (arith, c .before .before .before .before .before .before .before .before .before .before .before .before .before .before .before .before .before .before .before .before .before .before .before .before .loop-test .taken, c .before .before .before .before .before .before .before .before .before .before .before .before .before .before .before .before .before .before .before .before .before .before .before .before .before .before .before .good)
+add-i c = omega (arith, c .before .before .before .before .before .before .before .before .before .before .before .before .before .before .before .before .before .before .before .before .before .before .before .loop-test .taken, c .before .before .before .before .before .before .before .before .before .before .before .before .before .before .before .before .before .before .before .before .before .before .before .before .before .before .before .good)
 
 loop-less : tie.Need-loop-less Inv-loop μ-loop
-loop-less c = omega (arith, c .before .before .before .before .before .before .before .before .before .before .before .before .before .before .before .before .before .before .before .before .before .before .before .before .loop-test .taken)
+loop-less c = omega (arith, c .before .before .before .before .before .before .before .before .before .before .before .before .before .before .before .before .before .before .before .before .before .before .before .loop-test .taken)
 
 loop-again : tie.Need-loop-again Inv-loop μ-loop
 loop-again c =
     let d = c .before .before .before .before .before .before .before .before in
-    let u = turn (line (d .before .before .before .before)) in
-    let l = is-named (d .before .before .before .before) in
+    let h = head (lock-row d) in
+    let u = turn h in
+    let l = is-named (lock-row d) in
     let o = lock-known d in
-    let s = d .before .before .before .before .before .before .before .before .before .before .before .before .before .before .before .before .before .loop .s in
-    turn-more u l o _ (lock-rule s _ (numbers u l) (o .within) (lock-arm _ (is-lock d)) _ (c .before .before .before .lock-turn .ensures) (some-is s _ _ _ (u .running .tallied .each _ (thread-low (d .before .before .before .before))) (c .before .before .before .before .before .before .some-in .ensures)) (u .running .threads)) (c .before .if6 .left) _ (lock-put s _ (numbers u l) (o .within) (lock-arm _ (is-lock d)) _ (c .before .before .before .lock-turn .ensures) (shallow s (u .running .ranged) (o .room) _ (lock-low d))) (d .before .before .before .before .before .before .before .before .before .before .before .before .before .before .before .before .before .loop .tallies) (tallied-same s _ _ refl refl (u .running .tallied))
+    turn-more u l o _ (unled _ _ _ (lock-led d) (lock-rule (state h) _ (numbers u l) (o .within) (lock-arm _ (is-lock d)) _ (c .before .before .before .lock-turn .ensures) (some-is (state h) _ _ _ (u .running .tallied .each _ (thread-low (lock-row d))) (c .before .before .before .before .before .before .some-in .ensures)) (u .running .threads))) (c .before .if6 .left) _ (lock-put (state h) _ (numbers u l) (o .within) (lock-arm _ (is-lock d)) _ (c .before .before .before .lock-turn .ensures) (shallow (state h) (u .running .ranged) (o .room) _ (lock-low d))) (c .before .before .before .before .before .before .before .before .before .before .before .before .before .before .before .before .before .before .before .before .before .before .before .before .loop .tallies) (tallied-same (state h) _ _ refl refl (u .running .tallied))
 
-refuse-requires-6 : tie.Need-refuse-requires-6 Inv-loop μ-loop
-refuse-requires-6 c κs = search needs
+refuse-after-requires-6 : tie.Need-refuse-after-requires-6 Inv-loop μ-loop
+refuse-after-requires-6 c κs = search needs
 
 returns-6 : tie.Need-returns-6 Inv-loop μ-loop
-returns-6 c = c .refuse6 .ensures ∙ ap (stopped 5) (c .before .before .before .before .before .before .before .before .before .before .line-after .ensures) ∙ ap outcomeOf (turn-place (turn (line (c .before .before .before .before .before))) (is-named (c .before .before .before .before .before)) false (sym (c .before .before .before .before .is-lock-letter .ensures) ∙ c .before .before .before .if4 .left) (c .before .before .before .before .before .before .before .if2 .left) (c .before .if7 .taken))
+returns-6 c =
+    let r = c .before .before .before .before .before in
+    c .refuse-after6 .ensures ∙ lined (head r) _ ∙ ap outcomeOf (turn-place (turn (head r)) (is-named r) false (sym (c .before .before .before .before .is-lock-letter .ensures) ∙ c .before .before .before .if4 .left) (c .before .before .before .before .before .before .before .if2 .left) (c .before .if7 .taken))
+
+element-copy-out-if8 : tie.Need-element-copy-out-if8 Inv-loop μ-loop
+element-copy-out-if8 c = omega (arith, variable-low c)
 
 cell-place-requires : tie.Need-cell-place-requires Inv-loop μ-loop
 cell-place-requires c κs = search needs
+
+mul-own : tie.Need-mul-own Inv-loop μ-loop
+mul-own c = omega arith
+
+element-copy-out-own : tie.Need-element-copy-out-own Inv-loop μ-loop
+element-copy-out-own c = omega arith
+
+lead-of-requires : tie.Need-lead-of-requires Inv-loop μ-loop
+lead-of-requires c κs = search needs
+
+refuse-after-requires-7 : tie.Need-refuse-after-requires-7 Inv-loop μ-loop
+refuse-after-requires-7 c κs = search needs
+
+returns-7 : tie.Need-returns-7 Inv-loop μ-loop
+returns-7 c =
+    let d = c .before .before .before .before .before .before .before .before .before in
+    let h = head (row d) in
+    let u = turn h in
+    let l = is-named (row d) in
+    let o = variable-known d in
+    let i = c .before .before .before .before .before .before .cell-place .ensures .0 in
+    c .refuse-after7 .ensures ∙ lined h _ ∙ ap outcomeOf (turn-broken u l o _ (led _ _ _ (lead-at d i (c .before .before .lead-of .ensures) ∙ lead-same d) (c .before .if9 .taken)) (c .before .if9 .taken))
+
+cell-place-requires-2 : tie.Need-cell-place-requires-2 Inv-loop μ-loop
+cell-place-requires-2 c κs = search needs
 
 mul-c : tie.Need-mul-c Inv-loop μ-loop
 mul-c c = omega arith
@@ -237,36 +341,69 @@ element-copy-out-last-2 c = omega arith
 use-rule-requires : tie.Need-use-rule-requires Inv-loop μ-loop
 use-rule-requires c κs = search needs
 
-refuse-requires-7 : tie.Need-refuse-requires-7 Inv-loop μ-loop
-refuse-requires-7 c κs = search needs
+refuse-after-requires-8 : tie.Need-refuse-after-requires-8 Inv-loop μ-loop
+refuse-after-requires-8 c κs = search needs
 
-returns-7 : tie.Need-returns-7 Inv-loop μ-loop
-returns-7 c =
-    let d = c .before .before .before .before .before .before .before in
-    let u = turn (line (d .before .before .before .before)) in
-    let l = is-named (d .before .before .before .before) in
+returns-8 : tie.Need-returns-8 Inv-loop μ-loop
+returns-8 c =
+    let d = c .before .before .before .before .before .before .before .before .before in
+    let h = head (row d) in
+    let u = turn h in
+    let l = is-named (row d) in
     let o = variable-known d in
-    let s = d .before .before .before .before .before .before .before .before .before .before .before .before .before .before .before .before .before .loop .s in
-    let n = numbers-valued u l (is-variable d) (valued (line (d .before .before .before .before))) in
-    let i = c .before .before .before .before .before .before .cell-place .ensures .0 in
-    c .refuse7 .ensures ∙ ap (stopped (c .before .before .use-rule .result)) (c .before .before .before .before .before .before .before .before .before .before .before .before .before .before .before .before .line-after .ensures) ∙ ap outcomeOf (turn-broken u l o _ (use-rule s _ n (o .within) (c .before .before .before .before .if8 .taken) i (c .before .before .use-rule .ensures)) (c .before .if9 .taken))
+    let n = by-numbers d in
+    let i = c .before .before .before .before .before .before .cell-place2 .ensures .0 in
+    let k = kept (c .before .before .before .before .before .before .before) in
+    c .refuse-after8 .ensures ∙ lined h _ ∙ ap outcomeOf (turn-broken u l o _ (unled _ _ _ k (use-rule (state h) _ n (o .within) (c .before .before .before .before .if10 .taken) i (c .before .before .use-rule .ensures))) (c .before .if11 .taken))
+
+is-used-requires : tie.Need-is-used-requires Inv-loop μ-loop
+is-used-requires c κs = search needs
 
 add-i-2 : tie.Need-add-i-2 Inv-loop μ-loop
-add-i-2 c = omega (arith, c .before .before .before .before .before .before .before .before .before .before .before .before .before .before .before .before .before .before .before .before .before .before .loop-test .taken, c .before .before .before .before .before .before .before .before .before .before .before .before .before .before .before .before .before .before .before .before .before .before .before .before .before .good)
+add-i-2 c = omega (arith, c .before .before .before .before .before .before .before .before .before .before .before .before .before .before .before .before .before .before .before .before .before .before .before .before .before .loop-test .taken, c .before .before .before .before .before .before .before .before .before .before .before .before .before .before .before .before .before .before .before .before .before .before .before .before .before .before .before .before .before .good)
 
 loop-less-2 : tie.Need-loop-less-2 Inv-loop μ-loop
-loop-less-2 c = omega (arith, c .before .before .before .before .before .before .before .before .before .before .before .before .before .before .before .before .before .before .before .before .before .before .loop-test .taken)
+loop-less-2 c = omega (arith, c .before .before .before .before .before .before .before .before .before .before .before .before .before .before .before .before .before .before .before .before .before .before .before .before .before .loop-test .taken)
 
 loop-again-2 : tie.Need-loop-again-2 Inv-loop μ-loop
 loop-again-2 c =
-    let d = c .before .before .before .before .before .before in
-    let u = turn (line (d .before .before .before .before)) in
-    let l = is-named (d .before .before .before .before) in
+    let d = c .before .before .before .before .before .before .before .before .before .before in
+    let h = head (row d) in
+    let u = turn h in
+    let l = is-named (row d) in
     let o = variable-known d in
-    let s = d .before .before .before .before .before .before .before .before .before .before .before .before .before .before .before .before .before .loop .s in
-    let n = numbers-valued u l (is-variable d) (valued (line (d .before .before .before .before))) in
-    let i = c .before .before .before .before .before .cell-place .ensures .0 in
-    turn-more u l o _ (use-rule s _ n (o .within) (c .before .before .before .if8 .taken) i (c .before .use-rule .ensures)) (c .if9 .left) _ (use-put s _ n (o .within) (c .before .before .before .if8 .taken)) (d .before .before .before .before .before .before .before .before .before .before .before .before .before .before .before .before .before .loop .tallies) (tallied-same s _ _ refl refl (u .running .tallied))
+    let n = by-numbers d in
+    let i = c .before .before .before .before .before .before .before .cell-place2 .ensures .0 in
+    let k = kept (c .before .before .before .before .before .before .before .before) in
+    let q = c .before .before .before .before .before .if10 .taken in
+    turn-more u l o _ (unled _ _ _ k (use-rule (state h) _ n (o .within) q i (c .before .before .before .use-rule .ensures))) (c .before .before .if11 .left) _ (use-kept (state h) _ n (o .within) q i (sym (c .before .is-used .ensures) ∙ c .if12 .taken)) _ (tallied-same (state h) _ _ refl refl (u .running .tallied))
+
+used-requires : tie.Need-used-requires Inv-loop μ-loop
+used-requires c κs = search needs
+
+mul-cell : tie.Need-mul-cell Inv-loop μ-loop
+mul-cell c = omega (arith, c .before .before .before .before .before .before .before .before .cell-place2 .ensures .1)
+
+element-set-from-cell : tie.Need-element-set-from-cell Inv-loop μ-loop
+element-set-from-cell c = omega (arith, c .before .before .before .before .before .before .before .before .cell-place2 .ensures .1)
+
+add-i-3 : tie.Need-add-i-3 Inv-loop μ-loop
+add-i-3 c = omega (arith, c .before .before .before .before .before .before .before .before .before .before .before .before .before .before .before .before .before .before .before .before .before .before .before .before .before .before .loop-test .taken, c .before .before .before .before .before .before .before .before .before .before .before .before .before .before .before .before .before .before .before .before .before .before .before .before .before .before .before .before .before .before .good)
+
+loop-less-3 : tie.Need-loop-less-3 Inv-loop μ-loop
+loop-less-3 c = omega (arith, c .before .before .before .before .before .before .before .before .before .before .before .before .before .before .before .before .before .before .before .before .before .before .before .before .before .before .loop-test .taken)
+
+loop-again-3 : tie.Need-loop-again-3 Inv-loop μ-loop
+loop-again-3 c =
+    let d = c .before .before .before .before .before .before .before .before .before .before .before in
+    let h = head (row d) in
+    let u = turn h in
+    let l = is-named (row d) in
+    let o = variable-known d in
+    let n = by-numbers d in
+    let i = c .before .before .before .before .before .before .before .before .cell-place2 .ensures .0 in
+    let k = kept (c .before .before .before .before .before .before .before .before .before) in
+    turn-more u l o _ (unled _ _ _ k (use-rule (state h) _ n (o .within) (c .before .before .before .before .before .before .if10 .taken) i (c .before .before .before .before .use-rule .ensures))) (c .before .before .before .if11 .left) _ (use-put (state h) _ n (o .within) (c .before .before .before .before .before .before .if10 .taken) i (c .used .ensures)) _ (tallied-kept-at (state h) _ _ _ _ (u .running .shape .cells) (thread-low (row d)) (variable-low d) (d .if7 .left) refl i refl _ _ _ _ (use-arm _ (c .before .before .before .before .before .before .if10 .taken)) (use-next (state h) _ n (o .within) (c .before .before .before .before .before .before .if10 .taken) i (c .used .ensures)) _ (u .running .tallied))
 
 slot-place-requires : tie.Need-slot-place-requires Inv-loop μ-loop
 slot-place-requires c κs = search needs
@@ -295,26 +432,27 @@ element-copy-out-main c = omega arith
 reads-turn-requires : tie.Need-reads-turn-requires Inv-loop μ-loop
 reads-turn-requires c κs = search needs
 
-refuse-requires-8 : tie.Need-refuse-requires-8 Inv-loop μ-loop
-refuse-requires-8 c κs = search needs
+refuse-after-requires-9 : tie.Need-refuse-after-requires-9 Inv-loop μ-loop
+refuse-after-requires-9 c κs = search needs
 
-returns-8 : tie.Need-returns-8 Inv-loop μ-loop
-returns-8 c =
-    let d = c .before .before .before .before .before .before .before .before .before .before .before .before .before .before in
-    let u = turn (line (d .before .before .before .before)) in
-    let l = is-named (d .before .before .before .before) in
+returns-9 : tie.Need-returns-9 Inv-loop μ-loop
+returns-9 c =
+    let d = c .before .before .before .before .before .before .before .before .before .before .before .before .before .before .before .before in
+    let h = head (row d) in
+    let u = turn h in
+    let l = is-named (row d) in
     let o = variable-known d in
-    let s = d .before .before .before .before .before .before .before .before .before .before .before .before .before .before .before .before .before .loop .s in
-    let n = numbers-valued u l (is-variable d) (valued (line (d .before .before .before .before))) in
-    let i = c .before .before .before .before .before .before .before .before .before .before .before .before .before .cell-place .ensures .0 in
-    let h = reads-arm (d .before .before .before .before .before .before .before .before .before .before .before .before .before .letter-in .result) (c .before .before .before .before .before .before .before .before .before .before .if10 .taken) in
-    c .refuse8 .ensures ∙ ap (stopped (c .before .before .before .reads-turn .result .rule)) (c .before .before .before .before .before .before .before .before .before .before .before .before .before .before .before .before .before .before .before .before .before .before .before .line-after .ensures) ∙ ap outcomeOf (turn-broken u l o _ (reads-rule s _ n (o .within) h i (c .before .before .before .before .before .before .before .before .slot-place .ensures .0) (c .before .before .before .before .before .before .before .slot-place2 .ensures .0) (c .before .before .before .reads-turn .ensures)) (c .before .if11 .taken))
+    let n = by-numbers d in
+    let i = c .before .before .before .before .before .before .before .before .before .before .before .before .before .cell-place2 .ensures .0 in
+    let k = kept (c .before .before .before .before .before .before .before .before .before .before .before .before .before .before) in
+    let r = reads-arm (letter h) (c .before .before .before .before .before .before .before .before .before .before .if13 .taken) in
+    c .refuse-after9 .ensures ∙ lined h _ ∙ ap outcomeOf (turn-broken u l o _ (unled _ _ _ k (reads-rule (state h) _ n (o .within) r i (c .before .before .before .before .before .before .before .before .slot-place .ensures .0) (c .before .before .before .before .before .before .before .slot-place2 .ensures .0) (c .before .before .before .reads-turn .ensures))) (c .before .if14 .taken))
 
-mul-cell : tie.Need-mul-cell Inv-loop μ-loop
-mul-cell c = omega (arith, c .before .before .before .before .before .before .before .before .before .before .before .before .before .before .cell-place .ensures .1)
+mul-cell-2 : tie.Need-mul-cell-2 Inv-loop μ-loop
+mul-cell-2 c = omega (arith, c .before .before .before .before .before .before .before .before .before .before .before .before .before .before .cell-place2 .ensures .1)
 
-element-set-from-cell : tie.Need-element-set-from-cell Inv-loop μ-loop
-element-set-from-cell c = omega (arith, c .before .before .before .before .before .before .before .before .before .before .before .before .before .before .cell-place .ensures .1)
+element-set-from-cell-2 : tie.Need-element-set-from-cell-2 Inv-loop μ-loop
+element-set-from-cell-2 c = omega (arith, c .before .before .before .before .before .before .before .before .before .before .before .before .before .before .cell-place2 .ensures .1)
 
 mul-slot : tie.Need-mul-slot Inv-loop μ-loop
 mul-slot c = omega (arith, c .before .before .before .before .before .before .before .before .slot-place2 .ensures .1)
@@ -322,23 +460,24 @@ mul-slot c = omega (arith, c .before .before .before .before .before .before .be
 element-set-from-slot : tie.Need-element-set-from-slot Inv-loop μ-loop
 element-set-from-slot c = omega (arith, c .before .before .before .before .before .before .before .before .slot-place2 .ensures .1)
 
-add-i-3 : tie.Need-add-i-3 Inv-loop μ-loop
-add-i-3 c = omega (arith, c .before .before .before .before .before .before .before .before .before .before .before .before .before .before .before .before .before .before .before .before .before .before .before .before .before .before .before .before .before .before .before .loop-test .taken, c .before .before .before .before .before .before .before .before .before .before .before .before .before .before .before .before .before .before .before .before .before .before .before .before .before .before .before .before .before .before .before .before .before .before .good)
+add-i-4 : tie.Need-add-i-4 Inv-loop μ-loop
+add-i-4 c = omega (arith, c .before .before .before .before .before .before .before .before .before .before .before .before .before .before .before .before .before .before .before .before .before .before .before .before .before .before .before .before .before .before .before .before .loop-test .taken, c .before .before .before .before .before .before .before .before .before .before .before .before .before .before .before .before .before .before .before .before .before .before .before .before .before .before .before .before .before .before .before .before .before .before .before .before .good)
 
-loop-less-3 : tie.Need-loop-less-3 Inv-loop μ-loop
-loop-less-3 c = omega (arith, c .before .before .before .before .before .before .before .before .before .before .before .before .before .before .before .before .before .before .before .before .before .before .before .before .before .before .before .before .before .before .before .loop-test .taken)
+loop-less-4 : tie.Need-loop-less-4 Inv-loop μ-loop
+loop-less-4 c = omega (arith, c .before .before .before .before .before .before .before .before .before .before .before .before .before .before .before .before .before .before .before .before .before .before .before .before .before .before .before .before .before .before .before .before .loop-test .taken)
 
-loop-again-3 : tie.Need-loop-again-3 Inv-loop μ-loop
-loop-again-3 c =
-    let d = c .before .before .before .before .before .before .before .before .before .before .before .before .before .before .before in
-    let u = turn (line (d .before .before .before .before)) in
-    let l = is-named (d .before .before .before .before) in
+loop-again-4 : tie.Need-loop-again-4 Inv-loop μ-loop
+loop-again-4 c =
+    let d = c .before .before .before .before .before .before .before .before .before .before .before .before .before .before .before .before .before in
+    let h = head (row d) in
+    let u = turn h in
+    let l = is-named (row d) in
     let o = variable-known d in
-    let s = d .before .before .before .before .before .before .before .before .before .before .before .before .before .before .before .before .before .loop .s in
-    let n = numbers-valued u l (is-variable d) (valued (line (d .before .before .before .before))) in
-    let i = c .before .before .before .before .before .before .before .before .before .before .before .before .before .before .cell-place .ensures .0 in
-    let h = reads-arm (d .before .before .before .before .before .before .before .before .before .before .before .before .before .letter-in .result) (c .before .before .before .before .before .before .before .before .before .before .before .if10 .taken) in
-    turn-more u l o _ (reads-rule s _ n (o .within) h i (c .before .before .before .before .before .before .before .before .before .slot-place .ensures .0) (c .before .before .before .before .before .before .before .before .slot-place2 .ensures .0) (c .before .before .before .before .reads-turn .ensures)) (c .before .before .if11 .left) _ (reads-put s _ n (o .within) h i (c .before .before .before .before .before .before .before .before .before .slot-place .ensures .0) (c .before .before .before .before .before .before .before .before .slot-place2 .ensures .0) (c .before .before .before .before .reads-turn .ensures)) _ (tallied-reads s _ _ _ _ (u .running .shape .cells) (thread-low (d .before .before .before .before)) (variable-low d) (d .if7 .left) refl i refl _ _ _ _ h (reads-next s _ n (o .within) h i (c .before .before .before .before .before .before .before .before .before .slot-place .ensures .0) (c .before .before .before .before .before .before .before .before .slot-place2 .ensures .0) (c .before .before .before .before .reads-turn .ensures)) _ (u .running .tallied))
+    let n = by-numbers d in
+    let i = c .before .before .before .before .before .before .before .before .before .before .before .before .before .before .cell-place2 .ensures .0 in
+    let k = kept (c .before .before .before .before .before .before .before .before .before .before .before .before .before .before .before) in
+    let r = reads-arm (letter h) (c .before .before .before .before .before .before .before .before .before .before .before .if13 .taken) in
+    turn-more u l o _ (unled _ _ _ k (reads-rule (state h) _ n (o .within) r i (c .before .before .before .before .before .before .before .before .before .slot-place .ensures .0) (c .before .before .before .before .before .before .before .before .slot-place2 .ensures .0) (c .before .before .before .before .reads-turn .ensures))) (c .before .before .if14 .left) _ (reads-put (state h) _ n (o .within) r i (c .before .before .before .before .before .before .before .before .before .slot-place .ensures .0) (c .before .before .before .before .before .before .before .before .slot-place2 .ensures .0) (c .before .before .before .before .reads-turn .ensures)) _ (tallied-kept-at (state h) _ _ _ _ (u .running .shape .cells) (thread-low (row d)) (variable-low d) (d .if7 .left) refl i refl _ _ _ _ (or-right (eqb U (letter h)) (among (R ∷ L ∷ []) (letter h)) r) (reads-next (state h) _ n (o .within) r i (c .before .before .before .before .before .before .before .before .before .slot-place .ensures .0) (c .before .before .before .before .before .before .before .before .slot-place2 .ensures .0) (c .before .before .before .before .reads-turn .ensures)) _ (u .running .tallied))
 
 slot-place-requires-3 : tie.Need-slot-place-requires-3 Inv-loop μ-loop
 slot-place-requires-3 c κs = search needs
@@ -373,38 +512,38 @@ element-copy-out-last-3 c = omega arith
 stores-turn-requires : tie.Need-stores-turn-requires Inv-loop μ-loop
 stores-turn-requires c κs = search needs
 
-refuse-requires-9 : tie.Need-refuse-requires-9 Inv-loop μ-loop
-refuse-requires-9 c κs = search needs
+refuse-after-requires-10 : tie.Need-refuse-after-requires-10 Inv-loop μ-loop
+refuse-after-requires-10 c κs = search needs
 
-returns-9 : tie.Need-returns-9 Inv-loop μ-loop
-returns-9 c =
-    let d = c .before .before .before .before .before .before .before .before .before .before .before .before .before .before .before .before in
-    let u = turn (line (d .before .before .before .before)) in
-    let l = is-named (d .before .before .before .before) in
+returns-10 : tie.Need-returns-10 Inv-loop μ-loop
+returns-10 c =
+    let d = c .before .before .before .before .before .before .before .before .before .before .before .before .before .before .before .before .before .before in
+    let h = head (row d) in
+    let u = turn h in
+    let l = is-named (row d) in
     let o = variable-known d in
-    let s = d .before .before .before .before .before .before .before .before .before .before .before .before .before .before .before .before .before .loop .s in
-    let n = numbers-valued u l (is-variable d) (valued (line (d .before .before .before .before))) in
-    let i = c .before .before .before .before .before .before .before .before .before .before .before .before .before .before .before .cell-place .ensures .0 in
-    let h = stores-arm (d .before .before .before .before .before .before .before .before .before .before .before .before .before .letter-in .result) (c .before .before .before .before .before .before .before .before .before .before .before .if12 .taken) in
-    c .refuse9 .ensures ∙ ap (stopped (c .before .before .before .stores-turn .result .rule)) (c .before .before .before .before .before .before .before .before .before .before .before .before .before .before .before .before .before .before .before .before .before .before .before .before .before .line-after .ensures) ∙ ap outcomeOf (turn-broken u l o _ (stores-rule s _ n (o .within) h i (c .before .before .before .before .before .before .before .before .before .slot-place3 .ensures .0) (c .before .before .before .before .before .before .before .before .slot-place4 .ensures .0) (c .before .before .before .stores-turn .ensures)) (c .before .if13 .taken))
+    let n = by-numbers d in
+    let i = c .before .before .before .before .before .before .before .before .before .before .before .before .before .before .before .cell-place2 .ensures .0 in
+    let k = kept (c .before .before .before .before .before .before .before .before .before .before .before .before .before .before .before .before) in
+    let r = stores-arm (letter h) (c .before .before .before .before .before .before .before .before .before .before .before .if15 .taken) in
+    c .refuse-after10 .ensures ∙ lined h _ ∙ ap outcomeOf (turn-broken u l o _ (unled _ _ _ k (stores-rule (state h) _ n (o .within) r i (c .before .before .before .before .before .before .before .before .before .slot-place3 .ensures .0) (c .before .before .before .before .before .before .before .before .slot-place4 .ensures .0) (c .before .before .before .stores-turn .ensures))) (c .before .if16 .taken))
 
 mul-tally-2 : tie.Need-mul-tally-2 Inv-loop μ-loop
-mul-tally-2 c = omega (arith, thread-low (c .before .before .before .before .before .before .before .before .before .before .before .before .before .before .before .before .before .before .before .before .before .before))
+mul-tally-2 c = omega (arith, thread-low (c .before .before .before .before .before .before .before .before .before .before .before .before .before .before .before .before .before .before .before .before .before .before .before .before))
 
 array-copy-out-tally-2 : tie.Need-array-copy-out-tally-2 Inv-loop μ-loop
-array-copy-out-tally-2 c = omega (arith, thread-low (c .before .before .before .before .before .before .before .before .before .before .before .before .before .before .before .before .before .before .before .before .before .before))
+array-copy-out-tally-2 c = omega (arith, thread-low (c .before .before .before .before .before .before .before .before .before .before .before .before .before .before .before .before .before .before .before .before .before .before .before .before))
 
 tally-after-requires : tie.Need-tally-after-requires Inv-loop μ-loop
 tally-after-requires c κs =
-    let d = c .before .before .before .before .before .before .before .before .before .before .before .before .before .before .before .before .before .before .before in
-    let u = turn (line (d .before .before .before .before)) in
-    small (d .before .before .before .before .before .before .before .before .before .before .before .before .before .before .before .before .before .loop .s) _ _ (u .running .variables) (u .running .tallied .each _ (thread-low (d .before .before .before .before)))
+    let r = row (c .before .before .before .before .before .before .before .before .before .before .before .before .before .before .before .before .before .before .before .before .before) in
+    small (state (head r)) _ _ (turn (head r) .running .variables) (turn (head r) .running .tallied .each _ (thread-low r))
 
-mul-cell-2 : tie.Need-mul-cell-2 Inv-loop μ-loop
-mul-cell-2 c = omega (arith, c .before .before .before .before .before .before .before .before .before .before .before .before .before .before .before .before .before .before .before .cell-place .ensures .1)
+mul-cell-3 : tie.Need-mul-cell-3 Inv-loop μ-loop
+mul-cell-3 c = omega (arith, c .before .before .before .before .before .before .before .before .before .before .before .before .before .before .before .before .before .before .before .cell-place2 .ensures .1)
 
-element-set-from-cell-2 : tie.Need-element-set-from-cell-2 Inv-loop μ-loop
-element-set-from-cell-2 c = omega (arith, c .before .before .before .before .before .before .before .before .before .before .before .before .before .before .before .before .before .before .before .cell-place .ensures .1)
+element-set-from-cell-3 : tie.Need-element-set-from-cell-3 Inv-loop μ-loop
+element-set-from-cell-3 c = omega (arith, c .before .before .before .before .before .before .before .before .before .before .before .before .before .before .before .before .before .before .before .cell-place2 .ensures .1)
 
 mul-slot-2 : tie.Need-mul-slot-2 Inv-loop μ-loop
 mul-slot-2 c = omega (arith, c .before .before .before .before .before .before .before .before .before .before .before .before .slot-place4 .ensures .1)
@@ -413,34 +552,35 @@ element-set-from-slot-2 : tie.Need-element-set-from-slot-2 Inv-loop μ-loop
 element-set-from-slot-2 c = omega (arith, c .before .before .before .before .before .before .before .before .before .before .before .before .slot-place4 .ensures .1)
 
 mul-left : tie.Need-mul-left Inv-loop μ-loop
-mul-left c = omega (arith, variable-low (c .before .before .before .before .before .before .before .before .before .before .before .before .before .before .before .before .before .before .before .before))
+mul-left c = omega (arith, variable-low (c .before .before .before .before .before .before .before .before .before .before .before .before .before .before .before .before .before .before .before .before .before .before))
 
 element-set-from-left : tie.Need-element-set-from-left Inv-loop μ-loop
-element-set-from-left c = omega (arith, variable-low (c .before .before .before .before .before .before .before .before .before .before .before .before .before .before .before .before .before .before .before .before))
+element-set-from-left c = omega (arith, variable-low (c .before .before .before .before .before .before .before .before .before .before .before .before .before .before .before .before .before .before .before .before .before .before))
 
 mul-tallies : tie.Need-mul-tallies Inv-loop μ-loop
-mul-tallies c = omega (arith, thread-low (c .before .before .before .before .before .before .before .before .before .before .before .before .before .before .before .before .before .before .before .before .before .before .before .before))
+mul-tallies c = omega (arith, thread-low (c .before .before .before .before .before .before .before .before .before .before .before .before .before .before .before .before .before .before .before .before .before .before .before .before .before .before))
 
 array-set-from-tallies : tie.Need-array-set-from-tallies Inv-loop μ-loop
-array-set-from-tallies c = omega (arith, thread-low (c .before .before .before .before .before .before .before .before .before .before .before .before .before .before .before .before .before .before .before .before .before .before .before .before))
+array-set-from-tallies c = omega (arith, thread-low (c .before .before .before .before .before .before .before .before .before .before .before .before .before .before .before .before .before .before .before .before .before .before .before .before .before .before))
 
-add-i-4 : tie.Need-add-i-4 Inv-loop μ-loop
-add-i-4 c = omega (arith, c .before .before .before .before .before .before .before .before .before .before .before .before .before .before .before .before .before .before .before .before .before .before .before .before .before .before .before .before .before .before .before .before .before .before .before .before .loop-test .taken, c .before .before .before .before .before .before .before .before .before .before .before .before .before .before .before .before .before .before .before .before .before .before .before .before .before .before .before .before .before .before .before .before .before .before .before .before .before .before .before .good)
+add-i-5 : tie.Need-add-i-5 Inv-loop μ-loop
+add-i-5 c = omega (arith, c .before .before .before .before .before .before .before .before .before .before .before .before .before .before .before .before .before .before .before .before .before .before .before .before .before .before .before .before .before .before .before .before .before .before .before .before .before .loop-test .taken, c .before .before .before .before .before .before .before .before .before .before .before .before .before .before .before .before .before .before .before .before .before .before .before .before .before .before .before .before .before .before .before .before .before .before .before .before .before .before .before .before .before .good)
 
-loop-less-4 : tie.Need-loop-less-4 Inv-loop μ-loop
-loop-less-4 c = omega (arith, c .before .before .before .before .before .before .before .before .before .before .before .before .before .before .before .before .before .before .before .before .before .before .before .before .before .before .before .before .before .before .before .before .before .before .before .before .loop-test .taken)
+loop-less-5 : tie.Need-loop-less-5 Inv-loop μ-loop
+loop-less-5 c = omega (arith, c .before .before .before .before .before .before .before .before .before .before .before .before .before .before .before .before .before .before .before .before .before .before .before .before .before .before .before .before .before .before .before .before .before .before .before .before .before .loop-test .taken)
 
-loop-again-4 : tie.Need-loop-again-4 Inv-loop μ-loop
-loop-again-4 c =
-    let d = c .before .before .before .before .before .before .before .before .before .before .before .before .before .before .before .before .before .before .before .before in
-    let u = turn (line (d .before .before .before .before)) in
-    let l = is-named (d .before .before .before .before) in
+loop-again-5 : tie.Need-loop-again-5 Inv-loop μ-loop
+loop-again-5 c =
+    let d = c .before .before .before .before .before .before .before .before .before .before .before .before .before .before .before .before .before .before .before .before .before .before in
+    let h = head (row d) in
+    let u = turn h in
+    let l = is-named (row d) in
     let o = variable-known d in
-    let s = d .before .before .before .before .before .before .before .before .before .before .before .before .before .before .before .before .before .loop .s in
-    let n = numbers-valued u l (is-variable d) (valued (line (d .before .before .before .before))) in
-    let i = c .before .before .before .before .before .before .before .before .before .before .before .before .before .before .before .before .before .before .before .cell-place .ensures .0 in
-    let h = stores-arm (d .before .before .before .before .before .before .before .before .before .before .before .before .before .letter-in .result) (c .before .before .before .before .before .before .before .before .before .before .before .before .before .before .before .if12 .taken) in
-    turn-more u l o _ (stores-rule s _ n (o .within) h i (c .before .before .before .before .before .before .before .before .before .before .before .before .before .slot-place3 .ensures .0) (c .before .before .before .before .before .before .before .before .before .before .before .before .slot-place4 .ensures .0) (c .before .before .before .before .before .before .before .stores-turn .ensures)) (c .before .before .before .before .before .if13 .left) _ (stores-put s _ n (o .within) h i (c .before .before .before .before .before .before .before .before .before .before .before .before .before .slot-place3 .ensures .0) (c .before .before .before .before .before .before .before .before .before .before .before .before .slot-place4 .ensures .0) (c .before .before .before .before .before .before .before .stores-turn .ensures)) _ (tallied-at s _ _ _ _ (u .running .shape .cells) (thread-low (d .before .before .before .before)) (variable-low d) (d .if7 .left) refl i refl _ (u .running .tallied) (c .tally-after .ensures))
+    let n = by-numbers d in
+    let i = c .before .before .before .before .before .before .before .before .before .before .before .before .before .before .before .before .before .before .before .cell-place2 .ensures .0 in
+    let k = kept (c .before .before .before .before .before .before .before .before .before .before .before .before .before .before .before .before .before .before .before .before) in
+    let r = stores-arm (letter h) (c .before .before .before .before .before .before .before .before .before .before .before .before .before .before .before .if15 .taken) in
+    turn-more u l o _ (unled _ _ _ k (stores-rule (state h) _ n (o .within) r i (c .before .before .before .before .before .before .before .before .before .before .before .before .before .slot-place3 .ensures .0) (c .before .before .before .before .before .before .before .before .before .before .before .before .slot-place4 .ensures .0) (c .before .before .before .before .before .before .before .stores-turn .ensures))) (c .before .before .before .before .before .if16 .left) _ (stores-put (state h) _ n (o .within) r i (c .before .before .before .before .before .before .before .before .before .before .before .before .before .slot-place3 .ensures .0) (c .before .before .before .before .before .before .before .before .before .before .before .before .slot-place4 .ensures .0) (c .before .before .before .before .before .before .before .stores-turn .ensures)) _ (tallied-at (state h) _ _ _ _ (u .running .shape .cells) (thread-low (row d)) (variable-low d) (d .if7 .left) refl i refl _ (u .running .tallied) (c .tally-after .ensures))
 
 mul-last-4 : tie.Need-mul-last-4 Inv-loop μ-loop
 mul-last-4 c = omega arith
@@ -451,68 +591,76 @@ element-copy-out-last-4 c = omega arith
 cell-turn-requires : tie.Need-cell-turn-requires Inv-loop μ-loop
 cell-turn-requires c κs = search needs
 
-refuse-requires-10 : tie.Need-refuse-requires-10 Inv-loop μ-loop
-refuse-requires-10 c κs = search needs
+refuse-after-requires-11 : tie.Need-refuse-after-requires-11 Inv-loop μ-loop
+refuse-after-requires-11 c κs = search needs
 
-returns-10 : tie.Need-returns-10 Inv-loop μ-loop
-returns-10 c =
-    let d = c .before .before .before .before .before .before .before .before .before .before in
-    let u = turn (line (d .before .before .before .before)) in
-    let l = is-named (d .before .before .before .before) in
+returns-11 : tie.Need-returns-11 Inv-loop μ-loop
+returns-11 c =
+    let d = c .before .before .before .before .before .before .before .before .before .before .before .before in
+    let h = head (row d) in
+    let u = turn h in
+    let l = is-named (row d) in
     let o = variable-known d in
-    let s = d .before .before .before .before .before .before .before .before .before .before .before .before .before .before .before .before .before .loop .s in
-    let n = numbers-valued u l (is-variable d) (valued (line (d .before .before .before .before))) in
-    let i = c .before .before .before .before .before .before .before .before .before .cell-place .ensures .0 in
-    let h = cell-arm (d .before .before .before .before .before .before .before .before .before .before .before .before .before .letter-in .result) l (is-variable d) (c .before .before .before .before .before .before .if10 .left) (c .before .before .before .before .before .if12 .left) in
-    c .refuse10 .ensures ∙ ap (stopped (c .before .before .before .cell-turn .result .rule)) (c .before .before .before .before .before .before .before .before .before .before .before .before .before .before .before .before .before .before .before .line-after .ensures) ∙ ap outcomeOf (turn-broken u l o _ (cell-rule s _ n (o .within) h i (c .before .before .before .cell-turn .ensures)) (c .before .if14 .taken))
+    let n = by-numbers d in
+    let i = c .before .before .before .before .before .before .before .before .before .cell-place2 .ensures .0 in
+    let k = kept (c .before .before .before .before .before .before .before .before .before .before) in
+    let r = cell-arm (letter h) l (is-variable d) (c .before .before .before .before .before .before .if13 .left) (c .before .before .before .before .before .if15 .left) in
+    c .refuse-after11 .ensures ∙ lined h _ ∙ ap outcomeOf (turn-broken u l o _ (unled _ _ _ k (cell-rule (state h) _ n (o .within) r i (c .before .before .before .cell-turn .ensures))) (c .before .if17 .taken))
 
 mul-tally-3 : tie.Need-mul-tally-3 Inv-loop μ-loop
-mul-tally-3 c = omega (arith, thread-low (c .before .before .before .before .before .before .before .before .before .before .before .before .before .before))
+mul-tally-3 c = omega (arith, thread-low (c .before .before .before .before .before .before .before .before .before .before .before .before .before .before .before .before))
 
 array-copy-out-tally-3 : tie.Need-array-copy-out-tally-3 Inv-loop μ-loop
-array-copy-out-tally-3 c = omega (arith, thread-low (c .before .before .before .before .before .before .before .before .before .before .before .before .before .before))
+array-copy-out-tally-3 c = omega (arith, thread-low (c .before .before .before .before .before .before .before .before .before .before .before .before .before .before .before .before))
 
 tally-after-requires-2 : tie.Need-tally-after-requires-2 Inv-loop μ-loop
 tally-after-requires-2 c κs =
-    let d = c .before .before .before .before .before .before .before .before .before .before .before in
-    let u = turn (line (d .before .before .before .before)) in
-    small (d .before .before .before .before .before .before .before .before .before .before .before .before .before .before .before .before .before .loop .s) _ _ (u .running .variables) (u .running .tallied .each _ (thread-low (d .before .before .before .before)))
+    let r = row (c .before .before .before .before .before .before .before .before .before .before .before .before .before) in
+    small (state (head r)) _ _ (turn (head r) .running .variables) (turn (head r) .running .tallied .each _ (thread-low r))
 
-mul-cell-3 : tie.Need-mul-cell-3 Inv-loop μ-loop
-mul-cell-3 c = omega (arith, c .before .before .before .before .before .before .before .before .before .before .before .cell-place .ensures .1)
+mul-cell-4 : tie.Need-mul-cell-4 Inv-loop μ-loop
+mul-cell-4 c = omega (arith, c .before .before .before .before .before .before .before .before .before .before .before .cell-place2 .ensures .1)
 
-element-set-from-cell-3 : tie.Need-element-set-from-cell-3 Inv-loop μ-loop
-element-set-from-cell-3 c = omega (arith, c .before .before .before .before .before .before .before .before .before .before .before .cell-place .ensures .1)
+element-set-from-cell-4 : tie.Need-element-set-from-cell-4 Inv-loop μ-loop
+element-set-from-cell-4 c = omega (arith, c .before .before .before .before .before .before .before .before .before .before .before .cell-place2 .ensures .1)
 
 mul-tallies-2 : tie.Need-mul-tallies-2 Inv-loop μ-loop
-mul-tallies-2 c = omega (arith, thread-low (c .before .before .before .before .before .before .before .before .before .before .before .before .before .before .before .before))
+mul-tallies-2 c = omega (arith, thread-low (c .before .before .before .before .before .before .before .before .before .before .before .before .before .before .before .before .before .before))
 
 array-set-from-tallies-2 : tie.Need-array-set-from-tallies-2 Inv-loop μ-loop
-array-set-from-tallies-2 c = omega (arith, thread-low (c .before .before .before .before .before .before .before .before .before .before .before .before .before .before .before .before))
+array-set-from-tallies-2 c = omega (arith, thread-low (c .before .before .before .before .before .before .before .before .before .before .before .before .before .before .before .before .before .before))
 
-add-i-5 : tie.Need-add-i-5 Inv-loop μ-loop
-add-i-5 c = omega (arith, c .before .before .before .before .before .before .before .before .before .before .before .before .before .before .before .before .before .before .before .before .before .before .before .before .before .before .before .before .loop-test .taken, c .before .before .before .before .before .before .before .before .before .before .before .before .before .before .before .before .before .before .before .before .before .before .before .before .before .before .before .before .before .before .before .good)
+add-i-6 : tie.Need-add-i-6 Inv-loop μ-loop
+add-i-6 c = omega (arith, c .before .before .before .before .before .before .before .before .before .before .before .before .before .before .before .before .before .before .before .before .before .before .before .before .before .before .before .before .before .loop-test .taken, c .before .before .before .before .before .before .before .before .before .before .before .before .before .before .before .before .before .before .before .before .before .before .before .before .before .before .before .before .before .before .before .before .before .good)
 
-loop-less-5 : tie.Need-loop-less-5 Inv-loop μ-loop
-loop-less-5 c = omega (arith, c .before .before .before .before .before .before .before .before .before .before .before .before .before .before .before .before .before .before .before .before .before .before .before .before .before .before .before .before .loop-test .taken)
+loop-less-6 : tie.Need-loop-less-6 Inv-loop μ-loop
+loop-less-6 c = omega (arith, c .before .before .before .before .before .before .before .before .before .before .before .before .before .before .before .before .before .before .before .before .before .before .before .before .before .before .before .before .before .loop-test .taken)
 
-loop-again-5 : tie.Need-loop-again-5 Inv-loop μ-loop
-loop-again-5 c =
-    let d = c .before .before .before .before .before .before .before .before .before .before .before .before in
-    let u = turn (line (d .before .before .before .before)) in
-    let l = is-named (d .before .before .before .before) in
+loop-again-6 : tie.Need-loop-again-6 Inv-loop μ-loop
+loop-again-6 c =
+    let d = c .before .before .before .before .before .before .before .before .before .before .before .before .before .before in
+    let h = head (row d) in
+    let u = turn h in
+    let l = is-named (row d) in
     let o = variable-known d in
-    let s = d .before .before .before .before .before .before .before .before .before .before .before .before .before .before .before .before .before .loop .s in
-    let n = numbers-valued u l (is-variable d) (valued (line (d .before .before .before .before))) in
-    let i = c .before .before .before .before .before .before .before .before .before .before .before .cell-place .ensures .0 in
-    let h = cell-arm (d .before .before .before .before .before .before .before .before .before .before .before .before .before .letter-in .result) l (is-variable d) (c .before .before .before .before .before .before .before .before .if10 .left) (c .before .before .before .before .before .before .before .if12 .left) in
-    turn-more u l o _ (cell-rule s _ n (o .within) h i (c .before .before .before .before .before .cell-turn .ensures)) (c .before .before .before .if14 .left) _ (cell-put s _ n (o .within) h i (c .before .before .before .before .before .cell-turn .ensures)) _ (tallied-at s _ _ _ _ (u .running .shape .cells) (thread-low (d .before .before .before .before)) (variable-low d) (d .if7 .left) refl i refl _ (u .running .tallied) (c .tally-after2 .ensures))
+    let n = by-numbers d in
+    let i = c .before .before .before .before .before .before .before .before .before .before .before .cell-place2 .ensures .0 in
+    let k = kept (c .before .before .before .before .before .before .before .before .before .before .before .before) in
+    let r = cell-arm (letter h) l (is-variable d) (c .before .before .before .before .before .before .before .before .if13 .left) (c .before .before .before .before .before .before .before .if15 .left) in
+    turn-more u l o _ (unled _ _ _ k (cell-rule (state h) _ n (o .within) r i (c .before .before .before .before .before .cell-turn .ensures))) (c .before .before .before .if17 .left) _ (cell-put (state h) _ n (o .within) r i (c .before .before .before .before .before .cell-turn .ensures)) _ (tallied-at (state h) _ _ _ _ (u .running .shape .cells) (thread-low (row d)) (variable-low d) (d .if7 .left) refl i refl _ (u .running .tallied) (c .tally-after2 .ensures))
+
+copies-of-requires : tie.Need-copies-of-requires Inv-loop μ-loop
+copies-of-requires c κs = search needs
 
 accept-requires : tie.Need-accept-requires Inv-loop μ-loop
 accept-requires c κs = search needs
 
-returns-11 : tie.Need-returns-11 Inv-loop μ-loop
-returns-11 c = c .accept .ensures ∙ memories-in (c .before .before .before .before .before .loop .s) ∙ ap outcomeOf (running-end (c .before .before .before .before .before .loop .inv) (c .before .before .before .before .loop-test .left))
+returns-12 : tie.Need-returns-12 Inv-loop μ-loop
+returns-12 c =
+    let z = c .before .before .before .before .before .before .loop .s in
+    let r = c .before .before .before .before .before .before .loop .inv in
+    let b = c .before .copies-of .ensures in
+    c .accept .ensures ∙ memories-of z (r .shape .memory) b ∙ memories-in z ∙ ap outcomeOf (running-end r (c .before .before .before .before .before .loop-test .left))
 
 pub run-spec : {M : Type 1} → statement M
 run-spec =
@@ -528,18 +676,17 @@ run-spec =
     letter-in-requires
     thread-in-requires
     place-in-requires
-    line-after-requires
     is-letter-requires
-    refuse-requires
+    refuse-after-requires
     returns
-    refuse-requires-2
+    refuse-after-requires-2
     returns-2
-    refuse-requires-3
+    refuse-after-requires-3
     returns-3
     add-events
     cast-p
     is-lock-letter-requires
-    refuse-requires-4
+    refuse-after-requires-4
     returns-4
     mul-tally
     array-copy-out-tally
@@ -549,7 +696,7 @@ run-spec =
     mul-last
     element-copy-out-last
     lock-turn-requires
-    refuse-requires-5
+    refuse-after-requires-5
     returns-5
     mul-s
     element-write-s
@@ -558,19 +705,33 @@ run-spec =
     add-i
     loop-less
     loop-again
-    refuse-requires-6
+    refuse-after-requires-6
     returns-6
+    element-copy-out-if8
     cell-place-requires
+    mul-own
+    element-copy-out-own
+    lead-of-requires
+    refuse-after-requires-7
+    returns-7
+    cell-place-requires-2
     mul-c
     element-copy-out-c
     mul-last-2
     element-copy-out-last-2
     use-rule-requires
-    refuse-requires-7
-    returns-7
+    refuse-after-requires-8
+    returns-8
+    is-used-requires
     add-i-2
     loop-less-2
     loop-again-2
+    used-requires
+    mul-cell
+    element-set-from-cell
+    add-i-3
+    loop-less-3
+    loop-again-3
     slot-place-requires
     slot-place-requires-2
     mul-front
@@ -580,15 +741,15 @@ run-spec =
     mul-main
     element-copy-out-main
     reads-turn-requires
-    refuse-requires-8
-    returns-8
-    mul-cell
-    element-set-from-cell
+    refuse-after-requires-9
+    returns-9
+    mul-cell-2
+    element-set-from-cell-2
     mul-slot
     element-set-from-slot
-    add-i-3
-    loop-less-3
-    loop-again-3
+    add-i-4
+    loop-less-4
+    loop-again-4
     slot-place-requires-3
     slot-place-requires-4
     mul-front-2
@@ -600,36 +761,37 @@ run-spec =
     mul-last-3
     element-copy-out-last-3
     stores-turn-requires
-    refuse-requires-9
-    returns-9
+    refuse-after-requires-10
+    returns-10
     mul-tally-2
     array-copy-out-tally-2
     tally-after-requires
-    mul-cell-2
-    element-set-from-cell-2
+    mul-cell-3
+    element-set-from-cell-3
     mul-slot-2
     element-set-from-slot-2
     mul-left
     element-set-from-left
     mul-tallies
     array-set-from-tallies
-    add-i-4
-    loop-less-4
-    loop-again-4
-    mul-last-4
-    element-copy-out-last-4
-    cell-turn-requires
-    refuse-requires-10
-    returns-10
-    mul-tally-3
-    array-copy-out-tally-3
-    tally-after-requires-2
-    mul-cell-3
-    element-set-from-cell-3
-    mul-tallies-2
-    array-set-from-tallies-2
     add-i-5
     loop-less-5
     loop-again-5
+    mul-last-4
+    element-copy-out-last-4
+    cell-turn-requires
+    refuse-after-requires-11
+    returns-11
+    mul-tally-3
+    array-copy-out-tally-3
+    tally-after-requires-2
+    mul-cell-4
+    element-set-from-cell-4
+    mul-tallies-2
+    array-set-from-tallies-2
+    add-i-6
+    loop-less-6
+    loop-again-6
+    copies-of-requires
     accept-requires
-    returns-11)
+    returns-12)

@@ -60,6 +60,9 @@ value-of-requires c κs = search needs
 any-turn-requires : tie.Need-any-turn-requires
 any-turn-requires c κs = search needs
 
+lead-of-requires : tie.Need-lead-of-requires
+lead-of-requires c κs = search needs
+
 cell-place-requires : tie.Need-cell-place-requires
 cell-place-requires c κs = search needs
 
@@ -89,48 +92,51 @@ element-set-from-store c = search needs
 
 mul-next : tie.Need-mul-next
 mul-next c =
-    let u = c .before .before .before .before .before .before .before .before .before .before .before .before .before .before .before .before .before .before .before .before .before .before .before .pre .within in
-    let f = c .before .before .before .before .before .before .before .before .before .before .before .before .before .before .before .before in
+    let u = c .before .before .before .before .before .before .before .before .before .before .before .before .before .before .before .before .before .before .before .before .before .before .before .before .before .before .pre .within in
+    let f = c .before .before .before .before .before .before .before .before .before .before .before .before .before .before .before .before .before .before .before in
     omega (arith, u .thread, variable f, u .variable, lock f, u .lock)
 
 element-write-next : tie.Need-element-write-next
 element-write-next c =
-    let u = c .before .before .before .before .before .before .before .before .before .before .before .before .before .before .before .before .before .before .before .before .before .before .before .pre .within in
-    let f = c .before .before .before .before .before .before .before .before .before .before .before .before .before .before .before .before in
+    let u = c .before .before .before .before .before .before .before .before .before .before .before .before .before .before .before .before .before .before .before .before .before .before .before .before .before .before .pre .within in
+    let f = c .before .before .before .before .before .before .before .before .before .before .before .before .before .before .before .before .before .before .before in
     omega (arith, u .thread, variable f, u .variable, lock f, u .lock)
 
 mul-hold : tie.Need-mul-hold
 mul-hold c =
-    let u = c .before .before .before .before .before .before .before .before .before .before .before .before .before .before .before .before .before .before .before .before .before .before .before .pre .within in
-    let f = c .before .before .before .before .before .before .before .before .before .before .before .before .before .before .before .before in
+    let u = c .before .before .before .before .before .before .before .before .before .before .before .before .before .before .before .before .before .before .before .before .before .before .before .before .before .before .pre .within in
+    let f = c .before .before .before .before .before .before .before .before .before .before .before .before .before .before .before .before .before .before .before in
     omega (arith, u .thread, variable f, u .variable, lock f, u .lock)
 
 element-set-from-hold : tie.Need-element-set-from-hold
 element-set-from-hold c =
-    let u = c .before .before .before .before .before .before .before .before .before .before .before .before .before .before .before .before .before .before .before .before .before .before .before .pre .within in
-    let f = c .before .before .before .before .before .before .before .before .before .before .before .before .before .before .before .before in
+    let u = c .before .before .before .before .before .before .before .before .before .before .before .before .before .before .before .before .before .before .before .before .before .before .before .before .before .before .pre .within in
+    let f = c .before .before .before .before .before .before .before .before .before .before .before .before .before .before .before .before .before .before .before in
     omega (arith, u .thread, variable f, u .variable, lock f, u .lock)
 
 mul-main : tie.Need-mul-main
 mul-main c =
-    let u = c .before .before .before .before .before .before .before .before .before .before .before .before .before .before .before .before .before .before .before .before .before .before .before .pre .within in
-    let f = c .before .before .before .before .before .before .before .before .before .before .before .before .before .before .before .before in
+    let u = c .before .before .before .before .before .before .before .before .before .before .before .before .before .before .before .before .before .before .before .before .before .before .before .before .before .before .pre .within in
+    let f = c .before .before .before .before .before .before .before .before .before .before .before .before .before .before .before .before .before .before .before in
     omega (arith, u .thread, variable f, u .variable, lock f, u .lock)
 
 element-set-from-main : tie.Need-element-set-from-main
 element-set-from-main c =
-    let u = c .before .before .before .before .before .before .before .before .before .before .before .before .before .before .before .before .before .before .before .before .before .before .before .pre .within in
-    let f = c .before .before .before .before .before .before .before .before .before .before .before .before .before .before .before .before in
+    let u = c .before .before .before .before .before .before .before .before .before .before .before .before .before .before .before .before .before .before .before .before .before .before .before .before .before .before .pre .within in
+    let f = c .before .before .before .before .before .before .before .before .before .before .before .before .before .before .before .before .before .before .before in
     omega (arith, u .thread, variable f, u .variable, lock f, u .lock)
+
+either-requires : tie.Need-either-requires
+either-requires c κs = search needs
 
 returns : tie.Need-returns
 returns c =
-    let a = c .before .before .before .before .before .before .before .before .before .before .before .before .before .before .before .before .before .before .before .before .before .before .before in
-    let f = c .before .before .before .before .before .before .before .before .before .before .before .before .before .before .before .before in
-    turn-taken (a .args .s) (a .args .e) (a .pre) (c .before .before .before .before .before .before .before .before .before .before .before .before .before .before .before .before .before .before .before .before .before .before .letter-of .ensures) (variable f) (lock f)
-    (toZ-ofZ valueWidth (c .before .before .before .before .before .before .before .before .before .before .before .before .value-of .result) (record { sfits = c .before .before .before .before .before .before .before .before .before .before .before .before .value-of .ok }) ∙ c .before .before .before .before .before .before .before .before .before .before .before .before .value-of .ensures)
-    (c .before .before .before .before .before .before .before .before .before .before .before .before .before .before .before .parts-of .ensures) (some-is (a .args .s) _ _ _ (c .before .before .before .before .before .before .before .before .before .before .before .before .before .before .tally-of .ensures) (c .before .before .before .before .before .before .before .before .before .before .before .before .before .some-in .ensures)) (c .before .before .before .before .before .before .before .before .before .before .before .any-turn .ensures)
-    (c .before .before .before .before .before .before .before .cell-place .ensures .0) (c .before .before .before .before .before .before .slot-place .ensures .0) (c .before .before .before .before .before .slot-place2 .ensures .0)
+    let a = c .before .before .before .before .before .before .before .before .before .before .before .before .before .before .before .before .before .before .before .before .before .before .before .before .before .before .before in
+    let f = c .before .before .before .before .before .before .before .before .before .before .before .before .before .before .before .before .before .before .before .before in
+    let v = c .before .before .before .before .before .before .before .before .before .before .before .before .before .before .before .before .value-of in
+    turn-taken (a .args .s) (a .args .e) (a .pre) (c .before .before .before .before .before .before .before .before .before .before .before .before .before .before .before .before .before .before .before .before .before .before .before .before .before .before .letter-of .ensures) (variable f) (lock f) (toZ-ofZ valueWidth (v .result) (record { sfits = v .ok }) ∙ v .ensures)
+    (c .before .before .before .before .before .before .before .before .before .before .before .before .before .before .before .before .before .before .before .parts-of .ensures) (some-is (a .args .s) _ _ _ (c .before .before .before .before .before .before .before .before .before .before .before .before .before .before .before .before .before .before .tally-of .ensures) (c .before .before .before .before .before .before .before .before .before .before .before .before .before .before .before .before .before .some-in .ensures)) (c .before .before .before .before .before .before .before .before .before .before .before .before .before .before .before .any-turn .ensures) (c .before .before .before .before .before .before .before .before .before .before .before .lead-of .ensures) (c .either .ensures)
+    (c .before .before .before .before .before .before .before .before .cell-place .ensures .0) (c .before .before .before .before .before .before .before .slot-place .ensures .0) (c .before .before .before .before .before .before .slot-place2 .ensures .0)
 
 pub take-turn-spec : {M : Type 1} → statement M
 take-turn-spec =
@@ -148,6 +154,7 @@ take-turn-spec =
     some-in-requires
     value-of-requires
     any-turn-requires
+    lead-of-requires
     cell-place-requires
     slot-place-requires
     slot-place-requires-2
@@ -163,4 +170,5 @@ take-turn-spec =
     element-set-from-hold
     mul-main
     element-set-from-main
+    either-requires
     returns)

@@ -7,7 +7,7 @@ use mathlib.Core.Option.{Option, none, some}
 use Rattle.rules.specs.declared.Event.{Event}
 use Rattle.rules.specs.declared.Main.{Main}
 use Rattle.rules.specs.declared.Verdict.the-variants as verdict
-use Rattle.rules.specs.Limits.{Limits, full, lineAfter}
+use Rattle.rules.specs.Limits.{Limits, full, noVolatiles, lineAfter}
 use Rattle.rules.specs.Memories.{memoriesOf, noMemories}
 use Rattle.rules.specs.Rules.{accepted, refused}
 use Rattle.state.specs.declared.Cell.{Cell}
@@ -30,7 +30,7 @@ outcomeOf a = record { verdict = a .verdict; memories = elim (a .verdict) [ verd
 
 -- a state with these parts, on which alone its memories hang
 abbrev pub stateOf : List Cell → List ℕ → List Main → State
-stateOf cells locked main = record { counts = record { threads = 0; variables = 0; locks = 0 }; events = 0; cells = cells; reads = []; stores = []; locked = locked; holds = []; memory = main }
+stateOf cells locked main = record { counts = record { threads = 0; variables = 0; locks = 0; volatiles = noVolatiles }; events = 0; cells = cells; reads = []; stores = []; locked = locked; holds = []; memory = main }
 
 -- a state in range with room for an event whose places are in it
 pub record Turnable (s : State) (e : Event) : Type 0 where

@@ -5,7 +5,7 @@ use mathlib.Core.Path.{_≡_, refl}
 use borrow.Author.Needs.{needs}
 use Rattle.ordering.specs.Computed.Parts.{pendingIn}
 use Rattle.rules.specs.Rules.{some}
-use Rattle.ordering.proofs.Loops.{some-none, some-more, some-end}
+use Rattle.rules.proofs.Laws.{some-start, some-more, some-end}
 use Rattle.ordering.proofs.owes_some.Statement.{statement}
 use Rattle.ordering.proofs.owes_some.Tie as tie
 
@@ -16,7 +16,7 @@ abbrev μ-loop : tie.MeasureT-loop
 μ-loop pending t n any₀ v₀ any v = n - v
 
 loop-holds : tie.Need-loop-holds Inv-loop μ-loop
-loop-holds c = (omega arith, some-none _)
+loop-holds c = (omega arith, some-start _)
 
 mul-any : tie.Need-mul-any Inv-loop μ-loop
 mul-any c = search needs

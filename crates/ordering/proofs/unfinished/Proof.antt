@@ -9,7 +9,7 @@ use denote.Ref.{now}
 use borrow.Author.Needs.{needs}
 use Rattle.ordering.specs.Computed.Parts.{pendingIn, unfinishedIn}
 use Rattle.rules.specs.Rules.{some}
-use Rattle.ordering.proofs.Loops.{some-none, some-more, some-end}
+use Rattle.rules.proofs.Laws.{some-start, some-more, some-end}
 use Rattle.ordering.proofs.unfinished.Statement.{statement}
 use Rattle.ordering.proofs.unfinished.Tie as tie
 
@@ -20,7 +20,7 @@ abbrev μ-loop : tie.MeasureT-loop
 μ-loop h depths pending any₀ t₀ any t = h .threads - t
 
 loop-holds : tie.Need-loop-holds Inv-loop μ-loop
-loop-holds c = (omega arith, some-none _)
+loop-holds c = (omega arith, some-start _)
 
 mul-a : tie.Need-mul-a Inv-loop μ-loop
 mul-a c = search needs

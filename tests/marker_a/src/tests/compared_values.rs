@@ -119,7 +119,7 @@ fn plain_memory() {
     for (x, y) in pairs() {
         let events =
             events_of(&format!("K 0 0; A 0 0 {x}; U 0 0 {y}; P 0 0 {y}; U 0 0 {x}; B 0 0 {y}; U 0 0 {x}; A 0 1 {x}; N 0 0"));
-        let (uses, memory) = plain_run(&sections(&events), &events);
+        let (uses, memory) = plain_run(TWO, &sections(TWO, &events), &events);
         let given = |line, given, stated| Given { line, given, stated };
         assert_eq!(uses, [given(5, x, y), given(7, x, x), given(9, y, x)]);
         assert_eq!(memory[..2], [y, x]);

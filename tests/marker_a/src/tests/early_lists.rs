@@ -163,22 +163,22 @@ fn check_all(counts: Counts, kinds: &'static [Kind], longest: usize) {
 
 #[test]
 fn every_kind() {
-    check_all(Counts { threads: 1, variables: 1, locks: 1 }, &[U, A, L, S, R, W, K, N, P, B], 8);
+    check_all(Counts::plain(1, 1, 1), &[U, A, L, S, R, W, K, N, P, B], 8);
 }
 
 #[test]
 fn kinds_at_unlock() {
-    check_all(Counts { threads: 1, variables: 1, locks: 1 }, AT_UNLOCK, 10);
+    check_all(Counts::plain(1, 1, 1), AT_UNLOCK, 10);
 }
 
 #[test]
 fn two_variables_and_locks() {
-    check_all(Counts { threads: 1, variables: 2, locks: 2 }, AT_UNLOCK, 7);
+    check_all(Counts::plain(1, 2, 2), AT_UNLOCK, 7);
 }
 
 #[test]
 fn two_threads() {
-    check_all(Counts { threads: 2, variables: 1, locks: 1 }, AT_UNLOCK, 7);
+    check_all(Counts::plain(2, 1, 1), AT_UNLOCK, 7);
 }
 
 #[test]

@@ -15,7 +15,7 @@ fn no(events: &str, number: u32) {
 #[test]
 fn row_of_n() {
     let row = ROWS.into_iter().find(|(kind, _)| *kind == N);
-    assert_eq!(row, Some((N, &[12, 15, 16][..])));
+    assert_eq!(row, Some((N, &[26, 27, 28, 12, 15, 16][..])));
 }
 
 /// Which of the outstanding stores of thread 0 on variable 0 count, by their places.
@@ -227,8 +227,8 @@ fn serial_order_with_a_waiting_store() {
     assert_eq!(print(&paper), printed);
     let o = outcome(&paper);
     assert_eq!(demand3(&o), Ok(()));
-    let list = sections(&o.events);
-    let (uses, memory) = plain_run(&list, &o.events);
+    let list = sections(TWO, &o.events);
+    let (uses, memory) = plain_run(TWO, &list, &o.events);
     let given = |line, value| Given { line, given: value, stated: value };
     assert_eq!(uses, [given(12, 3), given(25, 5), given(18, 3), given(30, 5)]);
     assert_eq!(memory[..2], [5, 4]);

@@ -131,7 +131,7 @@ fn f12_body() {
     let paper = closed(&format!("{SMALL}A 0 0 5\nA 0 0 6\n"));
     let parts = crate::paper::find(&paper).expect("parts");
     assert_eq!(parts.body, b"A 0 0 5\nA 0 0 6\n");
-    assert_eq!(parts.counts, Counts { threads: 1, variables: 1, locks: 0 });
+    assert_eq!(parts.counts, Counts::plain(1, 1, 0));
     assert_eq!(parts.guards, None);
     assert_eq!(crate::paper::find(&closed(SMALL)).expect("parts").body, b"");
 }
@@ -316,6 +316,12 @@ fn h6_other_letters() {
         let letter = b"UALSRWKNPB".contains(&byte);
         let four = [TRACE_HEAD.as_bytes(), &[byte], b" 0 0 0\n"].concat();
         let three = [TRACE_HEAD.as_bytes(), &[byte], b" 0 0\n"].concat();
+        if byte == b'V' {
+            // A line 3 of this byte is a `V` line, and these two name a variable twice.
+            expect_refused(&with_trailer(&four), 3, 6);
+            expect_refused(&with_trailer(&three), 3, 6);
+            continue;
+        }
         let malformed = |paper: &[u8]| first_line(paper) == "refused 3 4";
         let lock_letter = b"KN".contains(&byte);
         assert_eq!(malformed(&with_trailer(&four)), !letter || lock_letter);

@@ -2,7 +2,7 @@
 
 use super::*;
 use crate::listing::listing;
-use crate::{Outcome, Section, UsableCopy, Verdict, MAX_BYTES, MAX_EVENTS, MAX_THREADS, MAX_VARIABLES};
+use crate::{Outcome, Section, UsableCopy, Verdict, FULL, MAX_BYTES, MAX_EVENTS, MAX_THREADS};
 
 /// 7: "output under 32,768 bytes".
 const OUTPUT: usize = 32_768;
@@ -63,8 +63,10 @@ fn longest_listing_of_a_paper() {
     let mut expected = format!("accepted {MAX_EVENTS}\n");
     (0..16).for_each(|v| expected += &format!("main {v} {LONGEST}\n"));
     cells().for_each(|(t, v)| expected += &format!("copy {t} {v} {LONGEST}\n"));
-    expected += &format!("section 0 3 {}\n", line_of(241));
-    (0..863).for_each(|n| expected += &format!("section 7 {} {}\n", line_of(242 + 2 * n), line_of(243 + 2 * n)));
+    expected += &format!("section 0 3 {}\n", line_of(FULL.counts, 241));
+    (0..863).for_each(|n| {
+        expected += &format!("section 7 {} {}\n", line_of(FULL.counts, 242 + 2 * n), line_of(FULL.counts, 243 + 2 * n))
+    });
     let events = longest_events();
     assert_eq!(events_of(&events).len(), MAX_EVENTS);
     let paper = paper_of(&head, &events);
@@ -81,7 +83,7 @@ fn longest_listing_of_all() {
     let section = Section { thread: 7, first: 2_001, last: 2_002, last_lock: 2_001 };
     let o = Outcome {
         verdict: Verdict::Accepted(MAX_EVENTS),
-        counts: Some(Counts { threads: 8, variables: 16, locks: 8 }),
+        counts: Some(Counts::plain(8, 16, 8)),
         guards: Some(vec![0; 16]),
         events: Vec::new(),
         main: vec![Value::MIN; 16],

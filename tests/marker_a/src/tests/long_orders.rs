@@ -8,6 +8,8 @@ use crate::{denial, sections, Outcome, Section, Verdict, MAX_EVENTS};
 const SCRATCH: usize = 1_000;
 /// 8 threads and locks; lock 0 guards the only variable.
 const HEAD: &str = "H 8 1 8\nG 0\n";
+/// The counts of that head.
+const COUNTS: Counts = Counts::plain(8, 1, 8);
 
 /// The order of a list in which every section ends, from one number for each section: the line of
 /// its last K. The events are followed one by one. A section goes to the place that is the number
@@ -18,7 +20,7 @@ fn from_scratch(events: &[Event]) -> Vec<Section> {
     // How many locks each thread holds, and the place of its latest section in the list.
     let (mut depth, mut latest) = ([0; 8], [0; 8]);
     for (i, e) in events.iter().enumerate() {
-        let (t, line) = (e.thread as usize, line_of(i));
+        let (t, line) = (e.thread as usize, line_of(COUNTS, i));
         match e.kind {
             K => {
                 if depth[t] == 0 {
@@ -49,10 +51,10 @@ fn from_scratch(events: &[Event]) -> Vec<Section> {
 fn expect_order(events: &str, order: impl IntoIterator<Item = (u32, usize, usize)>) {
     let list = events_of(events);
     assert_eq!(list.len(), MAX_EVENTS);
-    let line = |(t, first, last)| format!("section {t} {} {}", line_of(first), line_of(last));
+    let line = |(t, first, last)| format!("section {t} {} {}", line_of(COUNTS, first), line_of(COUNTS, last));
     let expected: Vec<String> = order.into_iter().map(line).collect();
     assert_eq!(printed_sections(HEAD, events), expected);
-    assert_eq!(sections(&list), from_scratch(&list));
+    assert_eq!(sections(COUNTS, &list), from_scratch(&list));
 }
 
 /// The events of each of these numbers, one after the other.
@@ -141,7 +143,7 @@ fn long_serial_order() {
     expect_order(&events, (0..28).flat_map(order).chain((0..20).map(|n| (7, 1_960 + 2 * n, 1_961 + 2 * n))));
     let o = outcome(&paper_of(HEAD, &events));
     assert_eq!(o.main, [196]);
-    let mut list = sections(&o.events);
+    let mut list = sections(COUNTS, &o.events);
     list.sort_by_key(|s| s.first);
     assert!(demand3(&Outcome { order: Order::Sections(list), ..o }).is_err());
 }
@@ -152,7 +154,7 @@ fn one_section_more() {
     let full = repeat("K 0 0; N 0 0", 1_000);
     let o = outcome(&paper_of(HEAD, &full));
     assert_eq!(o.verdict, Verdict::Accepted(MAX_EVENTS));
-    assert_eq!(sections(&o.events).len(), SCRATCH);
+    assert_eq!(sections(COUNTS, &o.events).len(), SCRATCH);
     for more in ["K 0 0; N 0 0", "K 1 1", "N 0 0", "A 0 0 5"] {
         expect_refused(&paper_of(HEAD, &format!("{full}; {more}")), 2_003, 9);
     }
@@ -247,7 +249,7 @@ fn random_long_orders() {
 /// Looks at the accepted list of K and N and at every one that goes on from it with at most `left`
 /// events: a section has a K and an N of its own, and an order is the one from the scratch.
 fn visit(es: &mut Vec<Event>, left: usize, seen: &mut Seen) {
-    let list = sections(es);
+    let list = sections(TWO, es);
     assert!(2 * list.len() <= es.len(), "{es:?}");
     seen.lists += 1;
     if denial(TWO, &[0, 1], es).is_none() {

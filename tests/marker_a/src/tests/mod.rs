@@ -14,18 +14,34 @@ mod short_course;
 mod short_lists;
 mod traces;
 mod values;
+mod volatile_lists;
+mod volatiles;
 mod walks;
 
 use std::str::FromStr;
 
 use crate::rules::{copy, main_memory, outstanding_reads, outstanding_stores};
 use crate::Kind::{self, A, B, K, L, N, P, R, S, U, W};
-use crate::{demand3, judge, line_of, mark, outcome, paper, Counts, Event, Order, Value};
+use crate::{demand3, judge, line_of, mark, outcome, paper, Counts, Event, Order, Value, MAX_VARIABLES};
 
 /// The head and `G` line of the short traces: "Two threads, variables and locks."
 const TRACE_HEAD: &str = "H 2 2 2\nG -\n";
 /// The counts of that head.
-const TWO: Counts = Counts { threads: 2, variables: 2, locks: 2 };
+const TWO: Counts = Counts::plain(2, 2, 2);
+
+/// The counts with these volatile variables.
+fn with_volatiles(counts: Counts, named: &[u32]) -> Counts {
+    Counts { volatiles: std::array::from_fn(|v| named.contains(&(v as u32))), ..counts }
+}
+
+/// The lines of a paper before its events: `H`, `G`, and `V` if there are volatile variables.
+fn head_of(counts: Counts, guards: Option<&[u32]>) -> String {
+    let listed = |numbers: &[u32]| numbers.iter().map(|n| format!(" {n}")).collect::<String>();
+    let guards = guards.map_or(String::from(" -"), listed);
+    let volatiles: Vec<u32> = (0..MAX_VARIABLES).filter(|&v| counts.volatiles[v as usize]).collect();
+    let v_line = if volatiles.is_empty() { String::new() } else { format!("V{}\n", listed(&volatiles)) };
+    format!("H {} {} {}\nG{guards}\n{v_line}", counts.threads, counts.variables, counts.locks)
+}
 
 /// The bytes, and a right trailer after them.
 fn with_trailer(before: &[u8]) -> Vec<u8> {
@@ -67,7 +83,7 @@ fn expect_accepted(head: &str, events: &str) {
 /// The paper is refused with this number at its last event, and accepted without it.
 fn expect_refused_last(head: &str, events: &str, number: u32) {
     let count = events.split(';').filter(|e| !e.trim().is_empty()).count();
-    let line = line_of(count - 1);
+    let line = head.lines().count() + count;
     assert_eq!(first_line(&paper_of(head, events)), format!("refused {line} {number}"), "{events}");
     let before = events.trim_end_matches([';', ' ']).rfind(';').map_or("", |end| &events[..end]);
     expect_accepted(head, before);
@@ -75,9 +91,14 @@ fn expect_refused_last(head: &str, events: &str, number: u32) {
 
 /// What `judge` says of the last event after the others, whether or not a paper can hold them.
 fn judged(events: &str) -> u32 {
+    judged_in(TWO, events)
+}
+
+/// The same in a paper with these counts.
+fn judged_in(counts: Counts, events: &str) -> u32 {
     let list = events_of(events);
     let (e, earlier) = list.split_last().expect("an event");
-    judge(earlier, TWO, e)
+    judge(earlier, counts, e)
 }
 
 /// The bytes are refused with this line and number.

@@ -30,7 +30,7 @@ fn marked(body: &str, counts: Counts, reading: Reading) -> (Vec<Event>, Option<R
         let number = e.map_or(4, |e| judge(&es, counts, &e));
         match (e, number) {
             (Some(e), 0) => es.push(e),
-            _ => return (es.clone(), Some(Refusal { line: line_of(es.len()), number })),
+            _ => return (es.clone(), Some(Refusal { line: line_of(counts, es.len()), number })),
         }
     }
     (es, None)
@@ -102,7 +102,7 @@ fn check_any(paper: &[u8], seen: &mut Seen) {
 /// 64 bits. The lines before are judged the same, `e` is judged by 9, 5 and the row, and where it is
 /// accepted the paper is marked on from there.
 fn check_freed(paper: &[u8], counts: Counts, before: &[Event], e: &Event, seen: &mut Seen) {
-    let place = line_of(before.len());
+    let place = line_of(counts, before.len());
     let number = judge(before, counts, e);
     let o = outcome(paper);
     seen.freed += 1;

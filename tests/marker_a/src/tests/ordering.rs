@@ -14,9 +14,9 @@ fn ordering_by_first_lock_is_a_slip() {
     assert_eq!(printed_sections(head, events), ["section 1 4 8", "section 0 3 14"]);
     // In order of the first lock the use would be given 0.
     let o = outcome(&paper_of(head, events));
-    let mut list = sections(&o.events);
+    let mut list = sections(TWO, &o.events);
     list.sort_by_key(|s| s.first);
-    let (uses, memory) = plain_run(&list, &o.events);
+    let (uses, memory) = plain_run(TWO, &list, &o.events);
     assert_eq!(uses, [Given { line: 12, given: 0, stated: 5 }]);
     assert_eq!(memory[0], 5);
     assert!(demand3(&crate::Outcome { order: Order::Sections(list), ..o }).is_err());
@@ -87,20 +87,20 @@ fn o5_no_sections() {
 fn o6_last_lock() {
     let events = "K 0 0; K 1 1; N 1 1; K 0 0; N 0 0; N 0 0";
     assert_eq!(printed_sections(GUARDED, events), ["section 1 4 5", "section 0 3 8"]);
-    let list = sections(&events_of(events));
+    let list = sections(TWO, &events_of(events));
     assert_eq!(list[0], Section { thread: 1, first: 4, last: 5, last_lock: 4 });
     assert_eq!(list[1], Section { thread: 0, first: 3, last: 8, last_lock: 6 });
     let without = "K 0 0; K 1 1; N 1 1; N 0 0";
     assert_eq!(printed_sections(GUARDED, without), ["section 0 3 6", "section 1 4 5"]);
     // A section that is still running is no entry.
-    assert!(sections(&events_of("K 0 0; K 0 1; N 0 0")).is_empty());
+    assert!(sections(TWO, &events_of("K 0 0; K 0 1; N 0 0")).is_empty());
 }
 
 #[test]
 fn o7_longest_order() {
     let printed = printed_sections(GUARDED, &repeat("K 0 0; N 0 0", 1_000));
     assert_eq!(printed.len(), 1_000);
-    assert_eq!(printed[999], format!("section 0 {} {}", line_of(1_998), line_of(1_999)));
+    assert_eq!(printed[999], format!("section 0 {} {}", line_of(TWO, 1_998), line_of(TWO, 1_999)));
     let text = print(&paper_of(GUARDED, &repeat("K 0 0; N 0 0", 1_000)));
     assert!(text.len() < 23_200);
 }
@@ -109,7 +109,7 @@ fn o7_longest_order() {
 fn plain_memory() {
     // An early store's value comes with its B; the value in a U is not looked at.
     let events = events_of("K 0 0; A 0 0 1; P 0 0 2; U 0 0 9; W 0 0 2; B 0 0 2; U 0 0 2; A 1 0 7; N 0 0");
-    let (uses, memory) = plain_run(&sections(&events), &events);
+    let (uses, memory) = plain_run(TWO, &sections(TWO, &events), &events);
     let given: Vec<(usize, Value, Value)> = uses.iter().map(|u| (u.line, u.given, u.stated)).collect();
     assert_eq!(given, [(6, 1, 9), (9, 2, 2)]);
     assert_eq!(memory[..2], [2, 0]);
@@ -120,7 +120,7 @@ fn demand_3_tells_a_difference() {
     let events = "K 0 0; A 0 0 5; S 0 0 5; W 0 0 5; N 0 0; K 1 0; R 1 0 5; L 1 0 5; U 1 0 5; N 1 0";
     let good = outcome(&paper_of("H 2 1 1\nG 0\n", events));
     assert_eq!(demand3(&good), Ok(()));
-    let list = sections(&good.events);
+    let list = sections(TWO, &good.events);
     let with = |list: Vec<Section>| crate::Outcome { order: Order::Sections(list), ..good.clone() };
     assert!(demand3(&with(vec![list[1], list[0]])).is_err());
     assert!(demand3(&with(vec![list[0]])).is_err());

@@ -14,7 +14,7 @@ const GUARDED: &str = "H 2 4 2\nG 0 1 0 1\n";
 const MAIN: &str = "main 0 0\nmain 1 0\nmain 2 0\nmain 3 0\n";
 
 /// What `mark_short` prints, as text.
-fn print_short(paper: &[u8]) -> String {
+pub(super) fn print_short(paper: &[u8]) -> String {
     String::from_utf8(mark_short(paper)).expect("ASCII")
 }
 
@@ -24,14 +24,14 @@ fn print_within(paper: &[u8], limits: Limits) -> String {
 }
 
 /// The short course prints this for the bytes, and the full course that.
-fn expect_each(paper: &[u8], short: &str, full: &str) {
+pub(super) fn expect_each(paper: &[u8], short: &str, full: &str) {
     let shown = String::from_utf8_lossy(&paper[..paper.len().min(120)]).into_owned();
     assert_eq!(print_short(paper), short, "{shown:?}");
     assert_eq!(print(paper), full, "{shown:?}");
 }
 
 /// Both courses print this for the bytes, and the outcomes are equal.
-fn expect_same(paper: &[u8], printed: &str) {
+pub(super) fn expect_same(paper: &[u8], printed: &str) {
     expect_each(paper, printed, printed);
     assert_eq!(outcome_short(paper), outcome(paper));
 }
@@ -165,7 +165,7 @@ fn earlier_lines_decide() {
         for before in [0, 1, 100, 198] {
             let after = 300 - before;
             let events = format!("{}; {event}; {}", repeat("A 0 0 5", before), repeat("A 0 0 5", after));
-            expect_same(&paper_of(HEAD, &events), &format!("refused {} {number}\n", line_of(before)));
+            expect_same(&paper_of(HEAD, &events), &format!("refused {} {number}\n", line_of(SHORT.counts, before)));
         }
     }
 }
@@ -278,14 +278,14 @@ fn one_event() {
 /// One event has no head: the counts are taken as they are, by `judge_short` as by `judge`.
 #[test]
 fn one_event_with_other_counts() {
-    let widest = Counts { threads: 8, variables: 16, locks: 8 };
+    let widest = Counts::plain(8, 16, 8);
     for (counts, event, number) in [
         (widest, "A 7 15 5", 0),
         (widest, "K 7 7", 0),
         (widest, "A 8 0 5", 5),
         (widest, "U 7 15 0", 17),
-        (Counts { threads: 9, variables: 17, locks: 9 }, "A 8 16 5", 0),
-        (Counts { threads: 0, variables: 0, locks: 0 }, "A 0 0 5", 5),
+        (Counts::plain(9, 17, 9), "A 8 16 5", 0),
+        (Counts::plain(0, 0, 0), "A 0 0 5", 5),
     ] {
         let e = events_of(event)[0];
         assert_eq!((judge_short(&[], counts, &e), judge(&[], counts, &e)), (number, number), "{event}");
@@ -301,7 +301,7 @@ fn expected(paper: &[u8], limits: Limits) -> String {
     if declared.threads > most.threads || declared.variables > most.variables || declared.locks > most.locks {
         return String::from("refused 1 25\n");
     }
-    let place = line_of(limits.events);
+    let place = line_of(declared, limits.events);
     let before = matches!(outcome(paper).verdict, Verdict::Refused(r) if r.line < place);
     let body = std::str::from_utf8(parts.body).expect("ASCII");
     match body.split_terminator('\n').nth(limits.events) {
@@ -312,7 +312,7 @@ fn expected(paper: &[u8], limits: Limits) -> String {
 
 /// A paper without guards of `lines` random events that the full marker accepts. The line at the
 /// place `fault`, if there is one, is 4, 5 or against the row in their stead.
-fn random_paper(dice: &mut Dice, counts: Counts, lines: usize, fault: usize) -> Vec<u8> {
+pub(super) fn random_paper(dice: &mut Dice, counts: Counts, lines: usize, fault: usize) -> Vec<u8> {
     let mut es = Vec::new();
     while es.len() < lines {
         let kind = [U, A, L, S, R, W, K, N, P, B][dice.roll(10) as usize];
@@ -331,7 +331,7 @@ fn random_paper(dice: &mut Dice, counts: Counts, lines: usize, fault: usize) -> 
     if fault < lines {
         events[fault] = ["rubbish", "A 8 0 5", "U 0 0 100"][dice.roll(3) as usize];
     }
-    paper_of(&format!("H {} {} {}\nG -\n", counts.threads, counts.variables, counts.locks), &events.join(";"))
+    paper_of(&head_of(counts, None), &events.join(";"))
 }
 
 /// What was met on the way.
@@ -352,7 +352,8 @@ struct Seen {
 fn check(paper: &[u8], limits: Limits, seen: &mut Seen) {
     let (printed, full) = (print_within(paper, limits), print(paper));
     assert_eq!(printed, expected(paper, limits), "{limits:?}: {}", String::from_utf8_lossy(paper));
-    let place = format!("refused {} ", line_of(limits.events));
+    let declared = paper::find(paper).expect("parts").counts;
+    let place = format!("refused {} ", line_of(declared, limits.events));
     match (printed.starts_with("accepted"), printed.ends_with(" 25\n")) {
         (true, _) => seen.accepted += 1,
         (false, true) if printed == "refused 1 25\n" => seen.head += 1,
@@ -373,7 +374,7 @@ fn random_papers_around_the_short_limits() {
     for seed in 0..1_000 {
         let mut dice = Dice(seed);
         let over = u32::from(dice.roll(4) == 0);
-        let counts = Counts { threads: 1 + dice.roll(2 + over), variables: 1 + dice.roll(4 + over), locks: dice.roll(3 + over) };
+        let counts = Counts::plain(1 + dice.roll(2 + over), 1 + dice.roll(4 + over), dice.roll(3 + over));
         let lines = 190 + dice.roll(21) as usize;
         let fault = [dice.roll(400), 198 + dice.roll(5)][dice.roll(2) as usize] as usize;
         let paper = random_paper(&mut dice, counts, lines, fault);
@@ -414,7 +415,7 @@ fn heads_under_every_limit() {
     for threads in 1..=8 {
         for variables in 1..=16 {
             for locks in 0..=8 {
-                let limits = Limits { counts: Counts { threads, variables, locks }, ..SHORT };
+                let limits = Limits { counts: Counts::plain(threads, variables, locks), ..SHORT };
                 let at = head_only(threads, variables, locks);
                 assert_eq!(outcome_within(&at, limits), outcome(&at), "{limits:?}");
                 for (t, v, l) in [(threads + 1, 1, 0), (1, variables + 1, 0), (1, 1, locks + 1)] {
@@ -444,7 +445,7 @@ fn random_papers_under_random_limits() {
     let mut seen = Seen::default();
     for seed in 0..400 {
         let mut dice = Dice(seed);
-        let counts = Counts { threads: 1 + dice.roll(8), variables: 1 + dice.roll(16), locks: dice.roll(9) };
+        let counts = Counts::plain(1 + dice.roll(8), 1 + dice.roll(16), dice.roll(9));
         let lines = dice.roll(80);
         let fault = dice.roll(160) as usize;
         let paper = random_paper(&mut dice, counts, lines as usize, fault);
@@ -452,7 +453,7 @@ fn random_papers_under_random_limits() {
         for round in 0..20 {
             // Every other limit leaves the head within it.
             let most = match round % 2 {
-                0 => Counts { threads: 1 + dice.roll(8), variables: 1 + dice.roll(16), locks: dice.roll(9) },
+                0 => Counts::plain(1 + dice.roll(8), 1 + dice.roll(16), dice.roll(9)),
                 _ => counts,
             };
             let events = [dice.roll(100) as usize, fault, lines as usize, 2_000][dice.roll(4) as usize];

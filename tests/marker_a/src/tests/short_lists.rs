@@ -4,7 +4,7 @@
 use super::*;
 use crate::rules::owed;
 
-const ONE: Counts = Counts { threads: 1, variables: 1, locks: 1 };
+const ONE: Counts = Counts::plain(1, 1, 1);
 
 /// The event of this kind by thread 0 on variable or lock 0 with value 0.
 fn event(kind: Kind) -> Event {

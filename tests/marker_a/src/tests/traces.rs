@@ -48,7 +48,7 @@ fn short_traces_refused() {
 #[test]
 fn short_traces_with_a_dead_read() {
     for events in ["R 0 0 0; A 0 0 5; L 0 0 0", "R 0 0 0; A 0 0 5; S 0 0 5; W 0 0 5; L 0 0 0"] {
-        expect_refused(&paper_of(TRACE_HEAD, events), line_of(1), 23);
+        expect_refused(&paper_of(TRACE_HEAD, events), line_of(TWO, 1), 23);
     }
 }
 

@@ -145,7 +145,7 @@ fn form_at_every_kind() {
         for (kind, before) in BEFORE {
             let paper = paper_of(TRACE_HEAD, &followed(before, "1", kind, &value));
             let events = before.split(';').filter(|e| !e.is_empty()).count();
-            expect_refused(&paper, line_of(events), 4);
+            expect_refused(&paper, line_of(TWO, events), 4);
         }
     }
 }

@@ -36,7 +36,7 @@ fn denied(guards: &[u32], es: &[Event], e: &Event) -> bool {
         return true;
     }
     let list = [es, &[*e]].concat();
-    let all = Counts { threads: 8, variables: 16, locks: 8 };
+    let all = Counts::plain(8, 16, 8);
     matches!(crate::denial(all, guards, &list), Some((20 | 21, _)))
 }
 
@@ -79,9 +79,9 @@ fn waits(counts: Counts, es: &[Event]) -> usize {
 
 /// What was met on the way, in the papers with an order; `dead` counts 23 in all of them.
 #[derive(Debug, Default)]
-struct Seen {
-    orders: usize,
-    uses: usize,
+pub(super) struct Seen {
+    pub(super) orders: usize,
+    pub(super) uses: usize,
     early: usize,
     waited: usize,
     slips: usize,
@@ -89,10 +89,9 @@ struct Seen {
 }
 
 /// Checks demand 3 on the walks of these seeds.
-fn demand_3_on(seeds: u64, scope: &Scope, steps: usize) -> Seen {
+pub(super) fn demand_3_on(seeds: u64, scope: &Scope, steps: usize) -> Seen {
     let Scope { counts, guards, .. } = *scope;
-    let locks: Vec<String> = guards.iter().map(u32::to_string).collect();
-    let head = format!("H {} {} {}\nG {}\n", counts.threads, counts.variables, counts.locks, locks.join(" "));
+    let head = head_of(counts, Some(guards));
     let mut seen = Seen::default();
     for seed in 0..seeds {
         let (es, dead) = walk(seed, scope, steps);
@@ -119,7 +118,7 @@ fn demand_3_on(seeds: u64, scope: &Scope, steps: usize) -> Seen {
 /// Enough papers have an order, ordering by first lock fails on some of them, and 23 is met.
 #[test]
 fn demand_3_on_walks() {
-    let counts = Counts { threads: 3, variables: 2, locks: 2 };
+    let counts = Counts::plain(3, 2, 2);
     let seen = demand_3_on(60, &Scope { counts, guards: &[0, 1], kinds: KINDS, unit: 1 }, 3_000);
     assert!(seen.orders >= 30 && seen.uses >= 100 && seen.early >= 30, "{seen:?}");
     assert!(seen.slips >= 1 && seen.dead >= 100, "{seen:?}");
@@ -128,7 +127,7 @@ fn demand_3_on_walks() {
 /// "serial orders are promised for such papers too". Lock 2 guards nothing.
 #[test]
 fn demand_3_with_waiting_stores() {
-    let counts = Counts { threads: 2, variables: 2, locks: 3 };
+    let counts = Counts::plain(2, 2, 3);
     let seen = demand_3_on(150, &Scope { counts, guards: &[0, 1], kinds: WAITING, unit: 1 }, 800);
     assert!(seen.orders >= 50 && seen.uses >= 100 && seen.waited >= 50, "{seen:?}");
 }
@@ -136,7 +135,7 @@ fn demand_3_with_waiting_stores() {
 /// The values differ only above their low 32 bits.
 #[test]
 fn demand_3_on_wide_values() {
-    let counts = Counts { threads: 3, variables: 2, locks: 2 };
+    let counts = Counts::plain(3, 2, 2);
     for unit in [1 << 32, -(1 << 56)] {
         let seen = demand_3_on(20, &Scope { counts, guards: &[0, 1], kinds: KINDS, unit }, 3_000);
         assert!(seen.orders >= 10 && seen.uses >= 30 && seen.early >= 10 && seen.slips >= 1, "{seen:?}");
