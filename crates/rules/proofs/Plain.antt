@@ -5,7 +5,7 @@ use mathlib.Core.Path.{_≡_, refl, sym, ap, _∙_}
 use mathlib.Core.Bool.{Bool, true, false, cond, and-false}
 use mathlib.Core.List.{List, [], _∷_, _++_, map}
 use mathlib.Core.Option.{Option}
-use lib.Dec.{ltb, leb}
+use lib.Dec.{leb}
 use lib.IntN.{ℤ}
 use lib.ListN.{length, drop, List·getD-eq-default}
 use borrow.Author.Tests.{leb-true, leb-false}
@@ -16,7 +16,7 @@ use Rattle.rules.specs.declared.Slot.{Slot}
 use Rattle.rules.specs.declared.Counts.{Counts}
 use Rattle.rules.specs.Events.{P, S, W, letter}
 use Rattle.rules.specs.Limits.{Limits, volatile, anyVolatile, firstLine, declared}
-use Rattle.rules.specs.Words.{count, slot, storeSlot, inOrder, first, by, pending, stores}
+use Rattle.rules.specs.Words.{count, slot, storeSlot, inOrder, first, by, stores}
 use Rattle.rules.specs.Rules.{Words, wordsOf, some, none?, loc, noPartner, lockTaken, notHeld, pendingBars, notFresh, notStored, readBeforeWrite, unwritten, notWritten, notUsable, differs, eightAlready, deadRead, wrongNeighbour, useBarred, writeBarred, volatileOrder, prescientVolatile, breaks, rowsBehind, rows, rowIn, firstBroken, judge, answer, verdict, accepted, markFrom, mark, markBy, markRead, pastBy, pastRead}
 use Rattle.rules.specs.Plain.{Plain, withoutVolatiles, plainStores, plainWordsOf, plainJudge, plainVerdict, markPlain, pastPlain}
 use Rattle.rules.proofs.Laws.{some-none, none-some, unbroken, accepts}
@@ -111,9 +111,13 @@ module _ (h : Counts) (p : Plain h) (es : List Event) (e : Event) where
   unfolding noPartner wordsOf plainWordsOf
   plain-10 = rw (alike (loc e) .0)
 
+  plain-unwritten : (v : ℕ) → unwritten (wordsOf es) (e .thread) v ≡ unwritten (plainWordsOf es) (e .thread) v
+  unfolding unwritten wordsOf plainWordsOf
+  plain-unwritten v = rw (alike v .2)
+
   plain-16 : notWritten h (wordsOf es) e ≡ notWritten h (plainWordsOf es) e
-  unfolding notWritten unwritten readBeforeWrite wordsOf plainWordsOf
-  plain-16 = rw (some-same (h .variables) _ _ (λ v. ap (λ n. ltb (cond (pending (e .thread) v es) 1 0) n) (alike v .2)), alike (loc e) .0)
+  unfolding notWritten readBeforeWrite wordsOf plainWordsOf
+  plain-16 = rw (some-same (h .variables) _ _ plain-unwritten, alike (loc e) .0)
 
   plain-18 : differs (wordsOf es) e ≡ differs (plainWordsOf es) e
   unfolding differs wordsOf plainWordsOf
