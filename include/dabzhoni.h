@@ -61,9 +61,18 @@ struct dabzhoni_hold {
   uint32_t depth;
 };
 
+/* What a thread waits for, from its Y to its C: the lock's number plus 1, or 0 where it does not wait, how many times it held the lock before
+   the Y, and whether it has been notified since. */
+struct dabzhoni_wait {
+  size_t lock;
+  uint32_t depth;
+  bool notified;
+};
+
 /* The state. The cell of thread t and variable v is number 16 * t + v; its eight places begin at 8 times that number. source, written, loaded,
-   used, assigned, position and locked are positions: an event's number among those so far, from 1, or 0. Padding is no part of the state: after
-   dabzhoni_initial and after an accepted event it may be anything. A refusal leaves it as it was in all tests; no contract speaks of it. */
+   used, assigned, position and locked are positions: an event's number among those so far, from 1, or 0. locked is that of the thread's last K
+   or C. waits[t] is of thread t. Padding is no part of the state: after dabzhoni_initial and after an accepted event it may be anything. A
+   refusal leaves it as it was in all tests; no contract speaks of it. */
 struct dabzhoni_state {
   struct dabzhoni_counts counts;
   uint32_t events;
@@ -73,6 +82,7 @@ struct dabzhoni_state {
   size_t locked[8];
   struct dabzhoni_hold holds[8];
   int64_t memory[16];
+  struct dabzhoni_wait waits[8];
 };
 
 /* The number of a refusal and its line; both are 0 where the event is accepted. */
@@ -111,6 +121,10 @@ DABZHONI_ASSERT(sizeof(struct dabzhoni_slot) == 16, "layout of a slot");
 DABZHONI_ASSERT(offsetof(struct dabzhoni_hold, holder) == 0, "layout of a hold");
 DABZHONI_ASSERT(offsetof(struct dabzhoni_hold, depth) == 8, "layout of a hold");
 DABZHONI_ASSERT(sizeof(struct dabzhoni_hold) == 16, "layout of a hold");
+DABZHONI_ASSERT(offsetof(struct dabzhoni_wait, lock) == 0, "layout of a wait");
+DABZHONI_ASSERT(offsetof(struct dabzhoni_wait, depth) == 8, "layout of a wait");
+DABZHONI_ASSERT(offsetof(struct dabzhoni_wait, notified) == 12, "layout of a wait");
+DABZHONI_ASSERT(sizeof(struct dabzhoni_wait) == 16, "layout of a wait");
 DABZHONI_ASSERT(offsetof(struct dabzhoni_state, counts) == 0, "layout of the state");
 DABZHONI_ASSERT(offsetof(struct dabzhoni_state, events) == 40, "layout of the state");
 DABZHONI_ASSERT(offsetof(struct dabzhoni_state, cells) == 48, "layout of the state");
@@ -119,7 +133,8 @@ DABZHONI_ASSERT(offsetof(struct dabzhoni_state, stores) == 24624, "layout of the
 DABZHONI_ASSERT(offsetof(struct dabzhoni_state, locked) == 41008, "layout of the state");
 DABZHONI_ASSERT(offsetof(struct dabzhoni_state, holds) == 41072, "layout of the state");
 DABZHONI_ASSERT(offsetof(struct dabzhoni_state, memory) == 41200, "layout of the state");
-DABZHONI_ASSERT(sizeof(struct dabzhoni_state) == 41328, "layout of the state");
+DABZHONI_ASSERT(offsetof(struct dabzhoni_state, waits) == 41328, "layout of the state");
+DABZHONI_ASSERT(sizeof(struct dabzhoni_state) == 41456, "layout of the state");
 DABZHONI_ASSERT(offsetof(struct dabzhoni_reply, line) == 8, "layout of a reply");
 DABZHONI_ASSERT(sizeof(struct dabzhoni_reply) == 16, "layout of a reply");
 
@@ -141,7 +156,7 @@ DABZHONI_ASSERT(sizeof(struct dabzhoni_marked) == 56, "layout of what is said of
 /* Marks a whole trace, its order included.
    paper: the bytes.
    what, values: two rows. The record of event line n, from 0, is at place n of both: letter * 65536 + thread * 256 + variable or lock
-   in what, and the value in values, 0 for K and N. Written for an accepted trace alone.
+   in what, and the value in values, the notified thread for F, 0 for K, N, Y and C. Written for an accepted trace alone.
    out: the listing goes to its front.
    order: where there is an order, one entry for each section at the front, thread * 2^24 + last line * 2^12 + first line.
    scratch: all of it zeros where there is an order; what it held before does not matter.
@@ -168,15 +183,17 @@ struct dabzhoni_marked dabzhoni_mark_short_unordered(const uint8_t *paper, size_
                                                      int64_t *values, size_t values_len, uint8_t *out, size_t out_len);
 
 /* The state before the first event, in both courses. The memory must be a state already, as zeros are: each bool in it is 0 or 1.
-   Counts out of range are kept, and each step is then refused by 8. No variable is volatile: for a trace with a V line the caller sets
-   counts.volatiles afterwards, before the first step; with the flag of an undeclared variable set each step is refused by 8. The pointer
-   is not null and is aligned to 8 bytes, and nothing else reads or writes the state during the call. */
+   Counts out of range are kept, and each step is then refused by 8. No thread waits and no variable is volatile: for a trace with a V line
+   the caller sets counts.volatiles afterwards, before the first step; with the flag of an undeclared variable set each step is refused by 8.
+   The pointer is not null and is aligned to 8 bytes, and nothing else reads or writes the state during the call. */
 void dabzhoni_initial(struct dabzhoni_state *state, size_t threads, size_t variables, size_t locks);
 
-/* One event: its letter, thread, variable or lock, and value (not looked at for K and N). 8, 9, 5, then the letter's row, on a volatile
-   variable led by 26, 27 and 28; each with the events so far plus 3 as its line, or plus 4 where a variable is volatile, and 0 for 8. A
-   letter that is none of the ten is 4, before all others. A refusal leaves the state as it was. The pointer is not null and is aligned to
-   8 bytes, and nothing else reads or writes the state during the call. */
+/* One event: its letter, thread, variable or lock, and value: for F the thread that it notifies; not looked at for K, N, Y and C. 8, 9, 5, then
+   the letter's row, led by 29 and 30, and on a volatile variable by 26, 27 and 28 behind them; each with the events so far plus 3 as its line,
+   or plus 4 where a variable is volatile, and 0 for 8. A thread to be notified that is negative or not declared is 5. A letter that is none of
+   the thirteen is 4, before all others. 8 asks of each of the eight waits with a lock that the lock is declared, and its depth at least 1 and at
+   most the events so far; of one without a lock it asks nothing. A refusal leaves the state as it was. The pointer is not null and is aligned
+   to 8 bytes, and nothing else reads or writes the state during the call. */
 struct dabzhoni_reply dabzhoni_step(struct dabzhoni_state *state, uint8_t letter, size_t thread, size_t place, int64_t value);
 
 /* The same for the short course: counts above 2, 4 and 2 or more than 200 events so far are 8 too, and 25, in place of 9, is that 200

@@ -3,7 +3,7 @@
 #   tests/handbook.sh PROGRAM [ARGUMENT..]    the program reads a paper on standard input and writes its listing
 # A short paper is one of the short course: the program gets --short as its last argument for it. The others are marked so too, and have the
 # same listing then or 25.
-# A number from 1 to 6, 9 to 23 or 25 to 28 without a paper under its own heading is a failure. The last line is 'N passed, M failed'.
+# A number from 1 to 6, 9 to 23 or 25 to 30 without a paper under its own heading is a failure. The last line is 'N passed, M failed'.
 set -u
 export LC_ALL=C
 if [ $# -eq 0 ]; then
@@ -89,7 +89,7 @@ while read -r n line short; do
         echo "docs/PAPERS.md:$line: the listing in the short course differs"
     fi
 done < "$work/pairs"
-for number in {1..6} {9..23} {25..28}; do
+for number in {1..6} {9..23} {25..30}; do
     if ! grep -qx "$number" "$work/covered"; then
         failed=$((failed + 1))
         echo "docs/PAPERS.md: no paper under heading $number is answered with $number"

@@ -47,6 +47,7 @@ printf '' | paper empty
 { printf 'H 1 1 1\nG -\nA '; digits; printf ' 0 0\n'; } | closed | paper digits-in-a-thread
 { printf 'H 1 1 1\nG -\nA 0 '; digits; printf ' 0\n'; } | closed | paper digits-in-a-variable
 { printf 'H 1 1 1\nG -\nK 0 '; digits; echo; } | closed | paper digits-in-a-lock
+{ printf 'H 1 1 1\nG -\nF 0 0 '; digits; echo; } | closed | paper digits-in-a-notified-thread
 { printf 'H 1 1 1\nG -\nA 0 0 -'; digits; echo; } | closed | paper digits-in-a-value
 { printf 'H 1 1 1\nG -\nA 0 0 '; times $many 0; echo; } | closed | paper zeros-in-a-value
 { printf 'H 1 1 1\nG -\nZ '; digits; echo; } | paper digits-in-the-trailer
@@ -75,6 +76,14 @@ awk 'BEGIN {
     printf "H 8 16 8\nG -\nV"; for (v = 0; v < 16; v++) printf " " v; print ""
     for (i = 0; i < 2000; i++) print substr("RLUASW", i % 6 + 1, 1), int(i / 6) % 8, int(i / 48) % 16, 0
 }' | closed | paper volatile-events
+# both threads wait for each other in turn, a section for every three events; all but one of eight threads wait at the end
+awk 'BEGIN {
+    print "H 2 1 1\nG 0\nK 0 0\nY 0 0\nK 1 0"
+    for (i = 0; i < 332; i++) print "F 1 0 0\nY 1 0\nC 0 0\nF 0 0 1\nY 0 0\nC 1 0"
+    print "F 1 0 0\nN 1 0\nC 0 0\nN 0 0"
+}' | closed | paper waiting-events
+awk 'BEGIN { print "H 8 1 8\nG 0"; for (t = 0; t < 7; t++) { for (i = 0; i < 283; i++) print "K", t, t; print "Y", t, t } }' |
+    closed | paper waiting-at-the-end
 # an order that is denied at the trailer
 awk 'BEGIN { print "H 8 1 8\nG 0"; for (i = 0; i < 2000; i++) print "K", i % 8, i % 8 }' | closed | paper locks-held-at-the-end
 
@@ -84,6 +93,11 @@ awk 'BEGIN { print "H 2 4 2\nG -"; for (i = 0; i < 200; i++) print "A", i % 2, i
 awk 'BEGIN { print "H 2 4 2\nG -"; for (i = 0; i < 201; i++) print "K", 0, i % 2 }' | closed | paper short-201-events
 awk 'BEGIN { print "H 2 4 2\nG -\nV 0 1 2 3"; for (i = 0; i < 201; i++) print substr("RLU", i % 3 + 1, 1), int(i / 3) % 2, int(i / 6) % 4, 0 }' |
     closed | paper short-volatile-events
+awk 'BEGIN {
+    print "H 2 4 2\nG 0 0 0 0\nK 0 0\nY 0 0\nK 1 0"
+    for (i = 0; i < 32; i++) print "F 1 0 0\nY 1 0\nC 0 0\nF 0 0 1\nY 0 0\nC 1 0"
+    print "F 1 0 0\nN 1 0\nC 0 0\nN 0 0"
+}' | closed | paper short-waiting-events
 awk 'BEGIN {
     print "H 2 4 2\nG 0 0 0 0"; for (i = 0; i < 86; i++) print "K 0 0\nN 0 0"
     for (t = 0; t < 2; t++) {
@@ -133,15 +147,17 @@ papers() {
 }
 papers mark
 papers mark_short --short
-for name in 2000-events 2001-events last-event-refused long-listing volatile-events locks-held-at-the-end; do
+for name in 2000-events 2001-events last-event-refused long-listing volatile-events waiting-events waiting-at-the-end \
+    locks-held-at-the-end; do
     $A < "$work/$name.paper" | head -n 1 > "$work/a"
     entry step "$work/$name.paper" "$work/a"
 done
-for name in short-200-events short-201-events short-volatile-events short-long-listing short-locks-held-at-the-end; do
+for name in short-200-events short-201-events short-volatile-events short-waiting-events short-long-listing \
+    short-locks-held-at-the-end; do
     $A --short < "$work/$name.paper" | head -n 1 > "$work/a"
     entry step_short "$work/$name.paper" "$work/a"
 done
-for kind in 1 2 3 4 5 6 7 8 9 10; do echo 8 0; done > "$work/a"
+for kind in {1..13}; do echo 8 0; done > "$work/a"
 entry out_of_range /dev/null "$work/a"
 entry out_of_range_short /dev/null "$work/a"
 # every other program that has an output to be held to

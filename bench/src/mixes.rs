@@ -38,7 +38,7 @@ pub fn randoms(seed: u64, length: usize, number: usize) -> Vec<Paper> {
 fn volatile(rng: &mut Rng, length: usize, orderly: bool) -> generate::Trace {
     let mut counts = generate::long_counts(rng, orderly);
     counts.volatiles = generate::some_volatiles(rng, counts.variables);
-    generate::long_with(rng, counts, OF_32_BITS, length, 0, orderly)
+    generate::long_with(rng, counts, OF_32_BITS, length, 0, orderly, false)
 }
 
 /// So many random papers with volatile variables from a seed, each of so many events.
@@ -83,7 +83,7 @@ pub fn at_short_limits(number: usize, orderly: bool) -> Vec<Paper> {
     let (counts, length) = (Course::Short.counts(), Course::Short.events() as usize);
     let mut rng = Rng::new(7);
     let made = || {
-        let (counts, guards, events) = generate::of_length(&mut rng, counts, OF_32_BITS, length, orderly);
+        let (counts, guards, events) = generate::of_length(&mut rng, counts, OF_32_BITS, length, orderly, false);
         generate::paper(counts, guards.as_deref(), &events)
     };
     let fit = |p: &Paper| events(p) == length && marker_b::mark(Course::Short, p).contains("\nsection ") == orderly;
@@ -149,7 +149,7 @@ pub fn longest() -> Vec<Paper> {
     stores_from(Value::MIN)
 }
 
-/// Sections of twenty events with all ten letters, by all threads on all variables. The paper has an order.
+/// Sections of twenty events with the ten letters of document 01, by all threads on all variables. The paper has an order.
 pub fn regular(length: usize) -> Paper {
     let mut main = [0; 16];
     let mut lines = Vec::new();

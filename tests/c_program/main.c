@@ -33,7 +33,7 @@ static void expect(const char *what, bool ok) {
   if (!ok) printf("%s, %s: FAILED\n", course->name, what);
 }
 
-/* ---- steps: the short traces of document 01, traces of 02 (a), (d), (f) and (g), refusals 4, 5, 8, 9 and 25, states that no events reach */
+/* ---- steps: the short traces of document 01, traces of 02 (a), (d), (f), (g) and (i), refusals 4, 5, 8, 9 and 25, states that no events reach */
 
 static struct dabzhoni_state state;
 
@@ -56,6 +56,7 @@ static void begin(size_t threads, size_t variables, size_t locks, const char *vo
   memset(&state, 1, sizeof state);
   dabzhoni_initial(&state, threads, variables, locks);
   for (size_t v = 0; v < 16; v++) expect("no variable is volatile at first", !state.counts.volatiles[v]);
+  for (size_t t = 0; t < 8; t++) expect("no thread waits at first", !state.waits[t].lock && !state.waits[t].depth && !state.waits[t].notified);
   for (; *volatiles; volatiles++) state.counts.volatiles[*volatiles - '0'] = true;
 }
 
@@ -230,6 +231,103 @@ static void volatiles(void) {
   reply("early store with an assign owed", "P 0 0 0", 28, 5);
 }
 
+/* Whether thread t waits for this. */
+static bool waits(size_t t, size_t lock, uint32_t depth, bool notified) {
+  const struct dabzhoni_wait *w = &state.waits[t];
+  return w->lock == lock && w->depth == depth && w->notified == notified;
+}
+
+/* 29 and 30, what Y, F and C are checked for, and what is kept for them. */
+static void waiting(void) {
+  static const char *const BARRED[] = {"U 0 0 0", "A 0 0 5", "L 0 0 0", "S 0 0 0", "K 0 0",   "K 0 1",   "N 0 0",  "N 0 1",
+                                       "P 0 0 5", "B 0 0 5", "Y 0 0",   "Y 0 1",   "F 0 0 0", "F 0 0 1", "F 0 1 1"};
+  for (size_t i = 0; i < sizeof BARRED / sizeof *BARRED; i++) {
+    trace("K 0 0;Y 0 0", 0);
+    reply(BARRED[i], BARRED[i], 29, 5);
+    trace("K 0 0;Y 0 0;K 1 0;F 1 0 0", 0);
+    reply(BARRED[i], BARRED[i], 29, 7);
+  }
+  trace("K 0 0;Y 0 0;R 0 0 0", 0);
+  trace("K 0 0;Y 0 0;W 0 0 0", 10);
+  trace("K 0 0;P 0 0 5;Y 0 0;W 0 0 5", 0);
+  trace("Y 0 0", 12);
+  trace("K 1 0;Y 0 0", 12);
+  trace("K 0 0;A 0 0 5;Y 0 0", 15);
+  trace("K 0 0;A 0 0 5;S 0 0 5;Y 0 0", 16);
+  trace("K 0 0;P 0 0 5;B 0 0 5;Y 0 0", 16);
+  trace("F 0 0 1", 30);
+  trace("K 0 0;F 0 0 0", 30);
+  trace("K 0 0;Y 0 0;K 1 1;F 1 1 0", 30);
+  trace("K 0 0;Y 0 0;K 1 0;F 1 0 0;F 1 0 0", 30);
+  trace("K 0 0;Y 0 0;F 1 0 0", 12);
+  trace("C 0 0", 30);
+  trace("K 0 0;Y 0 0;C 0 0", 30);
+  trace("K 0 0;Y 0 0;K 1 0;F 1 0 0;N 1 0;C 0 1", 30);
+  trace("K 0 0;Y 0 0;K 1 0;F 1 0 0;N 1 0;C 0 0;C 0 0", 30);
+  trace("K 0 0;Y 0 0;K 1 0;F 1 0 0;N 1 0;C 0 0;Y 0 0;C 0 0", 30);
+  trace("K 0 0;Y 0 0;K 1 0;F 1 0 0;C 0 0", 11);
+  trace("K 0 0;P 0 0 5;Y 0 0;K 1 0;F 1 0 0;N 1 0;C 0 0", 13);
+  trace("K 0 0;R 0 0 0;L 0 0 0;Y 0 0;K 1 0;F 1 0 0;N 1 0;C 0 0;U 0 0 0", 17);
+  trace("K 0 0;Y 0 0;R 0 0 0;K 1 0;F 1 0 0;N 1 0;C 0 0;L 0 0 0;U 0 0 0", 17);
+  trace("K 0 0;Y 0 0;K 1 0;F 1 0 0;Y 1 0;C 0 0;F 0 0 1;N 0 0;C 1 0;N 1 0", 0);
+  volatile_trace("0", "K 0 0;Y 0 0;U 0 0 0", 29);
+  volatile_trace("0", "K 0 0;Y 0 0;P 0 0 5", 29);
+  volatile_trace("0", "C 0 0", 30);
+
+  /* what is kept */
+  trace("K 0 0;K 0 0;K 0 1;Y 0 0", 0);
+  expect("a wait", waits(0, 1, 2, false) && waits(1, 0, 0, false) && state.locked[0] == 3);
+  expect("every hold is given up", state.holds[0].holder == 0 && state.holds[0].depth == 0);
+  expect("the other lock is kept", state.holds[1].holder == 1 && state.holds[1].depth == 1);
+  reply("lock by another", "K 1 0", 0, 0);
+  reply("notify", "F 1 0 0", 0, 0);
+  expect("a notified wait", waits(0, 1, 2, true) && waits(1, 0, 0, false) && state.locked[1] == 5);
+  reply("notify again", "F 1 0 0", 30, 9);
+  reply("come back to another's lock", "C 0 0", 11, 9);
+  reply("unlock by another", "N 1 0", 0, 0);
+  reply("come back", "C 0 0 77", 0, 0);
+  expect("no wait any more", waits(0, 0, 0, false) && state.locked[0] == 8);
+  expect("every hold is taken again", state.holds[0].holder == 1 && state.holds[0].depth == 2);
+  reply("wait with a value, which is not looked at", "Y 0 0 -1", 0, 0);
+  expect("a second wait", waits(0, 1, 2, false));
+  reply("notify a negative thread", "F 1 0 -1", 5, 12);
+  reply("notify an undeclared thread", "F 1 0 2", 5, 12);
+  reply("notify a thread with the low 32 bits of a declared one", "F 1 0 4294967296", 5, 12);
+  reply("notify the greatest value", "F 1 0 9223372036854775807", 5, 12);
+  reply("wait on an undeclared lock", "Y 0 2", 5, 12);
+  reply("come back of an undeclared thread", "C 2 0", 5, 12);
+
+  /* 8 */
+  trace("K 0 0;Y 0 0;K 1 0", 0);
+  state.waits[0].depth = 0;
+  reply("no depth", "R 1 0 0", 8, 0);
+  state.waits[0].depth = 4;
+  reply("depth above the events", "R 1 0 0", 8, 0);
+  state.waits[0].depth = 3;
+  state.waits[0].lock = 3;
+  reply("lock that is not declared", "R 1 0 0", 8, 0);
+  state.waits[0].lock = ((size_t)1 << 32) + 1;
+  reply("lock with the low 32 bits of a declared one", "R 1 0 0", 8, 0);
+  state.waits[0].lock = 2;
+  state.waits[7] = (struct dabzhoni_wait){.lock = 1, .depth = 0};
+  reply("no depth of a thread that is not declared", "R 1 0 0", 8, 0);
+  state.waits[7] = (struct dabzhoni_wait){.lock = 0, .depth = UINT32_MAX, .notified = true};
+  reply("nothing is asked of one that does not wait", "R 1 0 0", 0, 0);
+  reply("the second lock", "F 1 0 0", 30, 7);
+
+  /* states that no events reach */
+  trace("K 0 0;K 0 0;K 1 1", 0);
+  state.waits[0] = (struct dabzhoni_wait){.lock = 1, .depth = 1, .notified = true};
+  reply("unlock by a waiting thread that holds the lock", "N 0 0", 29, 6);
+  reply("come back to a lock that is held already", "C 0 0", 0, 0);
+  expect("what it remembered is held", state.holds[0].holder == 1 && state.holds[0].depth == 1 && waits(0, 0, 0, false));
+  state.waits[0] = (struct dabzhoni_wait){.lock = 0, .depth = 2, .notified = true};
+  reply("come back of one that does not wait", "C 0 0", 30, 7);
+  reply("notify one that does not wait", "F 1 1 0", 30, 7);
+  reply("no event of a waiting thread", "Y 0 0", 0, 0);
+  expect("its own wait", waits(0, 1, 1, false));
+}
+
 static void steps(void) {
   trace("U 0 0 0", 17);
   trace("R 0 0 0;L 0 0 0;U 0 0 0", 0);
@@ -344,7 +442,7 @@ static bool untouched(const void *p, const void *end) {
 struct paper {
   const char *name, *text, *memories, *ordering;
   size_t number, line, sections, denial, denial_line, over;
-  uint64_t entries[2];
+  uint64_t entries[3];
 };
 
 static const struct paper PAPERS[] = {
@@ -448,6 +546,44 @@ static const struct paper PAPERS[] = {
      .ordering = "unordered 5 22\n",
      .denial = 22,
      .denial_line = 5},
+    {.name = "producer and consumer",
+     .text = "H 2 1 1\nG 0\nK 0 0\nY 0 0\nK 1 0\nA 1 0 5\nS 1 0 5\nW 1 0 5\nF 1 0 0\nN 1 0\nC 0 0\nR 0 0 5\nL 0 0 5\nU 0 0 5\nN 0 0\nZ 104\n",
+     .memories = "accepted 13\nmain 0 5\ncopy 0 0 5\ncopy 1 0 5\n",
+     .ordering = "section 0 3 4\nsection 1 5 10\nsection 0 11 15\n",
+     .sections = 3,
+     .entries = {4 << 12 | 3, 1 << 24 | 10 << 12 | 5, 15 << 12 | 11}},
+    {.name = "two holds given up and taken again",
+     .text = "H 2 1 1\nG 0\nK 0 0\nK 0 0\nY 0 0\nK 1 0\nF 1 0 0\nN 1 0\nC 0 0\nN 0 0\nN 0 0\nZ 68\n",
+     .memories = "accepted 9\nmain 0 0\n",
+     .ordering = "section 0 3 5\nsection 1 6 8\nsection 0 9 11\n",
+     .sections = 3,
+     .entries = {5 << 12 | 3, 1 << 24 | 8 << 12 | 6, 11 << 12 | 9}},
+    {.name = "waiting behind a V line",
+     .text = "H 2 1 1\nG 0\nV 0\nK 0 0\nY 0 0\nK 1 0\nF 1 0 0\nN 1 0\nC 0 0\nN 0 0\nZ 60\n",
+     .memories = "accepted 7\nmain 0 0\n",
+     .ordering = "section 0 4 5\nsection 1 6 8\nsection 0 9 10\n",
+     .sections = 3,
+     .entries = {5 << 12 | 4, 1 << 24 | 8 << 12 | 6, 10 << 12 | 9}},
+    {.name = "waiting, no guards",
+     .text = "H 2 1 1\nG -\nK 1 0\nY 1 0\nK 0 0\nF 0 0 1\nZ 38\n",
+     .memories = "accepted 4\nmain 0 0\n"},
+    {.name = "21 at a C",
+     .text = "H 2 1 2\nG 0\nK 0 1\nK 0 0\nY 0 0\nK 1 0\nF 1 0 0\nN 1 0\nC 0 0\nN 0 0\nN 0 1\nZ 68\n",
+     .memories = "accepted 9\nmain 0 0\n",
+     .ordering = "unordered 9 21\n",
+     .denial = 21,
+     .denial_line = 9},
+    {.name = "22, a thread waits",
+     .text = "H 2 1 1\nG 0\nK 0 0\nY 0 0\nZ 24\n",
+     .memories = "accepted 2\nmain 0 0\n",
+     .ordering = "unordered 5 22\n",
+     .denial = 22,
+     .denial_line = 5},
+    {.name = "29", .text = "H 1 1 1\nG 0\nK 0 0\nY 0 0\nA 0 0 5\nZ 32\n", .memories = "refused 5 29\n", .number = 29, .line = 5},
+    {.name = "30 at F", .text = "H 1 1 1\nG 0\nF 0 0 0\nZ 20\n", .memories = "refused 3 30\n", .number = 30, .line = 3},
+    {.name = "30 at C", .text = "H 1 1 1\nG 0\nC 0 0\nZ 18\n", .memories = "refused 3 30\n", .number = 30, .line = 3},
+    {.name = "4 for a notified thread", .text = "H 1 1 1\nG 0\nF 0 0 -1\nZ 21\n", .memories = "refused 3 4\n", .number = 4, .line = 3},
+    {.name = "5 for a notified thread", .text = "H 1 1 1\nG 0\nF 0 0 1\nZ 20\n", .memories = "refused 3 5\n", .number = 5, .line = 3},
     {.name = "2", .text = "", .memories = "refused 0 2\n", .number = 2},
     {.name = "3", .text = "H 9 1 0\nG -\nZ 12\n", .memories = "refused 1 3\n", .number = 3, .line = 1},
     {.name = "6", .text = "H 1 1 0\nG 0\nZ 12\n", .memories = "refused 2 6\n", .number = 6, .line = 2},
@@ -478,7 +614,7 @@ static bool recorded(const char *text, size_t n) {
     int64_t value = 0;
     text = strchr(text + 1, 10);
     sscanf(text + 1, "%c %u %u %" SCNd64, &letter, &thread, &place, &value);
-    ok = ok && what[i] == (uint32_t)letter * 65536 + thread * 256 + place && values[i] == (letter == 'K' || letter == 'N' ? 0 : value);
+    ok = ok && what[i] == (uint32_t)letter * 65536 + thread * 256 + place && values[i] == (strchr("KNYC", letter) ? 0 : value);
   }
   return ok && untouched(what + n, what + RECORDS + 1) && untouched(values + n, values + RECORDS + 1);
 }
@@ -629,6 +765,7 @@ static void all(const struct course *c) {
   course = c;
   steps();
   volatiles();
+  waiting();
   wide_values();
   wide_positions();
   for (size_t i = 0; i < sizeof PAPERS / sizeof *PAPERS; i++) {

@@ -143,7 +143,7 @@ int main(int count, char **args) {
     }
     state.holds[7].depth = 1;
     events = 1;
-    for (const char *k = "UALSRWKNPB"; *k; k++) {
+    for (const char *k = "UALSRWKNPBYFC"; *k; k++) {
       list[0].letter = *k;
       need(short_course ? "step_short" : "step", steps, size);
       printf("%zu %zu\n", reply.number, reply.line);

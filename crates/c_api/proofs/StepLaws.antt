@@ -18,7 +18,7 @@ module _ (m : Limits) (s : State) (k t p : ℕ) (x y : ℤ) (same : y ≡ x) (n 
   unfolding stepReply
   at-name = ap (onNamed m s t) (named ∙ ap (kindOf k p) same)
 
-  -- a letter that is none of the ten
+  -- a letter that is none of the thirteen
   pub none-named : n ≡ Nothing → record { reply = record { number = 4; line = line }; state = s } ≡ stepReply m s k t p x
   none-named e = ap (λ (l : ℕ). record { reply = record { number = 4; line = l }; state = s }) at ∙ ap (onNamed m s t) (sym e) ∙ at-name
 

@@ -35,12 +35,12 @@ initialOf t v l = start (record { threads = t; variables = v; locks = l; volatil
 abbrev pub answered : Answer → StepReply
 answered a = record { reply = replyOf (a .verdict); state = a .state }
 
--- 4. Line is no event of the form above: a letter that is none of the ten, and the state stays as it was
+-- 4. Line is no event of the form above: a letter that is none of the thirteen, and the state stays as it was
 abbrev pub onNamed : Limits → State → ℕ → Named → StepReply
 onNamed m s t Nothing = record { reply = record { number = 4; line = lineAfter (s .counts) (s .events) }; state = s }
 onNamed m s t (Of k) = answered (stepped m s (record { thread = t; line = lineAfter (s .counts) (s .events); kind = k }))
 
--- one step: letter, thread, variable or lock, value
+-- one step: letter, thread, variable or lock, and value, of F the thread that it notifies
 unfoldable pub stepReply : Limits → State → ℕ → ℕ → ℕ → ℤ → StepReply
 stepReply m s k t p x = onNamed m s t (kindOf k p x)
 

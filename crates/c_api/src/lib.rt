@@ -39,7 +39,7 @@ pub struct StepReply {
     pub state: State,
 }
 
-// One step, by value.
+// One step, by value. For F the value is the thread that it notifies; for K, N, Y and C it is not looked at.
 pub fn step_numbers(
     course: Course,
     s: State,

@@ -1,12 +1,11 @@
 -- A negative number is -1 - k, and -1 - k of a negative number is k: at any width.
 use mathlib.Core.Path.{_≡_, refl, sym, ap}
 use mathlib.Core.Bool.{true, false}
-use Prim.Native.Nat.{ℕ, zero, suc, _<_, _≤_, _-_, _^_}
+use Prim.Native.Nat.{ℕ, zero, suc, _<_, _^_}
 use native.Mathlib.Omega.{arith}
 use borrow.Author.Tests.{le-ltb}
-use lib.Dec.{T}
-use lib.IntN.{ℤ, pos, negsuc, natAbs, _-ℤ_}
-use lib.Signed.{ltZ, nonNeg}
+use lib.IntN.{ℤ, pos, negsuc, _-ℤ_}
+use lib.Signed.{ltZ}
 use Rattle.decimal.specs.Text.{isNegative}
 use mir.Syntax.{Width}
 use mir.Val.{SFits, toZ, ofZ, hbits}
@@ -49,11 +48,3 @@ pub negative-form : (w : Width) (x : ℤ) → SFits w x → isNegative x ≡ tru
 negative-form w (pos n) h e = absurd (true-ne-false (sym e))
 negative-form w (negsuc n) h e =
     record { below = n; is = refl; small = h .sfits; flipped = rw (toZ-ofZ w (negsuc n) h) (flip n) }
-
-pub non-negative : (x : ℤ) → isNegative x ≡ false → T (nonNeg x)
-non-negative (pos n) e = tt
-non-negative (negsuc n) e = absurd (true-ne-false e)
-
-pub size-fits : (w : Width) (x : ℤ) → SFits w x → natAbs x ≤ 2 ^ hbits w
-size-fits w (pos n) h = omega (arith, h .sfits)
-size-fits w (negsuc n) h = h .sfits

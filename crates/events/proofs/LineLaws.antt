@@ -2,16 +2,15 @@
 use mathlib.Core.Path.{_≡_, refl, sym, ap, _∙_}
 use mathlib.Core.Bool.{Bool, true, false, cond, false≢true}
 use mathlib.Core.List.{List, [], _∷_}
-use Prim.Native.Nat.{ℕ, zero, suc, _≤_, _<_, _+_, _-_}
+use Prim.Native.Nat.{ℕ, zero, suc, _≤_, _<_, _+_}
 use native.Mathlib.Omega.{arith}
 use native.Mathlib.Numerals.{add-one}
 use borrow.Author.Tests.{ne-eqb}
 use lib.Dec.{eqb, ltb}
-use lib.IntN.{pos}
 use lib.ListN.{length, getD, take, drop, drop-of-length-le}
 use lib.Seq.{drop-cons}
 use Rattle.rules.specs.Limits.{valueWidth}
-use Rattle.rules.specs.Events.{isLetter, isLockLetter}
+use Rattle.rules.specs.Events.{F, isLetter, isLockLetter}
 use Rattle.decimal.specs.declared.Natural.{Natural}
 use Rattle.decimal.specs.declared.Natural.the-variants as natural
 use Rattle.decimal.specs.declared.Integer.the-variants as integer
@@ -19,7 +18,7 @@ use Rattle.decimal.specs.Decimal.{naturalOf, integerOf, positiveOf, negativeOf}
 use Rattle.lines.specs.Lines.{before, splitOn, onFirst, letter}
 use Rattle.lines.proofs.FieldLaws.{split-some}
 use Rattle.decimal.specs.Computed.Forward.{reached, nowhere, numberUntil}
-use Rattle.events.specs.Events.{Fields, wrong, right, onNumber, onInteger, field, last, lockEnd, valueEnd, afterThread, fromFields}
+use Rattle.events.specs.Events.{Fields, wrong, right, onNumber, onInteger, field, last, valueEnd, afterThread, fromFields}
 use Rattle.events.specs.Computed.Lines.{placed, noLine, front, stage}
 use Rattle.decimal.proofs.ScanLaws.{ltb-suc}
 use Rattle.decimal.proofs.NumberLaws.{natural-bad}
@@ -43,17 +42,16 @@ integer-bad (suc i) (y ∷ ys) h e = rw (space-bad i ys (omega arith) e, space-b
     by true = refl
     by false = refl
 
--- a lock event's last field
-pub lock-line : (k t at : ℕ) (u : List ℕ)
-    → stage (last (lockEnd k t)) at u ≡ placed (numberUntil 10 at u .next) (onNumber (numberUntil 10 at u .number) (λ n. right k t n (pos 0)))
+-- a last field that is a number
+pub number-line : (f : ℕ → Fields) (at : ℕ) (u : List ℕ) → stage (last (λ x. onNumber (naturalOf x) f)) at u ≡ placed (numberUntil 10 at u .next) (onNumber (numberUntil 10 at u .number) f)
 unfolding numberUntil front
-lock-line k t at u =
-    stage-last (lockEnd k t) (λ x i h b. rw (space-bad i x h b)) at u
+number-line f at u =
+    stage-last (λ x. onNumber (naturalOf x) f) (λ x i h b. rw (space-bad i x h b)) at u
     ∙ by (ltb (before 10 u) (length u)) (naturalOf (take (before 10 u) u))
   where
     by : (q : Bool) (m : Natural)
-        → cond q (placed (at + before 10 u + 1) (onNumber m (λ n. right k t n (pos 0)))) noLine
-        ≡ placed (cond q (reached (at + before 10 u + 1) m) nowhere .next) (onNumber (cond q (reached (at + before 10 u + 1) m) nowhere .number) (λ n. right k t n (pos 0)))
+        → cond q (placed (at + before 10 u + 1) (onNumber m f)) noLine
+        ≡ placed (cond q (reached (at + before 10 u + 1) m) nowhere .next) (onNumber (cond q (reached (at + before 10 u + 1) m) nowhere .number) f)
     by false m = refl
     by true natural.Bad = refl
     by true (natural.Of n) = refl
@@ -194,12 +192,17 @@ unfolding stage before
 stage-out f s at h = rw (drop-of-length-le s h)
 
 pub thread-none : (k t : ℕ) → afterThread valueWidth k t [] ≡ wrong
-thread-none k t = either-none (isLockLetter k)
+thread-none k t = by (isLockLetter k) (eqb k F)
+  where
+    by : (b c : Bool) → cond b (cond c wrong wrong) wrong ≡ wrong
+    by true c = either-none c
+    by false c = refl
 
-pub thread-lock : (k t at : ℕ) (u : List ℕ) → isLockLetter k ≡ true → stage (last (lockEnd k t)) at u ≡ stage (afterThread valueWidth k t) at u
+-- fields that are read by a test
+pub stage-then : (b : Bool) (f g : List (List ℕ) → Fields) (at : ℕ) (u : List ℕ) → b ≡ true → stage f at u ≡ stage (λ fs. cond b (f fs) (g fs)) at u
 unfolding stage
-thread-lock k t at u e = rw e
+stage-then b f g at u e = rw e
 
-pub thread-value : (k t at : ℕ) (u : List ℕ) → isLockLetter k ≡ false → stage (field (λ v. last (valueEnd valueWidth k t v))) at u ≡ stage (afterThread valueWidth k t) at u
+pub stage-else : (b : Bool) (f g : List (List ℕ) → Fields) (at : ℕ) (u : List ℕ) → b ≡ false → stage g at u ≡ stage (λ fs. cond b (f fs) (g fs)) at u
 unfolding stage
-thread-value k t at u e = rw e
+stage-else b f g at u e = rw e

@@ -1,19 +1,19 @@
 -- A line read with values of a narrower width: the same event where its value lies within it, and otherwise none.
-use Prim.Native.Nat.{ℕ, suc, _≤_}
+use Prim.Native.Nat.{ℕ, suc, _≤_, _<_}
 use native.Mathlib.Omega.{arith}
 use mathlib.Core.Path.{_≡_, refl, sym, ap, _∙_}
 use mathlib.Core.Bool.{Bool, true, false, cond}
 use mathlib.Core.List.{List, [], _∷_, map}
 use mathlib.Core.Option.{Option, none, some}
 use borrow.Author.Tests.{lt-ltb}
+use lib.Dec.{eqb}
 use lib.IntN.{ℤ, pos}
-use lib.Pow.{pow-pos}
 use mir.Syntax.{Width}
-use mir.Val.{hbits}
 use Rattle.rules.specs.declared.Event.{Event}
-use Rattle.rules.specs.Events.{value, isLetter, isLockLetter}
+use Rattle.rules.specs.Events.{F, capped, value, isLetter, isLockLetter}
 use Rattle.rules.specs.Limits.{valueWidth, limit}
 use Rattle.rules.specs.Widths.{fits, narrowed}
+use Rattle.rules.proofs.Letters.{capped-low}
 use Rattle.lines.specs.Lines.{splitOn, letter}
 use Rattle.decimal.specs.declared.Natural.{Natural}
 use Rattle.decimal.specs.declared.Natural.the-variants as natural
@@ -21,7 +21,7 @@ use Rattle.decimal.specs.declared.Integer.{Integer}
 use Rattle.decimal.specs.declared.Integer.the-variants as integer
 use Rattle.decimal.specs.Decimal.{naturalOf, integerOf}
 use Rattle.decimal.proofs.WidthLaws.{narrowedInteger, integer-narrowed}
-use Rattle.events.specs.Events.{Fields, wrong, right, onNumber, onInteger, field, last, lockEnd, valueEnd, afterThread, fromFields, lineOf, eventIn, eventOf, readings}
+use Rattle.events.specs.Events.{Fields, wrong, right, onNumber, onInteger, field, last, lockEnd, notifyEnd, valueEnd, lockFields, afterThread, fromFields, lineOf, eventIn, eventOf, readings}
 use Rattle.events.proofs.FormLaws.{Good, good, made}
 
 -- the fields of a line, less the values outside the width
@@ -29,7 +29,7 @@ abbrev narrowedFields : Width → Fields → Fields
 narrowedFields w wrong = wrong
 narrowedFields w (right k t p x) = cond (fits w x) (right k t p x) wrong
 
-module _ (w : Width) (l : limit w ≤ limit valueWidth) where
+module _ (w : Width) (l : limit w ≤ limit valueWidth) (m : 255 < limit w) where
   number-narrowed : (n : Natural) (f g : ℕ → Fields) → ((i : ℕ) → f i ≡ narrowedFields w (g i)) → onNumber n f ≡ narrowedFields w (onNumber n g)
   number-narrowed natural.Bad f g h = refl
   number-narrowed (natural.Of n) f g h = h n
@@ -43,12 +43,15 @@ module _ (w : Width) (l : limit w ≤ limit valueWidth) where
   last-narrowed f g h (x ∷ []) = h x
   last-narrowed f g h (x ∷ y ∷ xs) = refl
 
-  -- 0 lies within every width
-  zero-fits : fits w (pos 0) ≡ true
-  zero-fits = lt-ltb 0 (limit w) (pow-pos (hbits w))
+  -- a thread held at 255 lies within the width, and so does 0
+  small-fits : (n : ℕ) → n < 256 → fits w (pos n) ≡ true
+  small-fits n h = lt-ltb n (limit w) (omega (arith, h, m))
 
   lock-narrowed : (k t : ℕ) (x : List ℕ) → lockEnd k t x ≡ narrowedFields w (lockEnd k t x)
-  lock-narrowed k t x = number-narrowed (naturalOf x) (λ n. right k t n (pos 0)) (λ n. right k t n (pos 0)) (λ n. rw zero-fits refl)
+  lock-narrowed k t x = number-narrowed (naturalOf x) (λ n. right k t n (pos 0)) (λ n. right k t n (pos 0)) (λ n. rw (small-fits 0 (omega arith)) refl)
+
+  notify-narrowed : (k t v : ℕ) (x : List ℕ) → notifyEnd k t v x ≡ narrowedFields w (notifyEnd k t v x)
+  notify-narrowed k t v x = number-narrowed (naturalOf x) (λ n. right k t v (pos (capped n))) (λ n. right k t v (pos (capped n))) (λ n. rw (small-fits (capped n) (capped-low n)) refl)
 
   value-narrowed : (k t v : ℕ) (x : List ℕ) → valueEnd w k t v x ≡ narrowedFields w (valueEnd valueWidth k t v x)
   value-narrowed k t v x = ap (λ (i : Integer). onInteger i (λ z. right k t v z)) (integer-narrowed w l x) ∙ by (integerOf valueWidth x)
@@ -68,7 +71,10 @@ module _ (w : Width) (l : limit w ≤ limit valueWidth) where
 
   thread-narrowed : (k t : ℕ) (fs : List (List ℕ)) → afterThread w k t fs ≡ narrowedFields w (afterThread valueWidth k t fs)
   thread-narrowed k t fs =
-      either-narrowed (isLockLetter k) _ _ (last (lockEnd k t) fs) (field (λ v. last (valueEnd valueWidth k t v)) fs) (last-narrowed (lockEnd k t) (lockEnd k t) (lock-narrowed k t) fs)
+      either-narrowed (isLockLetter k) _ _ (lockFields k t fs) (field (λ v. last (valueEnd valueWidth k t v)) fs)
+      (either-narrowed (eqb k F) _ _ (field (λ v. last (notifyEnd k t v)) fs) (last (lockEnd k t) fs)
+      (field-narrowed (λ v. last (notifyEnd k t v)) (λ v. last (notifyEnd k t v)) (λ v. last-narrowed (notifyEnd k t v) (notifyEnd k t v) (notify-narrowed k t v)) fs)
+      (last-narrowed (lockEnd k t) (lockEnd k t) (lock-narrowed k t) fs))
       (field-narrowed (λ v. last (valueEnd w k t v)) (λ v. last (valueEnd valueWidth k t v)) (λ v. last-narrowed (valueEnd w k t v) (valueEnd valueWidth k t v) (value-narrowed k t v)) fs)
 
   fields-narrowed : (fs : List (List ℕ)) → fromFields w fs ≡ narrowedFields w (fromFields valueWidth fs)

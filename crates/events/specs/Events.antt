@@ -3,10 +3,11 @@ use Prim.Native.Nat.{ℕ, suc}
 use mathlib.Core.List.{List, [], _∷_}
 use mathlib.Core.Option.{Option, none}
 use mathlib.Core.Bool.{cond}
+use lib.Dec.{eqb}
 use lib.IntN.{ℤ, pos}
 use mir.Syntax.{Width}
 use Rattle.rules.specs.declared.Event.{Event}
-use Rattle.rules.specs.Events.{isLetter, isLockLetter, kindOf, eventWith}
+use Rattle.rules.specs.Events.{F, capped, isLetter, isLockLetter, kindOf, eventWith}
 use Rattle.lines.specs.Lines.{splitOn, letter}
 use Rattle.decimal.specs.declared.Natural.{Natural}
 use Rattle.decimal.specs.declared.Natural.the-variants as natural
@@ -46,14 +47,22 @@ last f (x ∷ y ∷ xs) = wrong
 abbrev pub lockEnd : ℕ → ℕ → List ℕ → Fields
 lockEnd k t x = onNumber (naturalOf x) (λ l. right k t l (pos 0))
 
+-- The thread that an F notifies stands in the place of a value, held at 255: one too large is 5.
+abbrev pub notifyEnd : ℕ → ℕ → ℕ → List ℕ → Fields
+notifyEnd k t l x = onNumber (naturalOf x) (λ u. right k t l (pos (capped u)))
+
 abbrev pub valueEnd : Width → ℕ → ℕ → ℕ → List ℕ → Fields
 valueEnd w k t v x = onInteger (integerOf w x) (λ z. right k t v z)
 
--- `K t l` lock and `N t l` unlock. The others are letter, thread, variable, value.
-abbrev pub afterThread : Width → ℕ → ℕ → List (List ℕ) → Fields
-afterThread w k t fs = cond (isLockLetter k) (last (lockEnd k t) fs) (field (λ v. last (valueEnd w k t v)) fs)
+-- `K t l` lock, `N t l` unlock, `Y t l` and `C t l`; `F t l u`.
+abbrev pub lockFields : ℕ → ℕ → List (List ℕ) → Fields
+lockFields k t fs = cond (eqb k F) (field (λ l. last (notifyEnd k t l)) fs) (last (lockEnd k t) fs)
 
--- every byte other than the ten letters is refused with 4
+-- The others are letter, thread, variable, value.
+abbrev pub afterThread : Width → ℕ → ℕ → List (List ℕ) → Fields
+afterThread w k t fs = cond (isLockLetter k) (lockFields k t fs) (field (λ v. last (valueEnd w k t v)) fs)
+
+-- every byte other than the thirteen letters is refused with 4
 abbrev pub afterLetter : Width → ℕ → List (List ℕ) → Fields
 afterLetter w k fs = cond (isLetter k) (field (afterThread w k) fs) wrong
 

@@ -9,7 +9,7 @@ ghost use mathlib.Core.Path.{_≡_};
 ghost use Prim.Native.Nat.{_≤_};
 ghost use lib.ListN.{length, drop};
 ghost use Rattle.rules.specs.Limits.{full, limitsOf, valueWidth};
-ghost use Rattle.events.specs.Events.{onInteger, right, last, lockEnd, valueEnd, field, afterThread};
+ghost use Rattle.events.specs.Events.{onInteger, right, last, lockEnd, notifyEnd, valueEnd, field, lockFields, afterThread};
 ghost use Rattle.events.specs.Computed.Lines.{noLine, placed, stage, lineAt};
 ghost use Rattle.events.specs.Reading.{Reads};
 
@@ -40,7 +40,7 @@ fn no_line() -> Line
     }
 }
 
-// The last field of a lock event.
+// The last field of a lock event other than F.
 fn lock_end(s: &[u8], at: usize, k: u8, t: usize) -> Line
     ensures { λ r. ⌜ r ≡ stage (last (lockEnd k t)) at (drop at (now (s .entry))) ⌝ }
 {
@@ -55,6 +55,39 @@ fn lock_end(s: &[u8], at: usize, k: u8, t: usize) -> Line
             value: 0,
             next: r.next,
         },
+    }
+}
+
+// The last field of an F: the thread that it notifies.
+fn notify_end(s: &[u8], at: usize, k: u8, t: usize, l: usize) -> Line
+    ensures { λ r. ⌜ r ≡ stage (last (notifyEnd k t l)) at (drop at (now (s .entry))) ⌝ }
+{
+    let r = decimal::number_until(s, at, 10);
+    let n = r.number;
+    match n {
+        Natural::Bad => no_line(),
+        Natural::Of(u) => Line {
+            letter: k,
+            thread: t,
+            place: l,
+            value: rules::cap(u) as Value,
+            next: r.next,
+        },
+    }
+}
+
+// The fields of a lock event behind the thread: a lock, and behind that of an F a thread.
+fn lock_fields(s: &[u8], at: usize, k: u8, t: usize) -> Line
+    ensures { λ r. ⌜ r ≡ stage (lockFields k t) at (drop at (now (s .entry))) ⌝ }
+{
+    if k != b'F' {
+        return lock_end(s, at, k, t);
+    }
+    let r = decimal::number_until(s, at, 32);
+    let n = r.number;
+    match n {
+        Natural::Bad => no_line(),
+        Natural::Of(l) => notify_end(s, r.next, k, t, l),
     }
 }
 
@@ -91,12 +124,12 @@ fn value_end(s: &[u8], at: usize, k: u8, t: usize, v: usize) -> Line
     made(k, t, v, decimal::positive(n), r.next)
 }
 
-// The fields behind the thread: a lock, or a variable and a value.
+// The fields behind the thread: those of a lock event, or a variable and a value.
 fn after_thread(s: &[u8], at: usize, k: u8, t: usize) -> Line
     ensures { λ r. ⌜ r ≡ stage (afterThread valueWidth k t) at (drop at (now (s .entry))) ⌝ }
 {
     if rules::is_lock_letter(k) {
-        return lock_end(s, at, k, t);
+        return lock_fields(s, at, k, t);
     }
     let r = decimal::number_until(s, at, 32);
     let n = r.number;

@@ -198,6 +198,11 @@ fn limits() {
     event(0, Kind::PrescientStore(15, -1));
     event(7, Kind::PrescientAssign(0, 100));
     event(18446744073709551615, Kind::Lock(18446744073709551615));
+    event(7, Kind::Wait(7));
+    event(0, Kind::Notify(7, 7));
+    // A thread that is notified is held at 255.
+    event(0, Kind::Notify(0, 18446744073709551615));
+    event(7, Kind::Resume(0));
 }
 
 // One byte less than each writer asks for: nothing is written.
@@ -275,6 +280,28 @@ fn volatile_rows() {
     marked(h, &other, &fives);
 }
 
+// Thread 0 waits, is notified by thread 1 and comes back. Before that F for -1, which is no thread, is 5, and for thread 1, which does not wait, 30, both
+// at line 6. The values of K, N, Y and C are not looked at.
+fn waiting_rows() {
+    let h = counts(2, 1, 1);
+    // K 0 0, Y 0 0, K 1 0, F 1 0, N 1 0, C 0 0, N 0 0
+    let what: [u32; 7] = [
+        4915200,
+        5832704,
+        4915456,
+        4587776,
+        5112064,
+        4390912,
+        5111808,
+    ];
+    let mut values: [Value; 7] = [-1; 7];
+    marked(h, &what, &values);
+    values[3] = 1;
+    marked(h, &what, &values);
+    values[3] = 0;
+    marked(h, &what, &values);
+}
+
 // ---- The part of a trace that holds its events.
 
 fn part(course: Course, paper: &[u8]) {
@@ -335,7 +362,7 @@ fn locks(h: Counts) {
     held(s);
 }
 
-// All ten kinds; then 5, 9 and 8, which leave the state as it was.
+// All kinds without a wait; then 5, 9 and 8, which leave the state as it was.
 fn kinds(h: Counts) {
     let mut s = state::initial(h);
     s = step(s, 0, Kind::Lock(0));
@@ -392,12 +419,47 @@ fn volatile_steps() {
     held(s);
 }
 
+// What thread 0 waits for: its lock's number plus 1, the holds that it gave up, and whether it is notified.
+fn awaited(s: State) {
+    let w = s.waits[0];
+    let ns = [w.lock, w.depth as usize, w.notified as usize];
+    row(&ns);
+}
+
+// Thread 0 gives up two holds, is notified and takes them again. Refused on the way: F for a thread that does not wait; of the waiting thread an assign, and a
+// C before it is notified; F by a thread without the lock, for an undeclared thread, on another lock and a second time; C while another holds the lock.
+fn waiting_steps(h: Counts) {
+    let mut s = state::initial(h);
+    s = step(s, 0, Kind::Lock(0));
+    s = step(s, 0, Kind::Lock(0));
+    s = step(s, 0, Kind::Notify(0, 1));
+    s = step(s, 0, Kind::Wait(0));
+    held(s);
+    awaited(s);
+    s = step(s, 0, Kind::Assign(0, 5));
+    s = step(s, 0, Kind::Read(0, 0));
+    s = step(s, 0, Kind::Resume(0));
+    s = step(s, 1, Kind::Notify(0, 0));
+    s = step(s, 1, Kind::Lock(0));
+    s = step(s, 1, Kind::Notify(0, 2));
+    s = step(s, 1, Kind::Notify(1, 0));
+    s = step(s, 1, Kind::Notify(0, 0));
+    awaited(s);
+    s = step(s, 1, Kind::Notify(0, 0));
+    s = step(s, 0, Kind::Resume(0));
+    s = step(s, 1, Kind::Unlock(0));
+    s = step(s, 0, Kind::Resume(0));
+    held(s);
+    awaited(s);
+}
+
 fn steps() {
     io::write_all(STDOUT_FILENO, b"steps in place\n");
     let h = counts(2, 2, 2);
     volatile_steps();
     locks(h);
     kinds(h);
+    waiting_steps(h);
     short_steps(h);
 }
 
@@ -456,12 +518,16 @@ fn fills() {
     let what: [u32; 3] = [4915200, 4259841, 5111808];
     let values: [Value; 3] = [0, -9223372036854775808, 0];
     let one: [Value; 1] = [0];
+    // Y 0 0, F 0 0 and a thread, which a negative number is not, C 0 0
+    let waited: [u32; 4] = [5832704, 4587520, 4587520, 4390912];
+    let notified: [Value; 4] = [1, 1, -1, 1];
     let many = [4915200u32; 7];
     let zeros: [Value; 7] = [0; 7];
     fill(5, &what, &values, 2);
     fill(5, &what, &values, 9);
     fill(2, &what, &values, 3);
     fill(5, &what, &one, 3);
+    fill(5, &waited, &notified, 4);
     fill(5, &many, &zeros, 7);
 }
 
@@ -563,7 +629,7 @@ fn eventful_in(
 }
 
 // 7, with one place too few of each; then a trace that is refused, one without an order, and one with it, also from a longer
-// scratch and in the short course, and one that is over its limits.
+// scratch and in the short course, one that is over its limits, one in which a thread waits and comes back, and one in which it still waits.
 fn traces(paper: &[u8]) {
     io::write_all(STDOUT_FILENO, b"a trace into events\n");
     eventful_in(Course::Full, paper, 1999, 32768, 1000, 1000);
@@ -597,6 +663,22 @@ fn traces(paper: &[u8]) {
         1000,
         1000,
     );
+    eventful_in(
+        Course::Full,
+        b"H 2 1 1\nG 0\nK 0 0\nR 0 0 0\nL 0 0 0\nU 0 0 0\nY 0 0\nK 1 0\nA 1 0 5\nS 1 0 5\nW 1 0 5\nF 1 0 0\nN 1 0\nC 0 0\nR 0 0 5\nL 0 0 5\nU 0 0 5\nN 0 0\nZ 128\n",
+        2000,
+        32768,
+        1000,
+        1000,
+    );
+    eventful_in(
+        Course::Full,
+        b"H 1 1 1\nG 0\nK 0 0\nY 0 0\nZ 24\n",
+        2000,
+        32768,
+        1000,
+        1000,
+    );
 }
 
 fn main() {
@@ -604,6 +686,7 @@ fn main() {
         b"H 2 1 1\nG 0\nK 0 0\nA 0 0 5\nS 0 0 5\nW 0 0 5\nN 0 0\nK 1 0\nR 1 0 5\nL 1 0 5\nU 1 0 5\nN 1 0\nZ 84\n";
     io::write_all(STDOUT_FILENO, b"no order wanted\n");
     orderless(paper);
+    orderless(b"H 1 1 1\nG 0\nK 0 0\nY 0 0\nZ 24\n");
     io::write_all(STDOUT_FILENO, b"the writers\n");
     canonical();
     limits();
@@ -611,6 +694,7 @@ fn main() {
     io::write_all(STDOUT_FILENO, b"rows of records\n");
     rows();
     volatile_rows();
+    waiting_rows();
     io::write_all(STDOUT_FILENO, b"the events of a trace\n");
     part(Course::Full, paper);
     part(Course::Full, b"Z 0\n");

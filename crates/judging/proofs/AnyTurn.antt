@@ -7,22 +7,23 @@ use lib.ListN.{getD, set}
 use Rattle.rules.specs.declared.Event.{Event}
 use Rattle.rules.specs.declared.Kind.{Kind}
 use Rattle.rules.specs.declared.Kind.the-variants as kind
-use Rattle.rules.specs.Events.{letter, place, value}
+use Rattle.rules.specs.Events.{letter, place, value, subject}
 use Rattle.rules.specs.Words.{first}
 use Rattle.rules.specs.Rules.{judge}
 use Rattle.state.specs.declared.Cell.{Cell}
 use Rattle.state.specs.declared.State.{State}
-use Rattle.state.specs.State.{noSlot, noHold, noMain, blank, queued, cellAt, readsAt, wordsIn}
-use Rattle.state.specs.Step.{nextCell, readAfter, storeAfter, mainAfter, lockedAfter, varOf, lockOf, Within, behind, stepState}
+use Rattle.state.specs.State.{noSlot, noHold, noMain, noWait, blank, queued, cellAt, readsAt, wordsIn}
+use Rattle.state.specs.Step.{nextCell, readAfter, storeAfter, holdAfter, waitAfter, mainAfter, lockedAfter, varOf, lockOf, Within, behind, stepState}
 use Rattle.state.specs.Computed.Places.{cellPlace, slotPlace}
 use Rattle.state.proofs.LeafLaws.{place-is, slot-is, cell-read}
 use Rattle.judging.specs.declared.Turn.{Turn}
 use Rattle.judging.specs.Computed.Checks.{oldestOf}
-use Rattle.judging.specs.Computed.Turns.{cellTurn, readsWith, readsTurn, storesWith, storesTurn, lockTurn, partsAt, eitherOf, turnOf, someOf}
-use Rattle.judging.specs.Computed.Leads.{leadAt}
+use Rattle.judging.specs.Computed.Turns.{cellTurn, readsWith, readsTurn, storesWith, storesTurn, lockTurn, waitTurn, partsAt, eitherOf, turnOf, someOf}
+use Rattle.judging.specs.Computed.Leads.{leadAt, aheadAt}
 use Rattle.judging.proofs.Rows.{trailing, judge-split}
 use Rattle.judging.proofs.Leads.{lead-is}
-use Rattle.judging.proofs.Turned.{By, cell-rule, reads-rule, stores-rule, lock-rule, oldest-is, hold-same}
+use Rattle.judging.proofs.Waits.{ahead-is}
+use Rattle.judging.proofs.Turned.{By, cell-rule, reads-rule, stores-rule, lock-rule, wait-rule, oldest-is, hold-same, wait-same}
 
 either-none : (a : ℕ) → eitherOf a 0 ≡ a
 either-none zero = refl
@@ -36,7 +37,7 @@ abbrev pub cellIn : State → Event → Cell
 cellIn s e = getD (s .cells) (at s e) blank
 
 abbrev pub turnIn : State → Event → Turn
-turnIn s e = turnOf (partsAt s (e .thread) (varOf (e .kind)) (lockOf (e .kind))) (s .counts .threads) (someOf s (e .thread) (s .counts .variables)) (e .thread) (letter (e .kind)) (value (e .kind)) (s .events + 1)
+turnIn s e = turnOf (partsAt s (e .thread) (varOf (e .kind)) (lockOf (e .kind)) (subject e)) (s .counts .threads) (someOf s (e .thread) (s .counts .variables)) (e .thread) (lockOf (e .kind)) (letter (e .kind)) (value (e .kind)) (s .events + 1)
 
 module _ (s : State) (t line : ℕ) where
   abbrev of : Kind → Event
@@ -46,17 +47,20 @@ module _ (s : State) (t line : ℕ) where
   by k = record { thread = refl; place = refl; letter = refl; value = refl }
 
   judged : (k : Kind) → Within t k → s .counts .threads ≤ 8 → turnIn s (of k) .rule ≡ trailing (s .counts) (wordsIn s) (of k)
-  unfolding turnOf cellTurn readsTurn readsWith storesTurn storesWith lockTurn varOf lockOf
+  unfolding turnOf cellTurn readsTurn readsWith storesTurn storesWith lockTurn waitTurn varOf lockOf
   judged (kind.Use v x) w h = either-none _ ∙ cell-rule s (of (kind.Use v x)) (by (kind.Use v x)) w tt refl refl
   judged (kind.Assign v x) w h = either-none _ ∙ cell-rule s (of (kind.Assign v x)) (by (kind.Assign v x)) w tt refl refl
   judged (kind.Load v x) w h = either-none _ ∙ reads-rule s (of (kind.Load v x)) (by (kind.Load v x)) w tt refl refl refl refl
   judged (kind.Store v x) w h = stores-rule s (of (kind.Store v x)) (by (kind.Store v x)) w tt refl refl refl refl
   judged (kind.Read v x) w h = either-none _ ∙ reads-rule s (of (kind.Read v x)) (by (kind.Read v x)) w tt refl refl refl refl
   judged (kind.Write v x) w h = stores-rule s (of (kind.Write v x)) (by (kind.Write v x)) w tt refl refl refl refl
-  judged (kind.Lock l) w h = either-none _ ∙ either-none _ ∙ lock-rule s (of (kind.Lock l)) (by (kind.Lock l)) w tt _ refl refl h
-  judged (kind.Unlock l) w h = either-none _ ∙ either-none _ ∙ lock-rule s (of (kind.Unlock l)) (by (kind.Unlock l)) w tt _ refl refl h
+  judged (kind.Lock l) w h = either-none _ ∙ either-none _ ∙ either-none _ ∙ lock-rule s (of (kind.Lock l)) (by (kind.Lock l)) w tt _ refl refl h
+  judged (kind.Unlock l) w h = either-none _ ∙ either-none _ ∙ either-none _ ∙ lock-rule s (of (kind.Unlock l)) (by (kind.Unlock l)) w tt _ refl refl h
   judged (kind.PrescientStore v x) w h = stores-rule s (of (kind.PrescientStore v x)) (by (kind.PrescientStore v x)) w tt refl refl refl refl
   judged (kind.PrescientAssign v x) w h = either-none _ ∙ cell-rule s (of (kind.PrescientAssign v x)) (by (kind.PrescientAssign v x)) w tt refl refl
+  judged (kind.Wait l) w h = either-none _ ∙ either-none _ ∙ wait-rule s (of (kind.Wait l)) (by (kind.Wait l)) w tt refl _ refl refl h
+  judged (kind.Notify l u) w h = either-none _ ∙ either-none _ ∙ wait-rule s (of (kind.Notify l u)) (by (kind.Notify l u)) w tt refl _ refl refl h
+  judged (kind.Resume l) w h = either-none _ ∙ either-none _ ∙ wait-rule s (of (kind.Resume l)) (by (kind.Resume l)) w tt refl _ refl refl h
 
   next : (k : Kind) → turnIn s (of k) .cell ≡ nextCell (s .events + 1) (oldestOf (cellIn s (of k) .reads) (getD (s .reads) (slotPlace (at s (of k)) (cellIn s (of k) .reads) 0) noSlot)) (letter k) (value k) (cellIn s (of k))
   unfolding turnOf cellTurn readsTurn readsWith storesTurn storesWith nextCell
@@ -70,9 +74,12 @@ module _ (s : State) (t line : ℕ) where
   next (kind.Unlock l) = refl
   next (kind.PrescientStore v x) = refl
   next (kind.PrescientAssign v x) = refl
+  next (kind.Wait l) = refl
+  next (kind.Notify l u) = refl
+  next (kind.Resume l) = refl
 
   -- the place behind the last store: S has the position that the cell has before the event
-  sent : (k : Kind) → turnIn s (of k) .store ≡ storeAfter (partsAt s t (varOf k) (lockOf k) .stores .behind) (letter k) (value k) (cellIn s (of k) .assigned) (s .events + 1)
+  sent : (k : Kind) → turnIn s (of k) .store ≡ storeAfter (partsAt s t (varOf k) (lockOf k) t .stores .behind) (letter k) (value k) (cellIn s (of k) .assigned) (s .events + 1)
   unfolding turnOf cellTurn readsTurn readsWith storesTurn storesWith storeAfter nextCell
   sent (kind.Use v x) = refl
   sent (kind.Assign v x) = refl
@@ -84,10 +91,34 @@ module _ (s : State) (t line : ℕ) where
   sent (kind.Unlock l) = refl
   sent (kind.PrescientStore v x) = refl
   sent (kind.PrescientAssign v x) = refl
+  sent (kind.Wait l) = refl
+  sent (kind.Notify l u) = refl
+  sent (kind.Resume l) = refl
+
+  -- what is put back of a lock event
+  put : (k : Kind) → Within t k → getD (s .holds) (lockOf k) noHold .depth < 2000
+      → (turnIn s (of k) .locked ≡ lockedAfter (getD (s .locked) t 0) (letter k) (s .events + 1))
+      × (turnIn s (of k) .hold ≡ holdAfter (getD (s .holds) (lockOf k) noHold) (getD (s .waits) (subject (of k)) noWait) t (letter k))
+      × (turnIn s (of k) .wait ≡ waitAfter (getD (s .waits) (subject (of k)) noWait) (getD (s .holds) (lockOf k) noHold) (lockOf k) t (letter k))
+  unfolding turnOf lockTurn waitTurn lockedAfter holdAfter waitAfter
+  put (kind.Use v x) w deep = (refl, refl, wait-same _ _ _ t _ (w .lock))
+  put (kind.Assign v x) w deep = (refl, refl, wait-same _ _ _ t _ (w .lock))
+  put (kind.Load v x) w deep = (refl, refl, wait-same _ _ _ t _ (w .lock))
+  put (kind.Store v x) w deep = (refl, refl, wait-same _ _ _ t _ (w .lock))
+  put (kind.Read v x) w deep = (refl, refl, wait-same _ _ _ t _ (w .lock))
+  put (kind.Write v x) w deep = (refl, refl, wait-same _ _ _ t _ (w .lock))
+  put (kind.Lock l) w deep = (refl, hold-same _ _ t _ (w .thread) deep, wait-same _ _ _ t _ (w .lock))
+  put (kind.Unlock l) w deep = (refl, hold-same _ _ t _ (w .thread) deep, wait-same _ _ _ t _ (w .lock))
+  put (kind.PrescientStore v x) w deep = (refl, refl, wait-same _ _ _ t _ (w .lock))
+  put (kind.PrescientAssign v x) w deep = (refl, refl, wait-same _ _ _ t _ (w .lock))
+  put (kind.Wait l) w deep = (refl, hold-same _ _ t _ (w .thread) deep, wait-same _ _ _ t _ (w .lock))
+  put (kind.Notify l u) w deep = (refl, refl, wait-same _ _ _ t _ (w .lock))
+  put (kind.Resume l) w deep = (refl, hold-same _ _ t _ (w .thread) deep, wait-same _ _ _ t _ (w .lock))
 
 module _ (s : State) (e : Event) (w : Within (e .thread) (e .kind)) where
-  pub any-rule : s .counts .threads ≤ 8 → s .counts .variables ≤ 16 → eitherOf (leadAt s (e .thread) (varOf (e .kind)) (letter (e .kind))) (turnIn s e .rule) ≡ judge (s .counts) (wordsIn s) e
-  any-rule h m = (λ j. eitherOf (lead-is s e w m j) (judged s (e .thread) (e .line) (e .kind) w h j)) ∙ sym (judge-split (s .counts) (wordsIn s) e)
+  pub any-rule : s .counts .threads ≤ 8 → s .counts .variables ≤ 16
+      → eitherOf (aheadAt s (e .thread) (lockOf (e .kind)) (letter (e .kind)) (value (e .kind))) (eitherOf (leadAt s (e .thread) (varOf (e .kind)) (letter (e .kind))) (turnIn s e .rule)) ≡ judge (s .counts) (wordsIn s) e
+  any-rule h m = (λ j. eitherOf (ahead-is s e j) (eitherOf (lead-is s e w m j) (judged s (e .thread) (e .line) (e .kind) w h j))) ∙ sym (judge-split (s .counts) (wordsIn s) e)
 
   number : at s e ≡ 16 * e .thread + varOf (e .kind)
   number = place-is (e .thread) (varOf (e .kind)) (w .thread) (w .variable) refl
@@ -118,15 +149,17 @@ module _ (s : State) (e : Event) (w : Within (e .thread) (e .kind)) where
         locked = set (s .locked) (e .thread) (turnIn s e .locked);
         holds = set (s .holds) (lockOf (e .kind)) (turnIn s e .hold);
         memory = set (s .memory) (varOf (e .kind)) (turnIn s e .main);
+        waits = set (s .waits) (subject e) (turnIn s e .wait);
       }) (stepState s e)
-  unfolding stepState turnOf readsTurn readsWith storesTurn storesWith lockTurn
-  any-put deep = λ j. record {
+  unfolding stepState turnOf readsTurn readsWith storesTurn storesWith
+  any-put deep = let put = put s (e .thread) (e .line) (e .kind) w deep in λ j. record {
     counts = s .counts;
     events = s .events + 1;
     cells = ((λ j. set (s .cells) (at s e) (next s (e .thread) (e .line) (e .kind) j)) ∙ (λ j. set (s .cells) (number j) (nextCell (s .events + 1) (oldest j) (letter (e .kind)) (value (e .kind)) (cell-is j)))) j;
     reads = set (s .reads) (read-end j) (readAfter (getD (s .reads) (read-end j) noSlot) (letter (e .kind)) (value (e .kind)) (s .events + 1));
     stores = ((λ j. set (s .stores) (slotPlace (at s e) (cellIn s e .stores) (cellIn s e .stores .len)) (sent s (e .thread) (e .line) (e .kind) j)) ∙ (λ j. set (s .stores) (store-end j) (storeAfter (getD (s .stores) (store-end j) noSlot) (letter (e .kind)) (value (e .kind)) (cell-is j .assigned) (s .events + 1)))) j;
-    locked = set (s .locked) (e .thread) (lockedAfter (getD (s .locked) (e .thread) 0) (letter (e .kind)) (s .events + 1));
-    holds = set (s .holds) (lockOf (e .kind)) (hold-same (getD (s .holds) (lockOf (e .kind)) noHold) (e .thread) (letter (e .kind)) (w .thread) deep j);
+    locked = set (s .locked) (e .thread) (put .0 j);
+    holds = set (s .holds) (lockOf (e .kind)) (put .1 j);
     memory = set (s .memory) (varOf (e .kind)) (mainAfter (getD (s .memory) (varOf (e .kind)) noMain) (letter (e .kind)) (value (e .kind)));
+    waits = set (s .waits) (subject e) (put .2 j);
   }

@@ -1,10 +1,10 @@
 -- The checks that lead a row, from the parts of a state: what `leadAt` computes is 26, 27 and 28 of the rules.
 use Prim.Native.Nat.{ℕ, _+_, _*_, _≤_, _<_}
 use native.Mathlib.Omega.{arith}
-use mathlib.Core.Path.{_≡_, refl, sym, ap, _∙_}
-use mathlib.Core.List.{List, [], _∷_}
+use mathlib.Core.Path.{_≡_, refl, sym, ap, _∙_, subst}
+use mathlib.Core.List.{List}
 use mathlib.Core.Bool.{Bool, true, false, not, cond, _&&_, _||_, and-false, or-false}
-use lib.Dec.{eqb, ltb}
+use lib.Dec.{T, eqb, ltb}
 use lib.IntN.{ℤ}
 use lib.ListN.{getD}
 use Rattle.rules.specs.declared.Event.{Event}
@@ -12,23 +12,23 @@ use Rattle.rules.specs.declared.Counts.{Counts}
 use Rattle.rules.specs.declared.Slot.{Slot}
 use Rattle.rules.specs.declared.Kind.{Kind}
 use Rattle.rules.specs.declared.Kind.the-variants as kind
-use Rattle.rules.specs.Events.{K, N, U, W, letter, place, among, is}
+use Rattle.rules.specs.Events.{A, B, C, F, K, L, N, P, R, S, U, W, Y, letter, place, among, is, lockLetters}
 use Rattle.rules.specs.Limits.{volatile}
 use Rattle.rules.specs.Words.{first}
 use Rattle.rules.specs.Rules.{Words, some, wrongNeighbour, useBarred, writeBarred, volatileOrder, prescientVolatile, breaks, firstBroken}
-use Rattle.rules.specs.Rules.{rows, rowIn}
 use Rattle.rules.specs.Rules as rule
-use Rattle.rules.proofs.Laws.{or-false-left, or-false-right, none-some, some-ext}
+use Rattle.rules.proofs.Laws.{cases, or-false-left, or-false-right, none-some, some-ext}
 use Rattle.state.specs.declared.Cell.{Cell}
 use Rattle.state.specs.declared.State.{State}
 use Rattle.state.specs.State.{noSlot, blank, queued, cellAt, storesAt, wordsIn}
 use Rattle.state.specs.Step.{varOf, Within}
 use Rattle.state.specs.Computed.Places.{cellPlace, slotPlace}
 use Rattle.state.proofs.LeafLaws.{cond-same, place-is, cell-read}
+use Rattle.state.proofs.Letters.{by-letters}
 use Rattle.state.proofs.Rings.{queued-none}
-use Rattle.judging.specs.Computed.Checks.{oldestOf, filled, rowOf}
-use Rattle.judging.specs.Computed.Leads.{isAccess, leadChecks, firstLead, leadRule, barsUse, barsWrite, barsEvent, frontAt, barsAt, orderAt, leadWith, leadAt}
-use Rattle.judging.proofs.Rows.{leading, row-led, unled-plain, unled-lock}
+use Rattle.judging.specs.Computed.Checks.{oldestOf}
+use Rattle.judging.specs.Computed.Leads.{isAccess, leadChecks, leadRule, barsUse, barsWrite, barsEvent, frontAt, barsAt, orderAt, leadWith, leadAt}
+use Rattle.judging.proofs.Rows.{leading, unled-plain, unled-lock}
 use Rattle.judging.proofs.Turned.{By, var-place, oldest-is}
 
 -- a letter of which 27 asks nothing
@@ -109,57 +109,36 @@ module _ (s : State) (t line : ℕ) (ht : t < 8) (hn : s .counts .variables ≤ 
       apart true = refl
       apart false = none-some (h .variables) (λ u. volatile h u && false) (λ u l. and-false (volatile h u))
 
-  order-in : (k : Kind) → place k < 16 → volatile h (place k) ≡ true → orderAt h (s .cells) (s .stores) t (place k) (letter k) ≡ volatileOrder h w (of k)
-  unfolding volatileOrder useBarred writeBarred is
-  order-in (kind.Use v x) l q = use-order v l ∙ sym (rw (q, or-false) refl)
-  order-in (kind.Assign v x) l q = no-order h (s .cells) (s .stores) t v (letter (kind.Assign v x)) refl refl
-  order-in (kind.Load v x) l q = no-order h (s .cells) (s .stores) t v (letter (kind.Load v x)) refl refl
-  order-in (kind.Store v x) l q = no-order h (s .cells) (s .stores) t v (letter (kind.Store v x)) refl refl
-  order-in (kind.Read v x) l q = no-order h (s .cells) (s .stores) t v (letter (kind.Read v x)) refl refl
-  order-in (kind.Write v x) l q = write-order v l ∙ sym (rw q refl)
-  order-in (kind.Lock v) l q = no-order h (s .cells) (s .stores) t v (letter (kind.Lock v)) refl refl
-  order-in (kind.Unlock v) l q = no-order h (s .cells) (s .stores) t v (letter (kind.Unlock v)) refl refl
-  order-in (kind.PrescientStore v x) l q = no-order h (s .cells) (s .stores) t v (letter (kind.PrescientStore v x)) refl refl
-  order-in (kind.PrescientAssign v x) l q = no-order h (s .cells) (s .stores) t v (letter (kind.PrescientAssign v x)) refl refl
-
-  -- ---- 26 and 28
-
-  neighbour-in : (k : Kind) → place k < 16 → volatile h (place k) ≡ true → (o : Bool) → leadChecks (at (place k)) o (letter k) .neighbour ≡ wrongNeighbour h w (of k)
-  unfolding isAccess wrongNeighbour is wordsIn
-  neighbour-in (kind.Use v x) l q o = rw (q, cell-in v l) refl
-  neighbour-in (kind.Assign v x) l q o = rw (q, cell-in v l) refl
-  neighbour-in (kind.Load v x) l q o = rw (q, cell-in v l) refl
-  neighbour-in (kind.Store v x) l q o = rw (q, cell-in v l) refl
-  neighbour-in (kind.Read v x) l q o = refl
-  neighbour-in (kind.Write v x) l q o = refl
-  neighbour-in (kind.Lock v) l q o = refl
-  neighbour-in (kind.Unlock v) l q o = refl
-  neighbour-in (kind.PrescientStore v x) l q o = rw (q, cell-in v l) refl
-  neighbour-in (kind.PrescientAssign v x) l q o = rw (q, cell-in v l) refl
-
-  prescient-in : (k : Kind) → volatile h (place k) ≡ true → (c : Cell) (o : Bool) → leadChecks c o (letter k) .prescient ≡ prescientVolatile h (of k)
-  unfolding prescientVolatile is
-  prescient-in (kind.Use v x) q c o = refl
-  prescient-in (kind.Assign v x) q c o = refl
-  prescient-in (kind.Load v x) q c o = refl
-  prescient-in (kind.Store v x) q c o = refl
-  prescient-in (kind.Read v x) q c o = refl
-  prescient-in (kind.Write v x) q c o = refl
-  prescient-in (kind.Lock v) q c o = refl
-  prescient-in (kind.Unlock v) q c o = refl
-  prescient-in (kind.PrescientStore v x) q c o = rw q refl
-  prescient-in (kind.PrescientAssign v x) q c o = rw q refl
-
-  -- ---- the number
+  -- ---- all three
 
   abbrev order : Kind → Bool
   order k = orderAt h (s .cells) (s .stores) t (place k) (letter k)
 
+  quiet : (v k : ℕ) → eqb k U ≡ false → eqb k W ≡ false → orderAt h (s .cells) (s .stores) t v k ≡ false
+  quiet v k p q = no-order h (s .cells) (s .stores) t v k p q
+
+  checks-in : (k : Kind) → place k < 16 → volatile h (place k) ≡ true → (o : Bool)
+      → (leadChecks (at (place k)) o (letter k) .neighbour ≡ wrongNeighbour h w (of k)) × (order k ≡ volatileOrder h w (of k)) × (leadChecks (at (place k)) o (letter k) .prescient ≡ prescientVolatile h (of k))
+  unfolding isAccess wrongNeighbour volatileOrder useBarred writeBarred prescientVolatile is wordsIn
+  checks-in (kind.Use v x) l q o = (rw (q, cell-in v l) refl, use-order v l ∙ sym (rw (q, or-false) refl), refl)
+  checks-in (kind.Assign v x) l q o = (rw (q, cell-in v l) refl, quiet v A refl refl, refl)
+  checks-in (kind.Load v x) l q o = (rw (q, cell-in v l) refl, quiet v L refl refl, refl)
+  checks-in (kind.Store v x) l q o = (rw (q, cell-in v l) refl, quiet v S refl refl, refl)
+  checks-in (kind.Read v x) l q o = (refl, quiet v R refl refl, refl)
+  checks-in (kind.Write v x) l q o = (refl, write-order v l ∙ sym (rw q refl), refl)
+  checks-in (kind.Lock v) l q o = (refl, quiet v K refl refl, refl)
+  checks-in (kind.Unlock v) l q o = (refl, quiet v N refl refl, refl)
+  checks-in (kind.PrescientStore v x) l q o = (rw (q, cell-in v l) refl, quiet v P refl refl, rw q refl)
+  checks-in (kind.PrescientAssign v x) l q o = (rw (q, cell-in v l) refl, quiet v B refl refl, rw q refl)
+  checks-in (kind.Wait v) l q o = (refl, quiet v Y refl refl, refl)
+  checks-in (kind.Notify v u) l q o = (refl, quiet v F refl refl, refl)
+  checks-in (kind.Resume v) l q o = (refl, quiet v C refl refl, refl)
+
+  -- ---- the number
+
   lead-volatile : (k : Kind) → place k < 16 → volatile h (place k) ≡ true → leadRule (at (place k)) (order k) (letter k) ≡ leading h w (of k)
-  unfolding leadRule rowOf firstBroken breaks
-  lead-volatile k l q =
-      (λ j. firstLead (leadChecks (at (place k)) (order k) (letter k)) (filled (row-led k j)))
-      ∙ (λ j. cond (neighbour-in k l q (order k) j) 26 (cond (order-in k l q j) 27 (cond (prescient-in k q (at (place k)) (order k) j) 28 0)))
+  unfolding leadRule firstBroken breaks
+  lead-volatile k l q = let c = checks-in k l q (order k) in λ j. cond (c .0 j) 26 (cond (c .1 j) 27 (cond (c .2 j) 28 0))
 
   lead-variable : (k : Kind) → place k < 16 → leadAt s t (place k) (letter k) ≡ leading h w (of k)
   unfolding leadWith
@@ -170,31 +149,24 @@ module _ (s : State) (t line : ℕ) (ht : t < 8) (hn : s .counts .variables ≤ 
       go false q = sym (unled-plain h w (of k) q)
 
   -- of a lock event: none
-  lead-lock : (k : ℕ) → eqb k U ≡ false → eqb k W ≡ false → ((c : Cell) (o : Bool) → leadRule c o k ≡ cond o 27 0) → (v : ℕ) → leadAt s t v k ≡ 0
-  unfolding leadWith
-  lead-lock k p q f v =
-      ap (λ (n : ℕ). cond (volatile h v) n 0) (f (at v) (orderAt h (s .cells) (s .stores) t v k) ∙ ap (λ (b : Bool). cond b 27 0) (no-order h (s .cells) (s .stores) t v k p q))
-      ∙ cond-same {A = ℕ} (volatile h v) 0
+  lead-lock : (k : ℕ) → T (among lockLetters k) → (v : ℕ) → leadAt s t v k ≡ 0
+  unfolding leadWith leadRule isAccess
+  lead-lock k h v = by-letters (λ k. leadAt s t v k ≡ 0) lockLetters (none (quiet v K refl refl), (none (quiet v N refl refl), (none (quiet v Y refl refl), (none (quiet v F refl refl), (none (quiet v C refl refl), tt))))) k h
+    where
+      none : {o : Bool} → o ≡ false → _≡_ {A = ℕ} (cond (volatile (s .counts) v) (cond o 27 0) 0) 0
+      none q = ap (λ (o : Bool). cond (volatile (s .counts) v) (cond o 27 0) 0) q ∙ cond-same {A = ℕ} (volatile (s .counts) v) 0
 
   lead-in : (k : Kind) → varOf k < 16 → leadAt s t (varOf k) (letter k) ≡ leading h w (of k)
-  unfolding varOf
-  lead-in (kind.Use v x) l = lead-variable (kind.Use v x) l
-  lead-in (kind.Assign v x) l = lead-variable (kind.Assign v x) l
-  lead-in (kind.Load v x) l = lead-variable (kind.Load v x) l
-  lead-in (kind.Store v x) l = lead-variable (kind.Store v x) l
-  lead-in (kind.Read v x) l = lead-variable (kind.Read v x) l
-  lead-in (kind.Write v x) l = lead-variable (kind.Write v x) l
-  lead-in (kind.Lock v) l = lead-lock K refl refl (λ c o. unfold leadRule rowOf rows rowIn isAccess in refl) 0 ∙ sym (unled-lock h w (of (kind.Lock v)) tt)
-  lead-in (kind.Unlock v) l = lead-lock N refl refl (λ c o. unfold leadRule rowOf rows rowIn isAccess in refl) 0 ∙ sym (unled-lock h w (of (kind.Unlock v)) tt)
-  lead-in (kind.PrescientStore v x) l = lead-variable (kind.PrescientStore v x) l
-  lead-in (kind.PrescientAssign v x) l = lead-variable (kind.PrescientAssign v x) l
+  lead-in k l = cases (among lockLetters (letter k))
+      (λ q. lead-lock (letter k) (subst T (sym q) tt) (varOf k) ∙ sym (unled-lock h w (of k) (subst T (sym q) tt)))
+      (λ q. let p : varOf k ≡ place k = unfold varOf in rw q refl in ap (λ (v : ℕ). leadAt s t v (letter k)) p ∙ lead-variable k (subst (λ (v : ℕ). v < 16) p l))
 
 module _ (s : State) (e : Event) (w : Within (e .thread) (e .kind)) (hn : s .counts .variables ≤ 16) where
   pub lead-is : leadAt s (e .thread) (varOf (e .kind)) (letter (e .kind)) ≡ leading (s .counts) (wordsIn s) e
   lead-is = lead-in s (e .thread) (e .line) (w .thread) hn (e .kind) (w .variable)
 
   -- an event on a variable, by its numbers
-  pub lead-by : {t v k : ℕ} {x : ℤ} → By e t v k x → among (K ∷ N ∷ []) k ≡ false → leadAt s t v k ≡ leading (s .counts) (wordsIn s) e
+  pub lead-by : {t v k : ℕ} {x : ℤ} → By e t v k x → among lockLetters k ≡ false → leadAt s t v k ≡ leading (s .counts) (wordsIn s) e
   lead-by n q = (λ j. leadAt s (n .thread j) (var-place n q j) (n .letter j)) ∙ lead-is
 
 -- ---- as it is computed

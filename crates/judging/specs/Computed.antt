@@ -1,4 +1,4 @@
--- What the functions of this crate compute; `proofs/Turned.antt` and `proofs/Leads.antt` prove that it is what the rules and the
+-- What the functions of this crate compute; `proofs/Turned.antt`, `proofs/Leads.antt` and `proofs/Waits.antt` prove that it is what the rules and the
 -- state's definitions say.
 pub mod Checks
 pub mod Leads

@@ -1,13 +1,13 @@
 // One event judged from the parts of a state that it looks at, and what it leaves of them. Nothing here sees a whole state. What a turn
 // answers is in specs/Computed/Turns.antt, and proofs/Turned.antt proves that it is the row of the rules, the checks that lead it left aside, and
-// the state after the event; those checks are in specs/Computed/Leads.antt and proofs/Leads.antt.
+// the state after the event; those checks are in specs/Computed/Leads.antt, proofs/Waits.antt and proofs/Leads.antt.
 ghost use mathlib.Core.Path.{_≡_};
 ghost use mathlib.Core.List.{[]};
 ghost use Prim.Native.Nat.{_<_, max};
 ghost use lib.ListN.{getD};
-ghost use Rattle.rules.specs.Events.{A as Assign, B, K, L, N, P, R, S, W};
+ghost use Rattle.rules.specs.Events.{A as Assign, B, C, F, K, L, N, P, R, S, W, Y};
 ghost use Rattle.rules.specs.Rules.{differ};
-ghost use Rattle.state.specs.State.{noSlot, depthOf};
+ghost use Rattle.state.specs.State.{noSlot, noHold, noWait, depthOf, rememberedOf, notifiedOf};
 ghost use Rattle.state.specs.Step.{pushed, popped, nextCell};
 ghost use Rattle.judging.specs.Computed.Checks.{
   oldestOf,
@@ -20,20 +20,22 @@ ghost use Rattle.judging.specs.Computed.Checks.{
   writeChecks,
   lockChecks,
   unlockChecks,
+  notifyChecks,
   prescientStoreChecks,
   prescientAssignChecks,
-  rowOf,
+  lead,
   table,
   firstOf,
 };
-ghost use Rattle.judging.specs.Computed.Leads.{isAccess, leadChecks, firstLead, leadRule, barsUse, barsWrite, barsEvent};
-ghost use Rattle.judging.specs.Computed.Turns.{holdFor, afterUse, isUsed, useRule, cellTurn, readsTurn, storesTurn, lockTurn, eitherOf, turnOf};
+ghost use Rattle.judging.specs.Computed.Leads.{isWaiting, isBarred, isUntold, aheadRule, barredRule, isAccess, leadChecks, firstLead, leadRule, barsUse, barsWrite, barsEvent};
+ghost use Rattle.judging.specs.Computed.Turns.{holdFor, waitFor, afterUse, isUsed, useRule, cellTurn, readsTurn, storesTurn, waitTurn, lockTurn, eitherOf, turnOf};
 use rules::Main;
 use rules::Slot;
 use rules::Value;
 use state::Cell;
 use state::Hold;
 use state::Ring;
+use state::Waiting;
 
 // What some variable of a thread has: a pending prescient store, a fresh assign, an outstanding store that N counts.
 pub struct OnSome {
@@ -64,6 +66,13 @@ pub struct StoresTurn {
 pub struct LockTurn {
     pub rule: u8,
     pub hold: Hold,
+    pub locked: usize,
+}
+
+pub struct WaitTurn {
+    pub rule: u8,
+    pub hold: Hold,
+    pub wait: Waiting,
     pub locked: usize,
 }
 
@@ -246,6 +255,19 @@ fn unlock_checks(a: Hold, w: OnSome, t: usize) -> Checks
     }
 }
 
+fn notify_checks(a: Hold, t: usize) -> Checks
+    ensures { λ r. ⌜ r ≡ notifyChecks a t ⌝ }
+{
+    let n = depth_of(a, t);
+    Checks {
+        first: !(0 < n),
+        second: false,
+        third: false,
+        fourth: false,
+        fifth: false,
+    }
+}
+
 fn prescient_store_checks(c: Cell) -> Checks
     ensures { λ r. ⌜ r ≡ prescientStoreChecks c ⌝ }
 {
@@ -274,70 +296,139 @@ fn prescient_assign_checks(c: Cell, x: Value) -> Checks
 
 // ---- The rows.
 
-// The rows of U, A, L, S, R, W, K, N, P, B; 0 fills a row.
-const ROWS: [[u8; 8]; 10] = [
-    [26, 27, 28, 17, 18, 0, 0, 0],
-    [26, 27, 28, 23, 0, 0, 0, 0],
-    [26, 27, 28, 10, 13, 15, 16, 18],
-    [26, 27, 28, 13, 14, 17, 18, 19],
-    [26, 27, 28, 18, 19, 23, 0, 0],
-    [26, 27, 28, 10, 18, 0, 0, 0],
-    [26, 27, 28, 11, 13, 0, 0, 0],
-    [26, 27, 28, 12, 15, 16, 0, 0],
-    [26, 27, 28, 13, 19, 23, 0, 0],
-    [26, 27, 28, 10, 18, 0, 0, 0],
+// The numbers that lead each row.
+const LEAD: [u8; 5] = [29, 30, 26, 27, 28];
+
+// The rows of U, A, L, S, R, W, K, N, P, B, Y, F, C behind them; 0 fills a row.
+const ROWS: [[u8; 5]; 13] = [
+    [17, 18, 0, 0, 0],
+    [23, 0, 0, 0, 0],
+    [10, 13, 15, 16, 18],
+    [13, 14, 17, 18, 19],
+    [18, 19, 23, 0, 0],
+    [10, 18, 0, 0, 0],
+    [11, 13, 0, 0, 0],
+    [12, 15, 16, 0, 0],
+    [13, 19, 23, 0, 0],
+    [10, 18, 0, 0, 0],
+    [12, 15, 16, 0, 0],
+    [12, 0, 0, 0, 0],
+    [11, 13, 0, 0, 0],
 ];
 
+// The number at a place of the lead.
+fn lead_at(i: usize) -> u8
+    requires { ⌜ i < 5 ⌝ }
+    ensures { λ r. ⌜ r ≡ getD lead i 0 ⌝ }
+{
+    LEAD[i]
+}
+
 // The row at a place of the table.
-fn row_at(i: usize) -> [u8; 8]
-    requires { ⌜ i < 10 ⌝ }
+fn row_at(i: usize) -> [u8; 5]
+    requires { ⌜ i < 13 ⌝ }
     ensures { λ r. ⌜ r ≡ getD table i [] ⌝ }
 {
     ROWS[i]
 }
 
-// The number of a row at its first broken check, the three that lead it left aside; 0 where none is.
-fn first_of(b: Checks, row: [u8; 8]) -> u8
+// The number of a row at its first broken check; 0 where none is.
+fn first_of(b: Checks, row: [u8; 5]) -> u8
     ensures { λ r. ⌜ r ≡ firstOf b row ⌝ }
 {
     if b.first {
-        return row[3];
+        return row[0];
     }
     if b.second {
-        return row[4];
+        return row[1];
     }
     if b.third {
-        return row[5];
+        return row[2];
     }
     if b.fourth {
-        return row[6];
+        return row[3];
     }
     if b.fifth {
-        return row[7];
+        return row[4];
     }
     0
 }
 
-// The row of a letter; zeros for every other byte.
-fn row_of(k: u8) -> [u8; 8]
-    ensures { λ r. ⌜ r ≡ rowOf k ⌝ }
+// ---- The checks that lead each row: of waiting threads.
+
+// Whether a thread waits on one of n locks.
+fn is_waiting(w: Waiting, n: usize) -> bool
+    ensures { λ r. ⌜ r ≡ isWaiting w n ⌝ }
 {
-    match k {
-        b'U' => row_at(0),
-        b'A' => row_at(1),
-        b'L' => row_at(2),
-        b'S' => row_at(3),
-        b'R' => row_at(4),
-        b'W' => row_at(5),
-        b'K' => row_at(6),
-        b'N' => row_at(7),
-        b'P' => row_at(8),
-        b'B' => row_at(9),
-        _ => [0; 8],
-    }
+    (0 < w.lock) & (w.lock <= n) & (0 < w.depth)
 }
 
-// ---- The checks that lead each row, of an event on a volatile variable.
+// 29: whether letter k is barred to a thread that waits as w says, of n locks.
+fn is_barred(w: Waiting, n: usize, k: u8) -> bool
+    ensures { λ r. ⌜ r ≡ isBarred w n k ⌝ }
+{
+    if w.lock == 0 {
+        return false;
+    }
+    let waits = is_waiting(w, n);
+    !((k == b'C') | (k == b'R') | (k == b'W')) & waits
+}
+
+// How many holds a thread remembers of lock l.
+fn remembered_of(w: Waiting, l: usize) -> u32
+    ensures { λ r. ⌜ r ≡ rememberedOf w l ⌝ }
+{
+    if l < w.lock {
+        if w.lock == l + 1 {
+            return w.depth;
+        }
+    }
+    0
+}
+
+// Whether it is notified on lock l.
+fn notified_of(w: Waiting, l: usize) -> bool
+    ensures { λ r. ⌜ r ≡ notifiedOf w l ⌝ }
+{
+    if l < w.lock {
+        return (w.lock == l + 1) & w.notified;
+    }
+    false
+}
+
+// 30: letter k on lock l, whose subject waits as w says.
+fn is_untold(w: Waiting, l: usize, k: u8) -> bool
+    ensures { λ r. ⌜ r ≡ isUntold w l k ⌝ }
+{
+    let n = remembered_of(w, l);
+    let told = notified_of(w, l);
+    ((k == b'F') & (!(0 < n) | told)) | ((k == b'C') & !((0 < n) & told))
+}
+
+// What letter k on lock l breaks of 29 and 30. `own` is the waiting of its thread, w that of its subject, of n locks.
+pub fn ahead_rule(own: Waiting, w: Waiting, n: usize, l: usize, k: u8) -> u8
+    ensures { λ r. ⌜ r ≡ aheadRule own w n l k ⌝ }
+{
+    if is_barred(own, n, k) {
+        return lead_at(0);
+    }
+    if is_untold(w, l, k) {
+        return lead_at(1);
+    }
+    0
+}
+
+// What a letter other than F and C, which alone break 30, breaks of them.
+pub fn barred_rule(w: Waiting, n: usize, k: u8) -> u8
+    ensures { λ r. ⌜ r ≡ barredRule w n k ⌝ }
+{
+    if is_barred(w, n, k) {
+        return lead_at(0);
+    }
+    0
+}
+
+// ---- The checks that lead each row: of an event on a volatile variable.
 
 // Which of 26, 27 and 28 are broken.
 struct Lead {
@@ -372,18 +463,18 @@ fn lead_checks(c: Cell, order: bool, k: u8) -> Lead
     }
 }
 
-// The number of a row at its first broken leading check; 0 where none is.
-fn first_lead(b: Lead, row: [u8; 8]) -> u8
-    ensures { λ r. ⌜ r ≡ firstLead b row ⌝ }
+// The number of the first broken check of these; 0 where none is.
+fn first_lead(b: Lead) -> u8
+    ensures { λ r. ⌜ r ≡ firstLead b ⌝ }
 {
     if b.neighbour {
-        return row[0];
+        return lead_at(2);
     }
     if b.order {
-        return row[1];
+        return lead_at(3);
     }
     if b.prescient {
-        return row[2];
+        return lead_at(4);
     }
     0
 }
@@ -393,8 +484,7 @@ pub fn lead_rule(c: Cell, order: bool, k: u8) -> u8
     ensures { λ r. ⌜ r ≡ leadRule c order k ⌝ }
 {
     let b = lead_checks(c, order, k);
-    let row = row_of(k);
-    first_lead(b, row)
+    first_lead(b)
 }
 
 // Whether a volatile variable bars a use whose read is at `read`: it has an assign that is not written, or its write or the read of its use is
@@ -541,7 +631,7 @@ fn has_written(c: Cell, x: Value, p: usize) -> Cell
 }
 
 fn taken(a: Hold, t: usize) -> Hold
-    ensures { λ r. ⌜ r ≡ holdFor a t K ⌝ }
+    ensures { λ r. ⌜ r ≡ holdFor a noWait t K ⌝ }
 {
     let n = depth_of(a, t);
     if t < 8 {
@@ -556,7 +646,7 @@ fn taken(a: Hold, t: usize) -> Hold
 }
 
 fn left(a: Hold, t: usize) -> Hold
-    ensures { λ r. ⌜ r ≡ holdFor a t N ⌝ }
+    ensures { λ r. ⌜ r ≡ holdFor a noWait t N ⌝ }
 {
     let n = depth_of(a, t);
     if t < 8 {
@@ -574,6 +664,77 @@ fn left(a: Hold, t: usize) -> Hold
         }
     }
     a
+}
+
+// Y: no hold is left.
+fn given_up(a: Hold, t: usize) -> Hold
+    ensures { λ r. ⌜ r ≡ holdFor a noWait t Y ⌝ }
+{
+    if t < 8 {
+        if a.depth < 2000 {
+            return Hold {
+                holder: 0,
+                depth: 0,
+            };
+        }
+    }
+    a
+}
+
+// C: the holds that w remembers.
+fn taken_again(a: Hold, w: Waiting, t: usize) -> Hold
+    ensures { λ r. ⌜ r ≡ holdFor a w t C ⌝ }
+{
+    if t < 8 {
+        if a.depth < 2000 {
+            return Hold {
+                holder: t + 1,
+                depth: w.depth,
+            };
+        }
+    }
+    a
+}
+
+// Y on lock l: remembers the holds.
+fn waiting(w: Waiting, a: Hold, l: usize, t: usize) -> Waiting
+    ensures { λ r. ⌜ r ≡ waitFor w a l t Y ⌝ }
+{
+    let n = depth_of(a, t);
+    if l < 8 {
+        return Waiting {
+            lock: l + 1,
+            depth: n,
+            notified: false,
+        };
+    }
+    w
+}
+
+fn notified(w: Waiting, l: usize) -> Waiting
+    ensures { λ r. ⌜ r ≡ waitFor w noHold l 0 F ⌝ }
+{
+    if l < 8 {
+        return Waiting {
+            lock: w.lock,
+            depth: w.depth,
+            notified: true,
+        };
+    }
+    w
+}
+
+fn back(w: Waiting, l: usize) -> Waiting
+    ensures { λ r. ⌜ r ≡ waitFor w noHold l 0 C ⌝ }
+{
+    if l < 8 {
+        return Waiting {
+            lock: 0,
+            depth: 0,
+            notified: false,
+        };
+    }
+    w
 }
 
 // ---- The turns. A letter that is none of a turn's breaks nothing there and leaves everything.
@@ -699,8 +860,8 @@ pub fn stores_turn(
     turn
 }
 
-// K, N: a lock, and the position of the thread's last lock. `any` is what the variables of the thread have. Each arm gives a record of its own:
-// one that the arms change is slower here (docs/PERFORMANCE.md).
+// K, N: a lock, and the position of the thread's last lock. `any` is what the variables of the thread have. Each arm gives a record of its own: one that the arms
+// change is slower here (docs/PERFORMANCE.md).
 pub fn lock_turn(
     a: Hold,
     locked: usize,
@@ -741,6 +902,48 @@ pub fn lock_turn(
     }
 }
 
+// Y, F, C on lock l: these, and the waiting of the event's subject.
+pub fn wait_turn(
+    a: Hold,
+    w: Waiting,
+    locked: usize,
+    threads: usize,
+    any: OnSome,
+    t: usize,
+    l: usize,
+    k: u8,
+    p: usize,
+) -> WaitTurn
+    ensures { λ r. ⌜ r ≡ waitTurn a w locked threads any t l k p ⌝ }
+{
+    let mut turn = WaitTurn {
+        rule: 0,
+        hold: a,
+        wait: w,
+        locked: locked,
+    };
+    if k == b'C' {
+        let b = lock_checks(a, threads, any, t);
+        let row = row_at(12);
+        turn.rule = first_of(b, row);
+        turn.hold = taken_again(a, w, t);
+        turn.wait = back(w, l);
+        turn.locked = p;
+    } else if k == b'Y' {
+        let b = unlock_checks(a, any, t);
+        let row = row_at(10);
+        turn.rule = first_of(b, row);
+        turn.hold = given_up(a, t);
+        turn.wait = waiting(w, a, l, t);
+    } else if k == b'F' {
+        let b = notify_checks(a, t);
+        let row = row_at(11);
+        turn.rule = first_of(b, row);
+        turn.wait = notified(w, l);
+    }
+    turn
+}
+
 // ---- An event of any letter.
 
 // The slots at the first place of a queue and behind its last.
@@ -756,6 +959,7 @@ pub struct Parts {
     pub stores: Ends,
     pub main: Main,
     pub hold: Hold,
+    pub wait: Waiting,
     pub locked: usize,
 }
 
@@ -767,6 +971,7 @@ pub struct Turn {
     pub store: Slot,
     pub main: Main,
     pub hold: Hold,
+    pub wait: Waiting,
     pub locked: usize,
 }
 
@@ -778,21 +983,33 @@ pub fn either(a: u8, b: u8) -> u8
 }
 
 // All turns: one of them is the letter's. `n` threads are declared, and `any` is what the variables of thread t have.
-pub fn any_turn(a: Parts, n: usize, any: OnSome, t: usize, k: u8, x: Value, p: usize) -> Turn
-    ensures { λ r. ⌜ r ≡ turnOf a n any t k x p ⌝ }
+pub fn any_turn(
+    a: Parts,
+    n: usize,
+    any: OnSome,
+    t: usize,
+    l: usize,
+    k: u8,
+    x: Value,
+    p: usize,
+) -> Turn
+    ensures { λ r. ⌜ r ≡ turnOf a n any t l k x p ⌝ }
 {
     let q = a.reads;
     let o = a.stores;
     let lock = lock_turn(a.hold, a.locked, n, any, t, k, p);
+    let waits = wait_turn(lock.hold, a.wait, lock.locked, n, any, t, l, k, p);
     let alone = cell_turn(a.cell, a.locked, k, x, p);
     let read = reads_turn(alone.cell, q.front, q.behind, a.main, k, x, p);
     let store = stores_turn(read.cell, o.front, o.behind, a.main, a.locked, k, x, p);
-    let rule = either(either(lock.rule, alone.rule), either(read.rule, store.rule));
+    let locks = either(lock.rule, waits.rule);
+    let rule = either(either(locks, alone.rule), either(read.rule, store.rule));
     let cell = store.cell;
     let slot = read.slot;
     let sent = store.slot;
     let main = store.main;
-    let hold = lock.hold;
+    let hold = waits.hold;
+    let wait = waits.wait;
     Turn {
         rule: rule,
         cell: cell,
@@ -800,6 +1017,7 @@ pub fn any_turn(a: Parts, n: usize, any: OnSome, t: usize, k: u8, x: Value, p: u
         store: sent,
         main: main,
         hold: hold,
-        locked: lock.locked,
+        wait: wait,
+        locked: waits.locked,
     }
 }

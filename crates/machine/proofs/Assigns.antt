@@ -1,12 +1,12 @@
 -- Each outstanding store has a position: after a legal list a fresh assign stands somewhere, and so does the assign of a store, or the early store itself.
 use Prim.Native.Nat.{ℕ, suc, _≤_, _<_}
 use native.Mathlib.Omega.{arith}
-use mathlib.Core.Path.{_≡_, refl}
+use mathlib.Core.Path.{_≡_}
 use mathlib.Core.Bool.{true, false≢true}
 use mathlib.Core.List.{List, [], _∷_}
 use lib.Dec.{T}
 use Rattle.rules.specs.declared.Kind.{Kind}
-use Rattle.rules.specs.declared.Kind.the-variants.{Use, Assign, Load, Store, Read, Write, Lock, Unlock, PrescientStore, PrescientAssign}
+use Rattle.rules.specs.declared.Kind.the-variants.{Use, Assign, Load, Store, Read, Write, Lock, Unlock, PrescientStore, PrescientAssign, Wait, Notify, Resume}
 use Rattle.rules.specs.declared.Event.{Event}
 use Rattle.rules.specs.declared.Counts.{Counts}
 use Rattle.rules.specs.Events.{place}
@@ -42,6 +42,9 @@ assigned-change h w t (Read v x) r a = record { fresh = a .fresh; last = omega (
 assigned-change h w t (Write v x) r a = record { fresh = a .fresh; last = omega (arith, a .last); stores = placed-others 1 (suc (w .events)) (w .stores t v) (placed-later 1 (w .events) (w .stores t v) (a .stores)) }
 assigned-change h w t (Lock m) r a = assigned-later (cellOf w t m) (w .events) a
 assigned-change h w t (Unlock m) r a = assigned-later (cellOf w t m) (w .events) a
+assigned-change h w t (Wait m) r a = assigned-later (cellOf w t m) (w .events) a
+assigned-change h w t (Notify m u) r a = assigned-later (cellOf w t m) (w .events) a
+assigned-change h w t (Resume m) r a = assigned-later (cellOf w t m) (w .events) a
 assigned-change h w t (PrescientStore v x) r a = record {
   fresh = a .fresh;
   last = omega (arith, a .last);

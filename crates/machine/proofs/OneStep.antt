@@ -2,20 +2,19 @@
 use Prim.Native.Nat.{ℕ, zero, suc, _+_, _≤_, _<_}
 use native.Mathlib.Omega.{arith}
 use mathlib.Core.Path.{_≡_, refl, sym, ap, _∙_}
-use mathlib.Core.Bool.{Bool, true, false, not, cond, or-false}
-use mathlib.Core.List.{[], _∷_}
+use mathlib.Core.Bool.{Bool, true, false, not, cond}
 use lib.IntN.{ℤ}
 use lib.ListN.{getD, set}
 use borrow.Author.Tests.{le-leb, lt-leb}
 use Rattle.rules.specs.declared.Event.{Event}
 use Rattle.rules.specs.declared.Kind.{Kind}
-use Rattle.rules.specs.Events.{K, N, letter, place, value, among, isLockLetter}
+use Rattle.rules.specs.Events.{letter, place, value, among, subjectOf, subject, lockLetters, isLockLetter}
 use Rattle.rules.specs.Limits.{Limits, UpToFull, full, lineAfter, declared}
 use Rattle.rules.specs.Rules.{judge, answer, accepted, refused, said}
-use Rattle.rules.proofs.Letters.{eqb-turn}
+use Rattle.rules.proofs.Letters.{lock-among}
 use Rattle.rules.proofs.Bounds.{allowed-bounds}
 use Rattle.state.specs.declared.State.{State}
-use Rattle.state.specs.State.{noHold, wordsIn}
+use Rattle.state.specs.State.{noHold, noWait, wordsIn}
 use Rattle.state.specs.Range.{inRange}
 use Rattle.state.specs.Step.{varOf, lockOf, stepState}
 use Rattle.state.specs.Computed.Places.{cellPlace, slotPlace}
@@ -23,7 +22,7 @@ use Rattle.state.proofs.Kept.{range, range-full, room, within}
 use Rattle.judging.specs.declared.OnSome.{OnSome}
 use Rattle.judging.specs.declared.Parts.{Parts}
 use Rattle.judging.specs.declared.Turn.{Turn}
-use Rattle.judging.specs.Computed.Leads.{leadWith, leadAt}
+use Rattle.judging.specs.Computed.Leads.{aheadRule, aheadAt, leadWith, leadAt}
 use Rattle.judging.specs.Computed.Turns.{partsAt, eitherOf, turnOf, someOf}
 use Rattle.judging.proofs.AnyTurn.{at, cellIn, turnIn, any-rule, any-put}
 use Rattle.machine.specs.declared.Answer.{Answer}
@@ -73,13 +72,9 @@ module _ (m : Limits) (s : State) (e : Event) (u : UpToFull m) (r : inRange m s 
 -- ---- a turn
 
 -- the variable and the lock of an event
-pub lock-among : (k : ℕ) → among (K ∷ N ∷ []) k ≡ isLockLetter k
-unfolding isLockLetter
-lock-among k = rw (eqb-turn K k, eqb-turn N k, or-false) refl
-
 module _ (k : Kind) {c p : ℕ} {b : Bool} (ek : c ≡ letter k) (ep : p ≡ place k) (eb : b ≡ isLockLetter c) where
-  on-lock : b ≡ among (K ∷ N ∷ []) (letter k)
-  on-lock = eb ∙ ap isLockLetter ek ∙ sym (lock-among (letter k))
+  on-lock : b ≡ among lockLetters (letter k)
+  on-lock = eb ∙ ap isLockLetter ek ∙ lock-among (letter k)
 
   pub var-asked : {v : ℕ} → v ≡ cond (not b) p 0 → v ≡ varOf k
   unfolding varOf
@@ -96,21 +91,27 @@ module _ (k : Kind) {c p : ℕ} {b : Bool} (ek : c ≡ letter k) (ep : p ≡ pla
 pub bounds : (s : State) (e : Event) → Turnable s e → (s .counts .threads ≤ 8) × (s .counts .variables ≤ 16)
 bounds s e u = let b = allowed-bounds (s .counts) (range full s (u .ranged) .counts) in (b .0, b .1)
 
-module _ (s : State) (e : Event) (u : Turnable s e) {k v l : ℕ} {x : ℤ} (ek : k ≡ letter (e .kind)) (ev : v ≡ varOf (e .kind)) (el : l ≡ lockOf (e .kind)) (ex : x ≡ value (e .kind)) where
+module _ (s : State) (e : Event) (u : Turnable s e) {k v l y : ℕ} {x : ℤ} (ek : k ≡ letter (e .kind)) (ev : v ≡ varOf (e .kind)) (el : l ≡ lockOf (e .kind)) (ex : x ≡ value (e .kind)) (ey : y ≡ subjectOf k (e .thread) x) where
   abbrev t : ℕ
   t = e .thread
 
-  module _ {a : Parts} {any : OnSome} {r : Turn} (ea : a ≡ partsAt s t v l) (ey : any ≡ someOf s t (s .counts .variables)) (er : r ≡ turnOf a (s .counts .threads) any t k x (s .events + 1))
-      {m n : ℕ} (em : m ≡ leadWith (s .counts) (a .cell) (s .cells) (s .stores) t v k) (en : n ≡ eitherOf m (r .rule))
+  subject-is : y ≡ subject e
+  subject-is = ey ∙ (λ j. subjectOf (ek j) t (ex j))
+
+  module _ {a : Parts} {any : OnSome} {r : Turn} (ea : a ≡ partsAt s t v l y) (eo : any ≡ someOf s t (s .counts .variables)) (er : r ≡ turnOf a (s .counts .threads) any t l k x (s .events + 1))
+      {d m n : ℕ} (ed : d ≡ aheadRule (getD (s .waits) t noWait) (a .wait) (s .counts .locks) l k) (em : m ≡ leadWith (s .counts) (a .cell) (s .cells) (s .stores) t v k) (en : n ≡ eitherOf d (eitherOf m (r .rule)))
       {i rb sb : ℕ} (ei : i ≡ cellPlace t v) (erb : rb ≡ slotPlace i (a .cell .reads) (a .cell .reads .len)) (esb : sb ≡ slotPlace i (a .cell .stores) (a .cell .stores .len)) where
-    parts-are : a ≡ partsAt s t (varOf (e .kind)) (lockOf (e .kind))
-    parts-are = ea ∙ (λ j. partsAt s t (ev j) (el j))
+    parts-are : a ≡ partsAt s t (varOf (e .kind)) (lockOf (e .kind)) (subject e)
+    parts-are = ea ∙ (λ j. partsAt s t (ev j) (el j) (subject-is j))
 
     turn-is : r ≡ turnIn s e
-    turn-is = er ∙ (λ j. turnOf (parts-are j) (s .counts .threads) (ey j) t (ek j) (ex j) (s .events + 1))
+    turn-is = er ∙ (λ j. turnOf (parts-are j) (s .counts .threads) (eo j) t (el j) (ek j) (ex j) (s .events + 1))
 
-    rule-is : n ≡ eitherOf (leadAt s t (varOf (e .kind)) (letter (e .kind))) (turnIn s e .rule)
-    rule-is = en ∙ (λ j. eitherOf ((em ∙ (λ l. leadWith (s .counts) (parts-are l .cell) (s .cells) (s .stores) t (ev l) (ek l))) j) (turn-is j .rule))
+    ahead-is : d ≡ aheadAt s t (lockOf (e .kind)) (letter (e .kind)) (value (e .kind))
+    ahead-is = ed ∙ (λ j. aheadRule (getD (s .waits) t noWait) (parts-are j .wait) (s .counts .locks) (el j) (ek j))
+
+    rule-is : n ≡ eitherOf (aheadAt s t (lockOf (e .kind)) (letter (e .kind)) (value (e .kind))) (eitherOf (leadAt s t (varOf (e .kind)) (letter (e .kind))) (turnIn s e .rule))
+    rule-is = en ∙ (λ j. eitherOf (ahead-is j) (eitherOf ((em ∙ (λ l. leadWith (s .counts) (parts-are l .cell) (s .cells) (s .stores) t (ev l) (ek l))) j) (turn-is j .rule)))
 
     place-is : i ≡ at s e
     place-is = ei ∙ ap (cellPlace t) ev
@@ -132,6 +133,7 @@ module _ (s : State) (e : Event) (u : Turnable s e) {k v l : ℕ} {x : ℤ} (ek 
         locked = set (s .locked) t (r .locked);
         holds = set (s .holds) l (r .hold);
         memory = set (s .memory) v (r .main);
+        waits = set (s .waits) y (r .wait);
       };
     }) (record { rule = judge (s .counts) (wordsIn s) e; state = stepState s e })
     turn-taken = (λ j. record {
@@ -145,5 +147,6 @@ module _ (s : State) (e : Event) (u : Turnable s e) {k v l : ℕ} {x : ℤ} (ek 
         locked = set (s .locked) t (turn-is j .locked);
         holds = set (s .holds) (el j) (turn-is j .hold);
         memory = set (s .memory) (ev j) (turn-is j .main);
+        waits = set (s .waits) (subject-is j) (turn-is j .wait);
       };
     }) ∙ (λ j. record { rule = any-rule s e (u .within) (bounds s e u .0) (bounds s e u .1) j; state = any-put s e (u .within) (shallow s (u .ranged) (u .room) (lockOf (e .kind)) (u .within .lock)) j })

@@ -3,7 +3,7 @@ use Prim.Native.Nat.{ℕ, zero, suc, _+_, _-_, _≤_, _<_}
 use native.Mathlib.Omega.{arith}
 use native.Mathlib.Numerals.{add-one}
 use mathlib.Core.Path.{_≡_, refl, sym, ap, _∙_, subst}
-use mathlib.Core.Bool.{Bool, true, false, cond, _&&_, _||_, or-false, or-assoc}
+use mathlib.Core.Bool.{Bool, true, false, cond, _&&_, _||_, and-false, or-false, or-assoc}
 use mathlib.Core.List.{List, [], _∷_}
 use mathlib.Core.Option.{Option}
 use lib.Dec.{T, eqb, ltb}
@@ -12,16 +12,16 @@ use lib.ListN.{length, getD}
 use borrow.Author.Tests.{lt-ltb, le-ltb, le-leb, lt-leb}
 use Rattle.rules.specs.declared.Course.the-variants.{Full}
 use Rattle.rules.specs.declared.Event.{Event}
-use Rattle.rules.specs.Events.{A, B, K, L, N, P, R, S, U, W, letter, place, value, among, isLetter, isLockLetter}
+use Rattle.rules.specs.Events.{A, B, C, F, K, L, N, P, R, S, U, W, Y, letter, place, value, among, lockLetters, isLetter, isLockLetter, subjectOf, subject}
 use Rattle.rules.specs.Limits.{full, lineAfter, declared}
 use Rattle.rules.specs.Rules.{judge, answer, accepted, refused}
 use Rattle.rules.specs.Memories.{from}
 use Rattle.rules.proofs.From.{from-step, from-end}
 use Rattle.rules.proofs.Laws.{or-false-left, or-false-right}
-use Rattle.rules.proofs.Letters.{eqb-turn, declared-by}
+use Rattle.rules.proofs.Letters.{eqb-turn, lock-among, declared-by}
 use Rattle.rules.proofs.Bounds.{allowed-bounds, up-to-full}
 use Rattle.records.specs.Records.{letterIn, threadIn, placeIn, recordAt, rowLines, unpacked, eventAt}
-use Rattle.records.proofs.RecordLaws.{event-some, event-none, letter-is, place-is, value-is}
+use Rattle.records.proofs.RecordLaws.{event-some, event-none, letter-is, place-is, value-is, subject-is}
 use Rattle.state.specs.declared.State.{State}
 use Rattle.state.specs.State.{wordsIn}
 use Rattle.state.specs.Range.{inRange}
@@ -134,10 +134,18 @@ module _ {s₀ : State} {ws : List ℕ} {xs : List ℤ} {s : State} {ts : List T
     -- an event that is not on a lock has the value in the row
     value-here : isLockLetter k ≡ false → x ≡ value (here .kind)
     unfolding eventAt
-    value-here n = sym (value-is (lineAfter (s₀ .counts) i) w x named ∙ ap (λ (b : Bool). cond b (pos 0) x) (ap isLockLetter (sym (u .letter)) ∙ n))
+    value-here n = sym (value-is (lineAfter (s₀ .counts) i) w x named (ap isLockLetter (sym (u .letter)) ∙ n))
 
     pub numbers-valued : isLockLetter k ≡ false → {y : ℤ} → y ≡ x → By here t v k y
     numbers-valued n e = record { thread = numbers .thread; place = numbers .place; letter = numbers .letter; value = e ∙ value-here n }
+
+    -- the thread whose waiting it is about
+    pub subject-here : subjectOf k t x ≡ subject here
+    unfolding eventAt
+    subject-here = (λ j. subjectOf (u .letter j) (u .thread j) x) ∙ sym (subject-is (lineAfter (s₀ .counts) i) w x named)
+
+    pub subject-numbers : {y : ℕ} → y ≡ subjectOf k t x → y ≡ subjectOf k t (value (here .kind))
+    subject-numbers q = q ∙ subject-here ∙ sym (λ j. subjectOf (numbers .letter j) (numbers .thread j) (value (here .kind)))
 
     -- ---- 9 and 5
 
@@ -151,18 +159,22 @@ module _ {s₀ : State} {ws : List ℕ} {xs : List ℤ} {s : State} {ts : List T
       abbrev most : ℕ
       most = cond b (s .counts .locks) (s .counts .variables)
 
-      declared-here : ltb t (s .counts .threads) && ltb v most ≡ declared (s .counts) here
-      declared-here = ap (λ (j : ℕ). ltb j (s .counts .threads) && ltb v most) (numbers .thread) ∙ declared-by (s .counts) here k v b (numbers .place) (numbers .letter) e
+      declared-here : ltb t (s .counts .threads) && (ltb (subject here) (s .counts .threads) && ltb v most) ≡ declared (s .counts) here
+      declared-here = ap (λ (j : ℕ). ltb j (s .counts .threads) && (ltb (subject here) (s .counts .threads) && ltb v most)) (numbers .thread) ∙ declared-by (s .counts) here k v (subject here) b (numbers .place) (numbers .letter) refl e
 
       pub turn-thread : s .events < 2000 → s .counts .threads ≤ t → unchanged s (refused 5 line) ≡ whole
       turn-thread h o = undeclared h (sym declared-here ∙ rw (le-ltb t (s .counts .threads) o) refl)
 
+      pub turn-subject : s .events < 2000 → {y : ℕ} → y ≡ subjectOf k t x → s .counts .threads ≤ y → unchanged s (refused 5 line) ≡ whole
+      turn-subject h {y} q o = undeclared h (sym declared-here ∙ rw (← (q ∙ subject-here), le-ltb y (s .counts .threads) o) (and-false (ltb t (s .counts .threads))))
+
       pub turn-place : s .events < 2000 → most ≤ v → unchanged s (refused 5 line) ≡ whole
-      turn-place h o = undeclared h (sym declared-here ∙ go (ltb t (s .counts .threads)))
+      turn-place h o = undeclared h (sym declared-here ∙ rw (le-ltb v most o) (none (ltb t (s .counts .threads)) (ltb (subject here) (s .counts .threads))))
         where
-          go : (a : Bool) → a && ltb v most ≡ false
-          go true = le-ltb v most o
-          go false = refl
+          none : (a b : Bool) → a && (b && false) ≡ false
+          none true true = refl
+          none true false = refl
+          none false b = refl
 
     -- ---- the row
 
@@ -171,9 +183,9 @@ module _ {s₀ : State} {ws : List ℕ} {xs : List ℤ} {s : State} {ts : List T
       pub declared : declared (s .counts) here ≡ true
       pub within : Within (here .thread) (here .kind)
 
-    pub known : (b : Bool) → isLockLetter k ≡ b → s .events < 2000 → t < s .counts .threads → v < cond b (s .counts .locks) (s .counts .variables) → Known
-    known b e h p q =
-        let d : declared (s .counts) here ≡ true = sym (declared-here b e) ∙ rw (lt-ltb t (s .counts .threads) p, lt-ltb v (cond b (s .counts .locks) (s .counts .variables)) q) refl in
+    pub known : (b : Bool) → isLockLetter k ≡ b → s .events < 2000 → t < s .counts .threads → {y : ℕ} → y ≡ subjectOf k t x → y < s .counts .threads → v < cond b (s .counts .locks) (s .counts .variables) → Known
+    known b e h p {y} f o q =
+        let d : declared (s .counts) here ≡ true = sym (declared-here b e) ∙ rw (lt-ltb t (s .counts .threads) p, ← (f ∙ subject-here), lt-ltb y (s .counts .threads) o, lt-ltb v (cond b (s .counts .locks) (s .counts .variables)) q) refl in
         record { room = h; declared = d; within = within (s .counts) here (room full (s .counts) (up-to-full Full) (range full s (r .ranged) .counts)) d }
 
     module _ (o : Known) where
@@ -200,9 +212,21 @@ module _ {s₀ : State} {ws : List ℕ} {xs : List ℤ} {s : State} {ts : List T
 
 -- ---- the letters of the arms
 
-pub lock-arm : (k : ℕ) → isLockLetter k ≡ true → T (among (K ∷ N ∷ []) k)
+pub lock-arm : (k : ℕ) → isLockLetter k ≡ true → T (among lockLetters k)
+lock-arm k e = subst T (sym (sym (lock-among k) ∙ e)) tt
+
+-- a letter that is not F
+pub own-subject : (k t : ℕ) (x : ℤ) → among (F ∷ C ∷ []) k ≡ false → subjectOf k t x ≡ t
+unfolding subjectOf
+own-subject k t x e = rw (eqb-turn k F, or-false-left (eqb F k) (eqb C k || false) e) refl
+
+pub hold-arm : (k : ℕ) → (eqb k K || eqb k N) ≡ true → T (among (K ∷ N ∷ []) k)
+hold-arm k e = let z : among (K ∷ N ∷ []) k ≡ true = rw (eqb-turn K k, eqb-turn N k, or-false) e in subst T (sym z) tt
+
+-- a letter of the locks that is neither
+pub wait-arm : (k : ℕ) → isLockLetter k ≡ true → (eqb k K || eqb k N) ≡ false → T (among (Y ∷ F ∷ C ∷ []) k)
 unfolding isLockLetter
-lock-arm k e = let z : among (K ∷ N ∷ []) k ≡ true = rw (eqb-turn K k, eqb-turn N k, or-false) e in subst T (sym z) tt
+wait-arm k l e = let z : among (Y ∷ F ∷ C ∷ []) k ≡ true = rw (eqb-turn Y k, eqb-turn F k, eqb-turn C k, or-false) (simp (or-false-left (eqb k K) (eqb k N) e, or-false-right (eqb k K) (eqb k N) e, or-assoc) at l) in subst T (sym z) tt
 
 pub use-arm : (k : ℕ) → k ≡ U → T (among (U ∷ R ∷ L ∷ []) k)
 use-arm k e = subst (λ (m : ℕ). T (among (U ∷ R ∷ L ∷ []) m)) (sym e) tt
@@ -217,12 +241,18 @@ stores-arm k e = let z : among (S ∷ P ∷ W ∷ []) k ≡ true = rw (eqb-turn 
 pub cell-arm : (k : ℕ) → isLetter k ≡ true → isLockLetter k ≡ false → (eqb k R || eqb k L) ≡ false → (eqb k S || (eqb k P || eqb k W)) ≡ false → T (among (U ∷ A ∷ B ∷ []) k)
 unfolding isLetter isLockLetter
 cell-arm k l o q p =
-    let kk = or-false-left (eqb k K) (eqb k N) o in
-    let kn = or-false-right (eqb k K) (eqb k N) o in
+    let oc = or-false-left (eqb k K || eqb k N || eqb k Y || eqb k F) (eqb k C) o in
+    let of = or-false-left (eqb k K || eqb k N || eqb k Y) (eqb k F) oc in
+    let oy = or-false-left (eqb k K || eqb k N) (eqb k Y) of in
+    let kk = or-false-left (eqb k K) (eqb k N) oy in
+    let kn = or-false-right (eqb k K) (eqb k N) oy in
+    let ky = or-false-right (eqb k K || eqb k N) (eqb k Y) of in
+    let kf = or-false-right (eqb k K || eqb k N || eqb k Y) (eqb k F) oc in
+    let kc = or-false-right (eqb k K || eqb k N || eqb k Y || eqb k F) (eqb k C) o in
     let kr = or-false-left (eqb k R) (eqb k L) q in
     let kl = or-false-right (eqb k R) (eqb k L) q in
     let ks = or-false-left (eqb k S) (eqb k P || eqb k W) p in
     let kp = or-false-left (eqb k P) (eqb k W) (or-false-right (eqb k S) (eqb k P || eqb k W) p) in
     let kw = or-false-right (eqb k P) (eqb k W) (or-false-right (eqb k S) (eqb k P || eqb k W) p) in
-    let z : among (U ∷ A ∷ B ∷ []) k ≡ true = rw (eqb-turn U k, eqb-turn A k, eqb-turn B k, or-false) (simp (kk, kn, kr, kl, ks, kp, kw, or-false, or-assoc) at l) in
+    let z : among (U ∷ A ∷ B ∷ []) k ≡ true = rw (eqb-turn U k, eqb-turn A k, eqb-turn B k, or-false) (simp (kk, kn, ky, kf, kc, kr, kl, ks, kp, kw, or-false, or-assoc) at l) in
     subst T (sym z) tt

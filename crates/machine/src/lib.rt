@@ -1,4 +1,4 @@
-// The marking of events one after the other: a row of records by index, with the state and what K and N ask for in locals; and one step over a
+// The marking of events one after the other: a row of records by index, with the state and what lock events ask for in locals; and one step over a
 // state that the caller keeps, by value.
 ghost use mathlib.Core.Path.{_≡_};
 ghost use mathlib.Core.Bool.{cond};
@@ -44,14 +44,14 @@ pub struct Outcome {
     pub memories: Memories,
 }
 
-// How many of a thread's declared variables have a pending prescient store, a fresh assign, an outstanding store that N counts.
+// How many of a thread's declared variables have a pending prescient store, a fresh assign, an outstanding store that N and Y count.
 pub struct Tally {
     pub pending: u32,
     pub fresh: u32,
     pub stored: u32,
 }
 
-// ---- What K and N ask for.
+// ---- What lock events ask for.
 
 fn one(b: bool) -> u32
     ensures { λ r. ⌜ r ≡ cond b 1 0 ⌝ }
@@ -293,32 +293,66 @@ fn run(start: State, counted: [Tally; 8], what: &[u32], value: &[Value]) -> Outc
         let events = n + 1;
         let p = events as usize;
         if rules::is_lock_letter(k) {
-            // A lock, and what the variables of the thread have.
             if h.locks <= v {
                 return refuse_after(5, declared, n);
             }
-            let tally = tallies[t];
-            let any = some_in(tally);
             let hold = s.holds[v];
             let last = s.locked[t];
-            let lock = judging::lock_turn(hold, last, h.threads, any, t, k, p);
-            if lock.rule != 0 {
-                return refuse_after(lock.rule, declared, n);
+            let tally = tallies[t];
+            let any = some_in(tally);
+            let own = s.waits[t];
+            if (k == b'K') | (k == b'N') {
+                // A lock, and what the variables of the thread have.
+                let barred = judging::barred_rule(own, h.locks, k);
+                if barred != 0 {
+                    return refuse_after(barred, declared, n);
+                }
+                let lock = judging::lock_turn(hold, last, h.threads, any, t, k, p);
+                if lock.rule != 0 {
+                    return refuse_after(lock.rule, declared, n);
+                }
+                let held = lock.hold;
+                s.events = events;
+                s.locked[t] = lock.locked;
+                s.holds[v] = held;
+                i += 1;
+            } else {
+                // These, and who waits.
+                let subject = rules::subject_of(k, t, x);
+                if h.threads <= subject {
+                    return refuse_after(5, declared, n);
+                }
+                let wait = s.waits[subject];
+                let ahead = judging::ahead_rule(own, wait, h.locks, v, k);
+                if ahead != 0 {
+                    return refuse_after(ahead, declared, n);
+                }
+                let turn = judging::wait_turn(hold, wait, last, h.threads, any, t, v, k, p);
+                if turn.rule != 0 {
+                    return refuse_after(turn.rule, declared, n);
+                }
+                let held = turn.hold;
+                let waits = turn.wait;
+                s.events = events;
+                s.locked[t] = turn.locked;
+                s.holds[v] = held;
+                s.waits[subject] = waits;
+                i += 1;
             }
-            let held = lock.hold;
-            s.events = events;
-            s.locked[t] = lock.locked;
-            s.holds[v] = held;
-            i += 1;
         } else {
             if h.variables <= v {
                 return refuse_after(5, declared, n);
             }
+            let own = s.waits[t];
+            let barred = judging::barred_rule(own, h.locks, k);
+            if barred != 0 {
+                return refuse_after(barred, declared, n);
+            }
             if declared.volatiles[v] {
-                // What leads the row.
+                // What leads the row of an event on a volatile variable.
                 let place = state::cell_place(t, v);
-                let own = s.cells[place];
-                let lead = lead_of(declared, own, s.cells, s.stores, t, v, k);
+                let cell = s.cells[place];
+                let lead = lead_of(declared, cell, s.cells, s.stores, t, v, k);
                 if lead != 0 {
                     return refuse_after(lead, declared, n);
                 }
@@ -441,10 +475,10 @@ fn asked(b: bool, n: usize) -> usize
     if b { n } else { 0 }
 }
 
-// The parts of a state that an event of thread t on variable v or lock l looks at.
-fn parts_of(s: State, t: usize, v: usize, l: usize) -> Parts
-    requires { ⌜ t < 8 ⌝ ∗ ⌜ v < 16 ⌝ ∗ ⌜ l < 8 ⌝ }
-    ensures { λ r. ⌜ r ≡ partsAt s t v l ⌝ }
+// The parts of a state that an event of thread t on variable v or lock l, with subject u, looks at.
+fn parts_of(s: State, t: usize, v: usize, l: usize, u: usize) -> Parts
+    requires { ⌜ t < 8 ⌝ ∗ ⌜ v < 16 ⌝ ∗ ⌜ l < 8 ⌝ ∗ ⌜ u < 8 ⌝ }
+    ensures { λ r. ⌜ r ≡ partsAt s t v l u ⌝ }
 {
     let at = state::cell_place(t, v);
     let c = s.cells[at];
@@ -460,6 +494,7 @@ fn parts_of(s: State, t: usize, v: usize, l: usize) -> Parts
     let store_behind = s.stores[store_end];
     let main = s.memory[v];
     let hold = s.holds[l];
+    let wait = s.waits[u];
     Parts {
         cell: c,
         reads: Ends {
@@ -472,6 +507,7 @@ fn parts_of(s: State, t: usize, v: usize, l: usize) -> Parts
         },
         main: main,
         hold: hold,
+        wait: wait,
         locked: s.locked[t],
     }
 }
@@ -493,12 +529,16 @@ fn take_turn(s: State, e: Event) -> Judged
     let v = asked(!on_lock, place);
     let l = asked(on_lock, place);
     let t = e.thread;
+    let x = rules::value_of(kind);
+    let u = rules::subject_of(k, t, x);
     let h = s.counts;
     let events = s.events + 1;
     let p = events as usize;
-    let parts = parts_of(s, t, v, l);
+    let parts = parts_of(s, t, v, l, u);
     let any = some_in(tally_of(s, t));
-    let turn = judging::any_turn(parts, h.threads, any, t, k, rules::value_of(kind), p);
+    let turn = judging::any_turn(parts, h.threads, any, t, l, k, x, p);
+    let own = s.waits[t];
+    let ahead = judging::ahead_rule(own, parts.wait, h.locks, l, k);
     let c = parts.cell;
     let cells = s.cells;
     let stores = s.stores;
@@ -513,6 +553,7 @@ fn take_turn(s: State, e: Event) -> Judged
     let store = turn.store;
     let hold = turn.hold;
     let main = turn.main;
+    let wait = turn.wait;
     let mut next = s;
     next.events = events;
     next.cells[at] = cell;
@@ -521,8 +562,9 @@ fn take_turn(s: State, e: Event) -> Judged
     next.locked[t] = turn.locked;
     next.holds[l] = hold;
     next.memory[v] = main;
+    next.waits[u] = wait;
     Judged {
-        rule: judging::either(lead, turn.rule),
+        rule: judging::either(ahead, judging::either(lead, turn.rule)),
         state: next,
     }
 }

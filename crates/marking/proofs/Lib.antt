@@ -6,3 +6,4 @@ pub mod FullWith
 pub mod Narrow
 pub mod Plain
 pub mod Courses
+pub mod Ten

@@ -34,7 +34,7 @@ narrow-trace s = trace-with (narrow .scratch) (narrow .width) s
 
 pub narrow-lines : (s : List ℕ) → linesIn narrow s ≡ map (narrowed (narrow .width)) (linesIn full s)
 unfolding linesIn
-narrow-lines s = rw (narrow-trace s) (readings-narrowed (narrow .width) (omega arith) (firstLine (traceOf full s .head)) (partLines (eventsOf s (traceOf full s))))
+narrow-lines s = rw (narrow-trace s) (readings-narrowed (narrow .width) (omega arith) (omega arith) (firstLine (traceOf full s .head)) (partLines (eventsOf s (traceOf full s))))
 
 narrow-marked : (s : List ℕ) → markedOf narrow s ≡ refusedOr (told (traceOf full s .verdict)) (markRead full (traceOf full s .head) [] (map (narrowed (narrow .width)) (linesIn full s)))
 unfolding markedOf markRead verdict answer

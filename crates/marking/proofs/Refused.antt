@@ -9,7 +9,7 @@ use mathlib.Core.Option.{Option, none, some}
 use lib.Dec.{T, leb}
 use Rattle.rules.specs.declared.Event.{Event}
 use Rattle.rules.specs.declared.Counts.{Counts}
-use Rattle.rules.specs.Events.{N, letter, among, is}
+use Rattle.rules.specs.Events.{letter, among, unlocks}
 use Rattle.rules.specs.Limits.{Limits, full, lineAfter, allowed, declared}
 use Rattle.rules.specs.Rules.{wordsOf, loc, onSome, breaks, rows, rowIn, judge, verdict, Marked, accepted, refused, told, numberIn, refusedOr, mark, markRead, FirstBad}
 use Rattle.rules.specs.Reading.{readFrom, stopFrom}
@@ -70,9 +70,9 @@ module _ (m : Limits) (x : 0 < m .excess) where
           unfound (inr p) = z (sym (p .3))
       go (inr r) = on (either (mark m h (readFrom m 0 (linesIn m s))) (stopFrom m h 0 (linesIn m s)) number line (unfold mark in sym (marked-apart m h [] (linesIn m s) x) ∙ r))
 
-  -- No paper is refused with 15 or 16 at an L: its first bad event is an N. (Here and below, where one event too many has another number.)
+  -- No paper is refused with 15 or 16 at an L: its first bad event is an N or Y. (Here and below, where one event too many has another number.)
   pub unlock-line : (s : List ℕ) (number line : ℕ) → (m .excess ≡ number → ⊥) → (number ≡ 15) ⊎ (number ≡ 16) → markedOf m s ≡ refused number line
-      → (b : FirstBad m (traceOf m s .head) (readIn m s) number line) × T (is (N ∷ []) (b .event))
+      → (b : FirstBad m (traceOf m s .head) (readIn m s) number line) × T (unlocks (b .event))
   unlock-line s number line z o q = (b, unlock-refused m (traceOf m s .head) (readIn m s) number line x z o b)
     where
       ofEvent : (number ≡ 15) ⊎ (number ≡ 16) → T (among (1 ∷ 2 ∷ 3 ∷ 6 ∷ 4 ∷ []) number) → ⊥
@@ -82,18 +82,18 @@ module _ (m : Limits) (x : 0 < m .excess) where
       b : FirstBad m (traceOf m s .head) (readIn m s) number line
       b = first-bad s number line z (ofEvent o) q
 
-  -- A paper that is refused with 16 is so at an N of a thread that has an outstanding store whose assign is made.
+  -- A paper that is refused with 16 is so at an N or Y of a thread that has an outstanding store whose assign is made.
   pub unwritten-line : (s : List ℕ) (line : ℕ) → (m .excess ≡ 16 → ⊥) → markedOf m s ≡ refused 16 line
-      → (b : FirstBad m (traceOf m s .head) (readIn m s) 16 line) × T (is (N ∷ []) (b .event)) × (onSome (traceOf m s .head) (λ t v. madeUnwritten t v (reverse (b .before))) (b .event) ≡ true)
+      → (b : FirstBad m (traceOf m s .head) (readIn m s) 16 line) × T (unlocks (b .event)) × (onSome (traceOf m s .head) (λ t v. madeUnwritten t v (reverse (b .before))) (b .event) ≡ true)
   unwritten-line s line z q = (b, n, sym (unlock-exact h es (accepted-legal m h es x (b .clean)) (b .event) n) ∙ broken)
     where
-      u : (b : FirstBad m (traceOf m s .head) (readIn m s) 16 line) × T (is (N ∷ []) (b .event))
+      u : (b : FirstBad m (traceOf m s .head) (readIn m s) 16 line) × T (unlocks (b .event))
       u = unlock-line s 16 line z (inr refl) q
 
       b : FirstBad m (traceOf m s .head) (readIn m s) 16 line
       b = u .0
 
-      n : T (is (N ∷ []) (b .event))
+      n : T (unlocks (b .event))
       n = u .1
 
       h : Counts

@@ -13,7 +13,7 @@ use Rattle.rules.specs.Limits.{Limits, UpToFull, full, firstLine, lineAfter, al
 use Rattle.rules.specs.Rules.{verdict, Accepted, Marked, accepted, refused, refusedOr, told, mark, markRead, passing, pastRead}
 use Rattle.lines.specs.Lines.{splitOn}
 use Rattle.rules.proofs.Laws.{passed, few, accepted-last, accepted-before}
-use Rattle.rules.proofs.Bounds.{declared-bounds, allowed-full}
+use Rattle.rules.proofs.Bounds.{declared-bounds, allowed-full, allowed-bounds, subject-bound}
 use Rattle.rules.proofs.Readings.{past-accepted, past-read, past-marked}
 use Rattle.records.proofs.RowLaws.{Numbered, Small}
 use Rattle.events.specs.Events.{eventOf, readings, partLines}
@@ -31,7 +31,7 @@ both (refused n l) b q = absurd (let z : _≡_ {A = ℕ} 0 1 = cc in omega arith
 
 small-turn : (es rest : List Event) → Small es → Small rest → Small (reverseAux es rest)
 small-turn [] rest k r = r
-small-turn (e ∷ es) rest k r = small-turn es (e ∷ rest) (k .2) (k .0, k .1, r)
+small-turn (e ∷ es) rest k r = small-turn es (e ∷ rest) (k .3) (k .0, k .1, k .2, r)
 
 -- a paper that is not found has no lines
 pub no-lines : (m : Limits) (s : List ℕ) (n line : ℕ) → told (traceOf m s .verdict) ≡ refused n line → linesIn m s ≡ []
@@ -125,8 +125,9 @@ module _ (m : Limits) (u : UpToFull m) where
   unfolding verdict
   small-past h [] a c = tt
   small-past h (e ∷ es) a c =
-      let d = declared-bounds h e a (passed m h _ e (u .excess) (accepted-last m h e es c) .known) in
-      (omega (arith, d .0), omega (arith, d .1), small-past h es a (accepted-before m h e es c))
+      let k = passed m h _ e (u .excess) (accepted-last m h e es c) .known in
+      let d = declared-bounds h e a k in
+      (omega (arith, d .0), omega (arith, subject-bound h e k, allowed-bounds h a), omega (arith, d .1), small-past h es a (accepted-before m h e es c))
 
   pub events-declared : (s : List ℕ) → Small (eventsIn m s)
   unfolding eventsIn

@@ -13,13 +13,12 @@ use borrow.Author.Tests.{lt-ltb, le-ltb}
 use Rattle.rules.specs.declared.Event.{Event}
 use Rattle.rules.specs.declared.Counts.{Counts}
 use Rattle.rules.specs.declared.Verdict.the-variants.{Accepted, Refused}
-use Rattle.rules.specs.Events.{A, B, K, U}
+use Rattle.rules.specs.Events.{A, B, U}
 use Rattle.rules.specs.Limits.{lineAfter}
 use Rattle.rules.specs.Rules.{wordsOf, held, legal}
 use Rattle.rules.proofs.Bounds.{allowed-bounds}
 use Rattle.rules.proofs.Laws.{or-false-left, or-false-right}
 use Rattle.serial.specs.Lists.{All}
-use Rattle.serial.proofs.Counted as H
 use Rattle.records.specs.Records.{eventAt, rowEvents}
 use Rattle.rules.specs.Memories.{from}
 use Rattle.rules.proofs.From.{from-step, from-end}
@@ -29,26 +28,23 @@ use Rattle.sections.proofs.Valid.{Declared}
 use Rattle.sections.proofs.Whole.{from-held}
 use Rattle.sections.proofs.Ordered.{lock-below}
 use Rattle.ordering.specs.Answer.{guardOf}
-use Rattle.ordering.specs.Computed.Parts.{Fits, past, guardCell, underIn, levelAfter, pendingAfter, lateAfter, unfinishedIn, toldAs}
+use Rattle.ordering.specs.Computed.Parts.{Fits, past, guardCell, underIn, takesHold, Holdable, Held, pendingAfter, lateAfter, unfinishedIn, toldAs}
 use Rattle.ordering.proofs.Rows.{past-length, row-few, known-past, legal-past}
-use Rattle.ordering.proofs.Scanned.{Reads, Levels, levels-start, levels-after, level-low, Owed, owed-start, owed-after}
-use Rattle.ordering.proofs.Depths.{Depths, depths-start, holds-after, depths-after, depth-low, unfinished-is}
+use Rattle.ordering.proofs.Scanned.{Reads, Owed, owed-start, owed-after}
+use Rattle.ordering.proofs.Grips.{Grips, grips-start, holdable, grips-after, holds-after, unfinished-is}
 use Rattle.ordering.proofs.Late.{Late, late-start, late-after}
 
 -- the level of its guard says whether a thread is under it
-under-is : (h : Counts) (levels : List ℕ) (es : List Event) → Levels levels es → h .locks ≤ 8 → All (Declared h) es → (t g : ℕ) → t < 8 → underIn levels t g ≡ held (wordsOf es) t g
+under-is : (h : Counts) (levels depths kept : List ℕ) (es : List Event) → Grips h levels depths kept es → h .locks ≤ 8 → All (Declared h) es → (t g : ℕ) → t < 8 → underIn levels t g ≡ held (wordsOf es) t g
 unfolding underIn guardCell
-under-is h levels es L low d t g ht = go (decLt g 16)
+under-is h levels depths kept es G low d t g ht = go (decLt g 16)
   where
     none : (b : Bool) → held (wordsOf es) t g ≡ b → 16 ≤ g → false ≡ b
-    none true p q =
-        let x : H.Holds t g _ = from-held t g es p in
-        let y : g < h .locks = lock-below h t g es d (unfold H.Holds in omega (arith, x)) in
-        absurd (omega (arith, y, low, q))
+    none true p q = absurd (omega (arith, lock-below h t g es d (from-held t g es p), low, q))
     none false p q = refl
 
     go : Dec (g < 16) → (ltb g 16 && ltb 0 (getD levels (cond (ltb g 16) (t * 16 + g) 0) 0)) ≡ held (wordsOf es) t g
-    go (yes q) = rw (lt-ltb g 16 q) (unfold wordsOf in ap (ltb 0) (L .level t g ht q))
+    go (yes q) = rw (lt-ltb g 16 q) (unfold wordsOf in ap (ltb 0) (G .level t g ht q))
     go (no q) = let z : 16 ≤ g = omega (arith, q) in rw (le-ltb g 16 z) (none (held (wordsOf es) t g) refl z)
 
 -- ---- what the loop knows
@@ -60,51 +56,49 @@ module _ (h : Counts) (gs ws : List ℕ) (xs : List ℤ) where
   abbrev pub whole : Denial
   whole = denial h (guardOf gs) (rowEvents h ws xs)
 
-  pub record Going (levels : List ℕ) (owed : List Bool) (depths : List ℕ) (late : List Bool) (i : ℕ) : Type 0 where
+  pub record Going (levels : List ℕ) (owed : List Bool) (depths kept : List ℕ) (late : List Bool) (i : ℕ) : Type 0 where
     pub upto : i ≤ length ws
-    pub levels-are : Levels levels (past ev i)
+    pub grips-are : Grips h levels depths kept (past ev i)
     pub owed-are : Owed owed (past ev i)
-    pub depths-are : Depths h depths (past ev i)
     pub late-are : Late h late (past ev i)
     pub left : denialFrom h (guardOf gs) (past ev i) (from ev i (length ws - i)) ≡ whole
 
-  pub begins : Going (replicate 128 0) (replicate 128 false) (replicate 8 0) (replicate 8 false) 0
+  pub begins : Going (replicate 128 0) (replicate 128 false) (replicate 8 0) (replicate 8 0) (replicate 8 false) 0
   unfolding past denial rowEvents
   begins = record {
     upto = omega arith;
-    levels-are = levels-start;
+    grips-are = grips-start h;
     owed-are = owed-start;
-    depths-are = depths-start h;
     late-are = late-start h;
     left = ap (λ (n : ℕ). denialFrom h (guardOf gs) [] (from ev 0 n)) {x = length ws - 0} {y = length ws} (omega arith);
   }
 
   -- ---- the ends
 
-  module _ (f : Fits h ws xs) {levels : List ℕ} {owed : List Bool} {depths : List ℕ} {late : List Bool} {i : ℕ} (G : Going levels owed depths late i) where
-    ended : length ws ≤ i → whole ≡ cond (unfinishedIn h depths owed) (denied 22 (lineAfter h i)) fit
+  module _ (f : Fits h ws xs) {levels : List ℕ} {owed : List Bool} {depths kept : List ℕ} {late : List Bool} {i : ℕ} (G : Going levels owed depths kept late i) where
+    ended : length ws ≤ i → whole ≡ cond (unfinishedIn h depths owed kept) (denied 22 (lineAfter h i)) fit
     unfolding denialFrom
     ended e =
         sym (G .left) ∙ ap (denialFrom h (guardOf gs) (past ev i)) (from-end ev i (length ws) e)
-        ∙ ap₂ (λ c n. cond c (denied 22 (lineAfter h n)) fit) (sym (unfinished-is h depths (past ev i) (G .depths-are) owed (G .owed-are) (allowed-bounds h (f .accepted .head) .0) (allowed-bounds h (f .accepted .head) .1))) (past-length ev i)
+        ∙ ap₂ (λ c n. cond c (denied 22 (lineAfter h n)) fit) (sym (unfinished-is h levels depths kept (past ev i) (G .grips-are) owed (G .owed-are) (allowed-bounds h (f .accepted .head) .0) (allowed-bounds h (f .accepted .head) .1))) (past-length ev i)
 
-    pub ends-open : length ws ≤ i → unfinishedIn h depths owed ≡ true → Refused 22 (lineAfter h i) ≡ toldAs whole
+    pub ends-open : length ws ≤ i → unfinishedIn h depths owed kept ≡ true → Refused 22 (lineAfter h i) ≡ toldAs whole
     unfolding toldAs
     ends-open e o = sym (ap toldAs (ended e ∙ ap (λ c. cond c (denied 22 (lineAfter h i)) fit) o))
 
-    pub ends-fit : length ws ≤ i → unfinishedIn h depths owed ≡ false → Accepted ≡ toldAs whole
+    pub ends-fit : length ws ≤ i → unfinishedIn h depths owed kept ≡ false → Accepted ≡ toldAs whole
     unfolding toldAs
     ends-fit e o = sym (ap toldAs (ended e ∙ ap (λ c. cond c (denied 22 (lineAfter h i)) fit) o))
 
 -- ---- one turn: the event at i, by its letter k, thread t and place p
 
-pub record Turn (h : Counts) (gs ws : List ℕ) (xs : List ℤ) (levels : List ℕ) (owed : List Bool) (depths : List ℕ) (late : List Bool) (i k t p : ℕ) : Type 0 where
+pub record Turn (h : Counts) (gs ws : List ℕ) (xs : List ℤ) (levels : List ℕ) (owed : List Bool) (depths kept : List ℕ) (late : List Bool) (i k t p : ℕ) : Type 0 where
   pub fits : Fits h ws xs
-  pub going : Going h gs ws xs levels owed depths late i
+  pub going : Going h gs ws xs levels owed depths kept late i
   pub more : i < length ws
   pub reads : Reads k t p (eventAt h ws xs i)
 
-module _ {h : Counts} {gs ws : List ℕ} {xs : List ℤ} {levels : List ℕ} {owed : List Bool} {depths : List ℕ} {late : List Bool} {i k t p : ℕ} (u : Turn h gs ws xs levels owed depths late i k t p) where
+module _ {h : Counts} {gs ws : List ℕ} {xs : List ℤ} {levels : List ℕ} {owed : List Bool} {depths kept : List ℕ} {late : List Bool} {i k t p : ℕ} (u : Turn h gs ws xs levels owed depths kept late i k t p) where
   abbrev es : List Event
   es = past (eventAt h ws xs) i
 
@@ -120,15 +114,12 @@ module _ {h : Counts} {gs ws : List ℕ} {xs : List ℤ} {levels : List ℕ} {ow
   pub early : i ≤ 2000
   early = omega (arith, u .more, row-few h ws xs (u .fits))
 
-  pub level-range : getD levels (t * 16 + p) 0 < 65536
-  level-range = level-low levels es (u .going .levels-are) t p (r .thread-low) (r .place-low) few-past
-
-  pub depth-range : getD depths t 0 < 65536
-  depth-range = depth-low h depths es (u .going .depths-are) t (r .thread-low) few-past
-
   next-legal : T (legal h (e ∷ es))
   unfolding past
   next-legal = legal-past h ws xs (u .fits) (suc i) (u .more)
+
+  pub holdable-here : Holdable levels depths kept t p k
+  holdable-here = holdable h levels depths kept es (u .going .grips-are) k t p e r next-legal (allowed-bounds h (u .fits .accepted .head) .2) few-past
 
   abbrev nu : Bool
   nu = notUnder (guardOf gs) es e
@@ -146,10 +137,10 @@ module _ {h : Counts} {gs ws : List ℕ} {xs : List ℤ} {levels : List ℕ} {ow
       ∙ ap (λ n. cond nu (denied 20 (lineAfter h n)) (cond ll (denied 21 (lineAfter h n)) d)) (past-length (eventAt h ws xs) i)
       ∙ ap₂ (λ x y. cond x (denied 20 (lineAfter h i)) (cond y (denied 21 (lineAfter h i)) d)) a b
 
-  on : (levels′ : List ℕ) (owed′ : List Bool) (depths′ : List ℕ) (late′ : List Bool) → nu ≡ false → ll ≡ false
-      → Levels levels′ (e ∷ es) → Owed owed′ (e ∷ es) → Depths h depths′ (e ∷ es) → Late h late′ (e ∷ es) → Going h gs ws xs levels′ owed′ depths′ late′ (i + 1)
+  on : (levels′ : List ℕ) (owed′ : List Bool) (depths′ kept′ : List ℕ) (late′ : List Bool) → nu ≡ false → ll ≡ false
+      → Grips h levels′ depths′ kept′ (e ∷ es) → Owed owed′ (e ∷ es) → Late h late′ (e ∷ es) → Going h gs ws xs levels′ owed′ depths′ kept′ late′ (i + 1)
   unfolding past
-  on levels′ owed′ depths′ late′ a b L O D M = rw (add-one i) (record { upto = u .more; levels-are = L; owed-are = O; depths-are = D; late-are = M; left = sym (opened false false a b) })
+  on levels′ owed′ depths′ kept′ late′ a b G O M = rw (add-one i) (record { upto = u .more; grips-are = G; owed-are = O; late-are = M; left = sym (opened false false a b) })
 
   -- ---- what denies an order, and what goes on
 
@@ -158,12 +149,12 @@ module _ {h : Counts} {gs ws : List ℕ} {xs : List ℤ} {levels : List ℕ} {ow
     bare = (eqb k U || (eqb k A || eqb k B)) && not under
 
     abbrev again : Bool
-    again = eqb k K && getD late t false
+    again = takesHold k && getD late t false
 
     bare-is : nu ≡ bare
     unfolding notUnder guardOf
     bare-is =
-        let b = under-is h levels es (u .going .levels-are) (allowed-bounds h (u .fits .accepted .head) .2) (known-past h ws xs (u .fits) i (u .going .upto)) t (getD gs p 0) (r .thread-low) in
+        let b = under-is h levels depths kept es (u .going .grips-are) (allowed-bounds h (u .fits .accepted .head) .2) (known-past h ws xs (u .fits) i (u .going .upto)) t (getD gs p 0) (r .thread-low) in
         ap₂ (λ x y. x && not y) (r .uses) (ap₂ (λ t p. held (wordsOf es) t (getD gs p 0)) (r .whose) (r .places) ∙ sym (w ∙ b))
 
     again-is : ll ≡ again
@@ -179,9 +170,9 @@ module _ {h : Counts} {gs ws : List ℕ} {xs : List ℤ} {levels : List ℕ} {ow
         go false true z e o = ap (λ n. Refused n (lineAfter h i)) e ∙ sym (ap toldAs o)
         go false false z e o = absurd (false≢true z)
 
-    pub goes : (bare || again) ≡ false → {x y : ℕ} {z o : Bool} → x ≡ levelAfter (getD levels (t * 16 + p) 0) k → y ≡ levelAfter (getD depths t 0) k → z ≡ lateAfter (getD late t false) k (ltb 0 y)
-        → o ≡ pendingAfter (getD owed (t * 16 + p) false) k → Going h gs ws xs (set levels (t * 16 + p) x) (set owed (t * 16 + p) o) (set depths t y) (set late t z) (i + 1)
-    goes n {x} {y} {z} {o} ex ey ez eo =
-        on (set levels (t * 16 + p) x) (set owed (t * 16 + p) o) (set depths t y) (set late t z) (bare-is ∙ or-false-left bare again n) (again-is ∙ or-false-right bare again n)
-        (levels-after levels es (u .going .levels-are) k t p e r ex) (owed-after owed es (u .going .owed-are) k t p e r eo) (depths-after h depths es (u .going .depths-are) k t p e r next-legal ey)
-        (late-after h late es (u .going .late-are) k t p e r (λ _. holds-after h depths es (u .going .depths-are) k t p e r next-legal ey) ez)
+    pub goes : (bare || again) ≡ false → {y : ℕ} {levels′ depths′ kept′ : List ℕ} {z o : Bool} → Held levels depths kept t p k y levels′ depths′ kept′ → z ≡ lateAfter (getD late t false) k (ltb 0 y)
+        → o ≡ pendingAfter (getD owed (t * 16 + p) false) k → Going h gs ws xs levels′ (set owed (t * 16 + p) o) depths′ kept′ (set late t z) (i + 1)
+    goes n {y} {levels′} {depths′} {kept′} {z} {o} H ez eo =
+        on levels′ (set owed (t * 16 + p) o) depths′ kept′ (set late t z) (bare-is ∙ or-false-left bare again n) (again-is ∙ or-false-right bare again n)
+        (grips-after h levels depths kept es (u .going .grips-are) k t p e r next-legal H) (owed-after owed es (u .going .owed-are) k t p e r eo)
+        (late-after h late es (u .going .late-are) k t p e r (holds-after h levels depths kept es (u .going .grips-are) k t p e r next-legal H) ez)

@@ -3,7 +3,7 @@ use Prim.Native.Nat.{ℕ, zero, suc, _<_, _≤_}
 use native.Mathlib.Decide.{decLt}
 use native.Mathlib.Omega.{arith}
 use mathlib.Core.Path.{_≡_, refl, sym, _∙_, ap, ap₂, subst}
-use mathlib.Core.Bool.{Bool, true, false, _||_, false≢true}
+use mathlib.Core.Bool.{Bool, true, false, false≢true}
 use mathlib.Core.List.{List, [], _∷_, map}
 use lib.Dec.{ltb}
 use lib.IntN.{ℤ}
@@ -11,11 +11,9 @@ use lib.ListN.{length, getD, replicate, getD-replicate}
 use Rattle.rules.specs.declared.Event.{Event}
 use Rattle.rules.specs.declared.Counts.{Counts}
 use Rattle.rules.specs.declared.Kind.{Kind}
-use Rattle.rules.specs.declared.Kind.the-variants.{Use, Assign, Load, Store, Read, Write, Lock, Unlock, PrescientStore, PrescientAssign}
+use Rattle.rules.specs.declared.Kind.the-variants.{Use, Assign, Load, Store, Read, Write, Lock, Unlock, PrescientStore, PrescientAssign, Wait, Notify, Resume}
 use Rattle.rules.specs.Events.{is, locks}
-use Rattle.rules.specs.Rules.{some}
-use Rattle.rules.specs.Words.{count, pending}
-use Rattle.rules.proofs.Laws.{some-none, or-false-left}
+use Rattle.rules.specs.Words.{count}
 use Rattle.serial.specs.Lists.{All}
 use Rattle.serial.specs.Sections as Q
 use Rattle.serial.specs.Sections.{Section}
@@ -28,10 +26,10 @@ use Rattle.sections.specs.Order.{told, sections}
 use Rattle.sections.specs.Refusals.{unfinished}
 use Rattle.sections.proofs.Valid.{Declared}
 use Rattle.sections.proofs.Cells.{length-view}
-use Rattle.sections.proofs.Ordered.{sections-same}
+use Rattle.sections.proofs.Ordered.{settled, sections-same}
 use Rattle.ordering.specs.Computed.Parts.{past, bucket, rank, scratchAt, Filled}
 use Rattle.records.specs.Records.{eventAt}
-use Rattle.ordering.proofs.Depths.{Depths, depths-start, some-held}
+use Rattle.ordering.proofs.Grips.{Grips, grips-start, some-held}
 use Rattle.ordering.proofs.Buckets.{Below, Latest, shape}
 use Rattle.ordering.proofs.Shown.{shown, shown-all}
 
@@ -59,6 +57,12 @@ next-shape (PrescientStore v x) t ln n true ss = refl
 next-shape (PrescientStore v x) t ln n false ss = refl
 next-shape (PrescientAssign v x) t ln n true ss = refl
 next-shape (PrescientAssign v x) t ln n false ss = refl
+next-shape (Wait l) t ln n true ss = refl
+next-shape (Wait l) t ln n false ss = refl
+next-shape (Notify l u) t ln n true ss = refl
+next-shape (Notify l u) t ln n false ss = refl
+next-shape (Resume l) t ln n true ss = refl
+next-shape (Resume l) t ln n false ss = refl
 
 pub sections-next : (h : Counts) (e : Event) (es : List Event) (t n : ℕ) (lock busy : Bool) → e .thread ≡ t → length es ≡ n → locks e ≡ lock → holdsSome h t es ≡ busy
     → sections h (e ∷ es) ≡ shape lock busy t (suc n) (view e) (sections h es)
@@ -68,11 +72,6 @@ sections-next h e es t n lock busy a b c d =
     ∙ ap₂ (λ l n. shape l (holdsSome h (e .thread) es) (e .thread) (suc n) (view e) (sections h es)) c b
     ∙ ap (λ u. shape lock (holdsSome h u es) u (suc n) (view e) (sections h es)) a
     ∙ ap (λ b. shape lock b t (suc n) (view e) (sections h es)) d
-
--- at the end nobody holds anything
-nobody : (h : Counts) (es : List Event) → unfinished h es ≡ false → (u : ℕ) → u < h .threads → holdsSome h u es ≡ false
-unfolding unfinished
-nobody h es fin u l = or-false-left (holdsSome h u es) (some (h .variables) (λ v. pending u v es)) (some-none (h .threads) (λ t. holdsSome h t es || some (h .variables) (λ v. pending t v es)) fin u l)
 
 zeros : (n u : ℕ) → _≡_ {A = ℕ} (getD (replicate n 0) u 0) 0
 zeros zero u = refl
@@ -108,9 +107,9 @@ module _ (h : Counts) (ws : List ℕ) (xs : List ℤ) where
     pub latest : Latest h t (getD first t 0) index (sections h (past ev i))
 
   -- what holds after i events, n of them K
-  pub record Filling (scratch depths first top : List ℕ) (n i : ℕ) : Type 0 where
+  pub record Filling (scratch levels depths kept first top : List ℕ) (n i : ℕ) : Type 0 where
     pub upto : i ≤ length ws
-    pub depths-are : Depths h depths (past ev i)
+    pub grips-are : Grips h levels depths kept (past ev i)
     pub idle : (u : ℕ) → h .threads ≤ u → getD depths u 0 ≡ 0
     pub first-long : length first ≡ 8
     pub top-long : length top ≡ 8
@@ -119,22 +118,22 @@ module _ (h : Counts) (ws : List ℕ) (xs : List ℤ) where
     pub written : (p : ℕ) → p < i → scratchAt ev scratch p ≡ shown h (λ u. ltb 0 (getD depths u 0)) (sections h (past ev i)) (suc p)
     pub current : (t : ℕ) → t < 8 → holdsSome h t (past ev i) ≡ true → Current first top i t
 
-  pub filling-start : (scratch : List ℕ) → Filling scratch (replicate 8 0) (replicate 8 0) (replicate 8 0) 0 0
+  pub filling-start : (scratch : List ℕ) → Filling scratch (replicate 128 0) (replicate 8 0) (replicate 8 0) (replicate 8 0) (replicate 8 0) 0 0
   unfolding past rank count
   filling-start scratch = record {
     upto = omega arith;
-    depths-are = depths-start h;
+    grips-are = grips-start h;
     idle = λ u q. zeros 8 u;
     first-long = refl;
     top-long = refl;
     firsts = λ t ht. rw (getD-replicate {A = ℕ} 8 t 0 0 ht) (omega arith);
     count = refl;
     written = λ p q. absurd (omega (arith, q));
-    current = λ t ht q. absurd (false≢true (sym (ap (ltb 0) (getD-replicate {A = ℕ} 8 t 0 0 ht)) ∙ some-held h (replicate 8 0) [] (depths-start h) t ht ∙ q));
+    current = λ t ht q. absurd (false≢true (sym (ap (ltb 0) (getD-replicate {A = ℕ} 8 t 0 0 ht)) ∙ some-held h (replicate 128 0) (replicate 8 0) (replicate 8 0) [] (grips-start h) t ht ∙ q));
   }
 
-  pub filling-end : {scratch depths first top : List ℕ} {n i : ℕ} → Filling scratch depths first top n i → h .threads ≤ 8 → unfinished h (past ev (length ws)) ≡ false → length ws ≤ i → Filled h ws xs n scratch
-  filling-end {scratch} {depths} {i = i} F low fin e =
+  pub filling-end : {scratch levels depths kept first top : List ℕ} {n i : ℕ} → Filling scratch levels depths kept first top n i → h .threads ≤ 8 → unfinished h (past ev (length ws)) ≡ false → length ws ≤ i → Filled h ws xs n scratch
+  filling-end {scratch} {levels} {depths} {kept} {i = i} F low fin e =
       let q : i ≡ length ws = omega (arith, e, F .upto) in
       record {
         count = F .count ∙ ap (rank ev) q;
@@ -146,5 +145,5 @@ module _ (h : Counts) (ws : List ℕ) (xs : List ℤ) where
       none q u = go (decLt u (h .threads))
         where
           go : Dec (u < h .threads) → ltb 0 (getD depths u 0) ≡ false
-          go (yes l) = some-held h depths (past ev i) (F .depths-are) u (omega (arith, l, low)) ∙ ap (λ j. holdsSome h u (past ev j)) q ∙ nobody h (past ev (length ws)) fin u l
+          go (yes l) = some-held h levels depths kept (past ev i) (F .grips-are) u (omega (arith, l, low)) ∙ ap (λ j. holdsSome h u (past ev j)) q ∙ settled h (past ev (length ws)) fin u l .0
           go (no l) = ap (ltb 0) (F .idle u (omega (arith, l)))

@@ -1,10 +1,10 @@
--- One turn of the second pass: the event at i, by its letter k and thread t.
-use Prim.Native.Nat.{ℕ, zero, suc, pred, _+_, _<_, _≤_}
+-- One turn of the second pass: the event at i, by its letter k, thread t and place p.
+use Prim.Native.Nat.{ℕ, zero, suc, _+_, _<_, _≤_}
 use native.Mathlib.Decide.{ℕ-discrete}
 use native.Mathlib.Omega.{arith}
 use native.Mathlib.Numerals.{add-one}
 use mathlib.Core.Path.{_≡_, refl, sym, _∙_, ap, ap₂, subst}
-use mathlib.Core.Bool.{Bool, true, false, cond, _||_}
+use mathlib.Core.Bool.{Bool, true, false, cond}
 use mathlib.Core.List.{List, _∷_}
 use lib.Dec.{T, eqb, ltb}
 use lib.IntN.{ℤ}
@@ -13,32 +13,32 @@ use lib.Seq.{getD-set-same, getD-set-other, set-getD}
 use borrow.Author.Tests.{eq-eqb, ne-eqb, lt-ltb}
 use Rattle.rules.specs.declared.Event.{Event}
 use Rattle.rules.specs.declared.Counts.{Counts}
-use Rattle.rules.specs.Events.{K, N, locks, isLockLetter}
+use Rattle.rules.specs.Events.{locks}
 use Rattle.rules.specs.Limits.{lineAfter}
 use Rattle.rules.specs.Rules.{legal}
 use Rattle.serial.specs.Sections.{push}
 use Rattle.sections.specs.View.{view}
 use Rattle.sections.specs.Places.{holdsSome}
 use Rattle.sections.specs.Order.{sections, lineOf}
-use Rattle.ordering.specs.Computed.Parts.{Fits, past, levelAfter, codeOf, idleOr, rank, scratchAt}
-use Rattle.rules.proofs.Bounds.{first-line-high}
-use Rattle.records.specs.Records.{placeIn, eventAt}
+use Rattle.ordering.specs.Computed.Parts.{Fits, past, takesHold, givesHold, Holdable, Held, codeOf, idleOr, rank, scratchAt}
+use Rattle.rules.proofs.Bounds.{allowed-bounds, first-line-high}
+use Rattle.records.specs.Records.{eventAt}
 use Rattle.ordering.proofs.Rows.{past-length, row-few, known-past, legal-past}
 use Rattle.ordering.proofs.Scanned.{Reads}
-use Rattle.ordering.proofs.Depths.{Depths, some-held, depth-low, depths-after, depths-kept, gives-up, held-before, other-holds}
+use Rattle.ordering.proofs.Grips.{Grips, some-held, holdable, depth-here, depth-else, grips-after, grips-kept, holds-after, takes-hold, gives-up, gains, other-holds}
 use Rattle.ordering.proofs.Ranks.{rank-lock, rank-other, rank-few, rank-below, scratch-set, scratch-none}
 use Rattle.ordering.proofs.Buckets.{Latest, shape, latest-push, latest-lock, latest-other}
 use Rattle.ordering.proofs.Shown.{Off, shown, shown-above, kept-shown, lock-shown, end-shown}
 use Rattle.ordering.proofs.Filling.{sections-next, Placing, placing, Current, Filling}
 
-pub record Turn (h : Counts) (ws : List ℕ) (xs : List ℤ) (scratch depths first top : List ℕ) (n i k t : ℕ) : Type 0 where
+pub record Turn (h : Counts) (ws : List ℕ) (xs : List ℤ) (scratch levels depths kept first top : List ℕ) (n i k t p : ℕ) : Type 0 where
   pub fits : Fits h ws xs
-  pub filling : Filling h ws xs scratch depths first top n i
+  pub filling : Filling h ws xs scratch levels depths kept first top n i
   pub more : i < length ws
   pub room : rank (eventAt h ws xs) (length ws) ≤ length scratch
-  pub reads : Reads k t (placeIn (getD ws i 0)) (eventAt h ws xs i)
+  pub reads : Reads k t p (eventAt h ws xs i)
 
-module _ {h : Counts} {ws : List ℕ} {xs : List ℤ} {scratch depths first top : List ℕ} {n i k t : ℕ} (u : Turn h ws xs scratch depths first top n i k t) where
+module _ {h : Counts} {ws : List ℕ} {xs : List ℤ} {scratch levels depths kept first top : List ℕ} {n i k t p : ℕ} (u : Turn h ws xs scratch levels depths kept first top n i k t p) where
   abbrev ev : ℕ → Event
   ev = eventAt h ws xs
 
@@ -48,10 +48,10 @@ module _ {h : Counts} {ws : List ℕ} {xs : List ℤ} {scratch depths first top 
   abbrev e : Event
   e = ev i
 
-  abbrev F : Filling h ws xs scratch depths first top n i
+  abbrev F : Filling h ws xs scratch levels depths kept first top n i
   F = u .filling
 
-  abbrev r : Reads k t (placeIn (getD ws i 0)) e
+  abbrev r : Reads k t p e
   r = u .reads
 
   -- who holds something before it, and whether its thread does
@@ -72,18 +72,18 @@ module _ {h : Counts} {ws : List ℕ} {xs : List ℤ} {scratch depths first top 
   rank-in j l q = omega (arith, u .room, rank-below ev j (length ws) l q)
 
   -- a K has a place
-  pub place-in : eqb k K ≡ true → n < length scratch
+  pub place-in : takesHold k ≡ true → n < length scratch
   place-in c = rw (F .count) (rank-in i (u .more) (r .locking ∙ c))
 
   next-legal : T (legal h (e ∷ es))
   unfolding past
   next-legal = legal-past h ws xs (u .fits) (suc i) (u .more)
 
-  pub depth-fits : getD depths t 0 < 65536
-  depth-fits = depth-low h depths es (F .depths-are) t (r .thread-low) (omega (arith, past-length ev i, early))
+  pub holdable-here : Holdable levels depths kept t p k
+  holdable-here = holdable h levels depths kept es (F .grips-are) k t p e r next-legal (allowed-bounds h (u .fits .accepted .head) .2) (omega (arith, past-length ev i, early))
 
   held-was : holdsSome h t es ≡ busy
-  held-was = sym (some-held h depths es (F .depths-are) t (r .thread-low))
+  held-was = sym (some-held h levels depths kept es (F .grips-are) t (r .thread-low))
 
   P : Placing i (sections h es)
   P = subst (λ n. Placing n (sections h es)) (past-length ev i) (placing h es (known-past h ws xs (u .fits) i (F .upto)))
@@ -91,10 +91,10 @@ module _ {h : Counts} {ws : List ℕ} {xs : List ℤ} {scratch depths first top 
   own : busy ≡ true → Current h ws xs first top i t
   own q = F .current t (r .thread-low) (held-was ∙ q)
 
-  shaped : sections h (e ∷ es) ≡ shape (eqb k K) busy t (suc i) (view e) (sections h es)
-  shaped = sections-next h e es t i (eqb k K) busy (r .whose) (past-length ev i) (r .locking) held-was
+  shaped : sections h (e ∷ es) ≡ shape (takesHold k) busy t (suc i) (view e) (sections h es)
+  shaped = sections-next h e es t i (takesHold k) busy (r .whose) (past-length ev i) (r .locking) held-was
 
-  pushed : eqb k K ≡ false → busy ≡ true → sections h (e ∷ es) ≡ push t (suc i) (view e) (sections h es)
+  pushed : takesHold k ≡ false → busy ≡ true → sections h (e ∷ es) ≡ push t (suc i) (view e) (sections h es)
   pushed c w = shaped ∙ ap₂ (λ x y. shape x y t (suc i) (view e) (sections h es)) c w
 
   declared-thread : t < h .threads
@@ -125,29 +125,29 @@ module _ {h : Counts} {ws : List ℕ} {xs : List ℤ} {scratch depths first top 
       go : Dec (v ≡ t) → Current h ws xs first′ top′ (suc i) v
       go (yes z) = subst (Current h ws xs first′ top′ (suc i)) (sym z) (mine (subst (λ v. holdsSome h v (e ∷ es) ≡ true) z q))
       go (no z) =
-          let c = F .current v hv (sym (other-holds h es k t (placeIn (getD ws i 0)) e r v (λ x. z (sym x))) ∙ q) in
+          let c = F .current v hv (sym (other-holds h es k t p e r v (λ x. z (sym x))) ∙ q) in
           carried first′ top′ v c (o v z .1)
-          (subst (Latest h v (getD first′ v 0) (c .index)) (sym shaped) (rw (o v z .0) (latest-other h i t (view e) (sections h es) (eqb k K) busy v (getD first v 0) (c .index) (λ x. z (sym x)) (c .latest))))
+          (subst (Latest h v (getD first′ v 0) (c .index)) (sym shaped) (rw (o v z .0) (latest-other h i t (view e) (sections h es) (takesHold k) busy v (getD first v 0) (c .index) (λ x. z (sym x)) (c .latest))))
 
   -- an event other than a K leaves each its place
-  stays : eqb k K ≡ false → (v : ℕ) → v < 8 → holdsSome h v (e ∷ es) ≡ true → Current h ws xs first top (suc i) v
+  stays : takesHold k ≡ false → (v : ℕ) → v < 8 → holdsSome h v (e ∷ es) ≡ true → Current h ws xs first top (suc i) v
   stays c = current-after first top (λ v z. (refl, refl)) mine
     where
       mine : holdsSome h t (e ∷ es) ≡ true → Current h ws xs first top (suc i) t
       mine q =
-          let w = held-before h depths es (F .depths-are) k t (placeIn (getD ws i 0)) e r next-legal c q in
+          let w = sym held-was ∙ gains h es k t p e r c q in
           let m = own w in
           carried first top t m refl
           (subst (Latest h t (getD first t 0) (m .index)) (sym (pushed c w)) (latest-push h t (suc i) (getD first t 0) (m .index) (view e) (sections h es) (m .latest)))
 
-  count-stays : eqb k K ≡ false → n ≡ rank ev (suc i)
+  count-stays : takesHold k ≡ false → n ≡ rank ev (suc i)
   count-stays c = F .count ∙ sym (rank-other ev i (r .locking ∙ c))
 
   -- ---- the section of an unlock
 
-  module _ (c : eqb k K ≡ false) (m : eqb k N ≡ true) where
+  module _ (c : takesHold k ≡ false) (m : givesHold k ≡ true) where
     held : busy ≡ true
-    held = gives-up h depths es (F .depths-are) k t (placeIn (getD ws i 0)) e r next-legal c m
+    held = sym held-was ∙ gives-up es k t p e r h next-legal m
 
     abbrev j : ℕ
     j = own held .index
@@ -164,11 +164,11 @@ module _ {h : Counts} {ws : List ℕ} {xs : List ℤ} {scratch depths first top 
 
   -- ---- another event than a lock or an unlock
 
-  pub filling-other : eqb k K ≡ false → eqb k N ≡ false → Filling h ws xs scratch depths first top n (i + 1)
-  unfolding past isLockLetter
+  pub filling-other : takesHold k ≡ false → givesHold k ≡ false → Filling h ws xs scratch levels depths kept first top n (i + 1)
+  unfolding past
   filling-other a c = rw (add-one i) (record {
     upto = u .more;
-    depths-are = depths-kept h depths es (F .depths-are) k t (placeIn (getD ws i 0)) e r next-legal (ap₂ (λ x y. x || y) a c);
+    grips-are = grips-kept h levels depths kept es (F .grips-are) k t p e r next-legal a c;
     idle = F .idle;
     first-long = F .first-long;
     top-long = F .top-long;
@@ -180,29 +180,32 @@ module _ {h : Counts} {ws : List ℕ} {xs : List ℤ} {scratch depths first top 
 
   -- ---- a lock or an unlock
 
-  module _ {z : ℕ} (ez : z ≡ levelAfter (getD depths t 0) k) where
+  module _ {z : ℕ} {levels′ depths′ kept′ : List ℕ} (H : Held levels depths kept t p k z levels′ depths′ kept′) where
     abbrev after : ℕ → Bool
-    after v = ltb 0 (getD (set depths t z) v 0)
+    after v = ltb 0 (getD depths′ v 0)
+
+    else : (v : ℕ) → (v ≡ t → ⊥) → getD depths′ v 0 ≡ getD depths v 0
+    else = depth-else h levels depths kept es (F .grips-are) k t p e r next-legal H
 
     off : Off t b after
-    off v o = ap (ltb 0) (sym (getD-set-other depths t v z 0 o))
+    off v o = ap (ltb 0) (sym (else v o))
 
     after-own : after t ≡ ltb 0 z
-    after-own = ap (ltb 0) (getD-set-same depths t z 0 (omega (arith, r .thread-low, F .depths-are .long)))
+    after-own = ap (ltb 0) (depth-here h levels depths kept es (F .grips-are) k t p e r next-legal H)
 
-    new-depths : Depths h (set depths t z) (e ∷ es)
-    new-depths = depths-after h depths es (F .depths-are) k t (placeIn (getD ws i 0)) e r next-legal ez
+    new-grips : Grips h levels′ depths′ kept′ (e ∷ es)
+    new-grips = grips-after h levels depths kept es (F .grips-are) k t p e r next-legal H
 
-    new-idle : (v : ℕ) → h .threads ≤ v → getD (set depths t z) v 0 ≡ 0
-    new-idle v q = getD-set-other depths t v z 0 (λ o. omega (arith, o, q, declared-thread)) ∙ F .idle v q
+    new-idle : (v : ℕ) → h .threads ≤ v → getD depths′ v 0 ≡ 0
+    new-idle v q = else v (λ o. omega (arith, o, q, declared-thread)) ∙ F .idle v q
 
     -- a lock
-    pub filling-lock : eqb k K ≡ true → {a : ℕ} → a ≡ idleOr (getD depths t 0) (getD first t 0) (lineAfter h i) → {y : ℕ} → y ≡ 0 → {m : ℕ} → m ≡ n + 1
-        → Filling h ws xs (set scratch n y) (set depths t z) (set first t a) (set top t n) m (i + 1)
-    unfolding past levelAfter idleOr
+    pub filling-lock : takesHold k ≡ true → {a : ℕ} → a ≡ idleOr (getD depths t 0) (getD first t 0) (lineAfter h i) → {y : ℕ} → y ≡ 0 → {m : ℕ} → m ≡ n + 1
+        → Filling h ws xs (set scratch n y) levels′ depths′ kept′ (set first t a) (set top t n) m (i + 1)
+    unfolding past idleOr
     filling-lock c {a} ea {y} ey em = rw (add-one i) (record {
       upto = u .more;
-      depths-are = new-depths;
+      grips-are = new-grips;
       idle = new-idle;
       first-long = length-set first t a ∙ F .first-long;
       top-long = length-set top t n ∙ F .top-long;
@@ -222,7 +225,7 @@ module _ {h : Counts} {ws : List ℕ} {xs : List ℤ} {scratch depths first top 
         at-top = getD-set-same top t n 0 (omega (arith, r .thread-low, F .top-long))
 
         held : after t ≡ true
-        held = after-own ∙ ap (ltb 0) (ez ∙ ap (λ x. cond x (suc (getD depths t 0)) (cond (eqb k N) (pred (getD depths t 0)) (getD depths t 0))) c) ∙ lt-ltb 0 (suc (getD depths t 0)) (omega arith)
+        held = after-own ∙ holds-after h levels depths kept es (F .grips-are) k t p e r next-legal H ∙ takes-hold es k t p e r h next-legal c
 
         idle-or : (d : ℕ) → cond (eqb d 0) (lineAfter h i) (getD first t 0) ≡ cond (ltb 0 d) (getD first t 0) (lineAfter h i)
         idle-or zero = refl
@@ -252,12 +255,12 @@ module _ {h : Counts} {ws : List ℕ} {xs : List ℤ} {scratch depths first top 
         new-first v hv (no o) = rw (getD-set-other first t v a 0 o) (F .firsts v hv)
 
     -- an unlock
-    pub filling-unlock : (c : eqb k K ≡ false) (m : eqb k N ≡ true) {code y : ℕ} → code ≡ codeOf t (getD first t 0) (lineAfter h i) → y ≡ idleOr z (getD scratch (getD top t 0) 0) code
-        → Filling h ws xs (set scratch (getD top t 0) y) (set depths t z) first top n (i + 1)
+    pub filling-unlock : (c : takesHold k ≡ false) (m : givesHold k ≡ true) {code y : ℕ} → code ≡ codeOf t (getD first t 0) (lineAfter h i) → y ≡ idleOr z (getD scratch (getD top t 0) 0) code
+        → Filling h ws xs (set scratch (getD top t 0) y) levels′ depths′ kept′ first top n (i + 1)
     unfolding past idleOr
     filling-unlock c m {code} {y} ec ey = rw (add-one i) (record {
       upto = u .more;
-      depths-are = new-depths;
+      grips-are = new-grips;
       idle = new-idle;
       first-long = F .first-long;
       top-long = F .top-long;

@@ -1,7 +1,8 @@
 pub mod Sums
 pub mod Gathering
+pub mod Arrays
 pub mod Scanned
-pub mod Depths
+pub mod Grips
 pub mod Late
 pub mod Rows
 pub mod Denying

@@ -14,7 +14,7 @@ use Rattle.rules.specs.Limits.{full, lineAfter, declared}
 use Rattle.rules.specs.Events.{locks}
 use Rattle.rules.specs.Words.{count}
 use Rattle.rules.specs.Rules.{legal, accepted}
-use Rattle.rules.proofs.Bounds.{declared-bounds}
+use Rattle.rules.proofs.Bounds.{allowed-bounds, declared-bounds, subject-bound}
 use Rattle.rules.proofs.Laws.{few, legal-known, legal-before}
 use Rattle.rules.proofs.Marking.{mark-accepts}
 use Rattle.records.specs.Records.{packed, valueIn, letterIn, threadIn, placeIn, rowLines, eventAt, rowEvents}
@@ -135,7 +135,7 @@ module _ (h : Counts) (events : List Event) (a : AcceptedTrace full h events) (k
     where
       go : (es : List Event) → All (Known h) es → Small es
       go [] d = tt
-      go (e ∷ es) d = let b = declared-bounds h e (a .head) (d .0) in (omega (arith, b), omega (arith, b), go es (d .1))
+      go (e ∷ es) d = let b = declared-bounds h e (a .head) (d .0) in (omega (arith, b), omega (arith, subject-bound h e (d .0), allowed-bounds h (a .head) .0), omega (arith, b), go es (d .1))
 
   pub packed-fits : Fits h (map packed events) (map valueIn events)
   packed-fits = trace-fits h (map packed events) (map valueIn events) events a (row-lines h events k small)

@@ -1,5 +1,5 @@
 -- Sums over the numbers below n.
-use Prim.Native.Nat.{ℕ, zero, suc, _+_, _<_, _≤_}
+use Prim.Native.Nat.{ℕ, zero, suc, _+_, _*_, _<_, _≤_}
 use native.Mathlib.Decide.{ℕ-discrete}
 use native.Mathlib.Omega.{arith}
 use mathlib.Core.Path.{_≡_, refl, _∙_, ap, ap₂}
@@ -27,22 +27,37 @@ unfolding total
 total-same zero f g e = refl
 total-same (suc n) f g e = ap₂ (λ a b. a + b) (e n (omega arith)) (total-same n f g (λ i h. e i (omega arith)))
 
-pub total-more : (n : ℕ) (f g : ℕ → ℕ) → ((i : ℕ) → f i ≤ g i) → total n f ≤ total n g
-unfolding total
-total-more zero f g e = omega arith
-total-more (suc n) f g e = omega (arith, e n, total-more n f g e)
-
 pub total-zero : (n : ℕ) → total n (λ i. 0) ≡ 0
 unfolding total
 total-zero zero = refl
 total-zero (suc n) = omega (arith, total-zero n)
 
+-- each is at most 2,000
+pub total-low : (n : ℕ) (f : ℕ → ℕ) → ((i : ℕ) → f i ≤ 2000) → total n f ≤ n * 2000
+unfolding total
+total-low zero f e = omega arith
+total-low (suc n) f e = omega (arith, e n, total-low n f e)
+
 -- f and g differ at p alone
-pub total-moved : (n p : ℕ) (f g : ℕ → ℕ) → p < n → ((i : ℕ) → (i ≡ p → ⊥) → g i ≡ f i) → total n g + f p ≡ total n f + g p
+pub total-moved : (n p : ℕ) (f g : ℕ → ℕ) → p < n → ((i : ℕ) → i < n → (i ≡ p → ⊥) → g i ≡ f i) → total n g + f p ≡ total n f + g p
 unfolding total
 total-moved zero p f g h e = absurd (omega arith)
-total-moved (suc n) p f g h e = by (ℕ-discrete n p) (λ k. total-moved n p f g k e)
+total-moved (suc n) p f g h e = by (ℕ-discrete n p) (λ k. total-moved n p f g k (λ i l. e i (omega arith)))
   where
     by : Dec (n ≡ p) → (p < n → total n g + f p ≡ total n f + g p) → g n + total n g + f p ≡ f n + total n f + g p
-    by (yes q) r = omega (arith, ap f q, ap g q, total-same n f g (λ i k. e i (λ j. omega (arith, k, j, q))))
-    by (no q) r = omega (arith, e n q, r (omega (arith, h, q)))
+    by (yes q) r = omega (arith, ap f q, ap g q, total-same n f g (λ i k. e i (omega arith) (λ j. omega (arith, k, j, q))))
+    by (no q) r = omega (arith, e n (omega arith) q, r (omega (arith, h, q)))
+
+-- one of them is at most their sum
+pub total-part : (n p : ℕ) (f : ℕ → ℕ) → p < n → f p ≤ total n f
+unfolding total
+total-part zero p f h = absurd (omega arith)
+total-part (suc n) p f h = by (ℕ-discrete n p) (total-part n p f)
+  where
+    by : Dec (n ≡ p) → (p < n → f p ≤ total n f) → f p ≤ f n + total n f
+    by (yes q) r = omega (arith, ap f q)
+    by (no q) r = omega (arith, r (omega (arith, h, q)))
+
+-- and the sum, where the others are 0
+pub total-one : (n p : ℕ) (f : ℕ → ℕ) → p < n → ((i : ℕ) → i < n → (i ≡ p → ⊥) → f i ≡ 0) → total n f ≡ f p
+total-one n p f h e = omega (arith, total-moved n p (λ i. 0) f h e, total-zero n)

@@ -10,7 +10,7 @@ ghost use Rattle.rules.specs.Rules.{some};
 ghost use Rattle.records.specs.Records.{eventAt, rowEvents};
 ghost use Rattle.sections.specs.Refusals.{unfinished, denial};
 ghost use Rattle.ordering.specs.Answer.{guardOf, answerFor, entriesFor, Given};
-ghost use Rattle.ordering.specs.Computed.Parts.{Fits, past, guardCell, underIn, levelAfter, pendingAfter, lateAfter, pendingIn, unfinishedIn, toldAs, codeOf, idleOr, Filled, unlessZero, nonzero, Put, Orders, Written};
+ghost use Rattle.ordering.specs.Computed.Parts.{Fits, past, guardCell, underIn, Holdable, Held, pendingAfter, lateAfter, pendingIn, unfinishedIn, toldAs, codeOf, idleOr, Filled, unlessZero, nonzero, Put, Orders, Written};
 ghost use Rattle.ordering.specs.Traces.{OrdersTrace};
 use marking::Marking;
 use rules::Counts;
@@ -38,17 +38,41 @@ fn guard_cell(t: usize, g: usize) -> usize
     if g < 16 { t * 16 + g } else { 0 }
 }
 
-fn level_after(x: u32, k: u8) -> u32
-    requires { ⌜ x < 65536 ⌝ }
-    ensures { λ r. ⌜ r ≡ levelAfter x k ⌝ }
+fn one(b: bool) -> u32
+    ensures { λ r. ⌜ r ≡ cond b 1 0 ⌝ }
 {
-    if k == b'K' {
-        return x + 1;
+    if b { 1 } else { 0 }
+}
+
+// What thread t holds after its event on p, and how often. A Y remembers its holds of the lock and a C takes them again: the level and what is remembered change
+// places, for one of them is 0.
+fn hold(
+    levels: &mut [u32; 128],
+    depths: &mut [u32; 8],
+    remembered: &mut [u32; 8],
+    t: usize,
+    p: usize,
+    k: u8,
+) -> u32
+    requires { ⌜ Holdable (now levels) (now depths) (now remembered) t p k ⌝ }
+    ensures { λ r. ⌜ Held (now (levels .entry)) (now (depths .entry)) (now (remembered .entry)) t p k r (now (levels .exit)) (now (depths .exit)) (now (remembered .exit)) ⌝ }
+{
+    let c = t * 16 + p;
+    if (k == b'Y') | (k == b'C') {
+        let level = levels[c];
+        let kept = remembered[t];
+        let depth = depths[t] - level + kept;
+        levels[c] = kept;
+        remembered[t] = level;
+        depths[t] = depth;
+        return depth;
     }
-    if k != b'N' {
-        return x;
-    }
-    if 0 < x { x - 1 } else { 0 }
+    let more = one(k == b'K');
+    let less = one(k == b'N');
+    let depth = depths[t] + more - less;
+    levels[c] = levels[c] + more - less;
+    depths[t] = depth;
+    depth
 }
 
 fn pending_after(b: bool, k: u8) -> bool
@@ -60,7 +84,7 @@ fn pending_after(b: bool, k: u8) -> bool
 fn late_after(b: bool, k: u8, any: bool) -> bool
     ensures { λ r. ⌜ r ≡ lateAfter b k any ⌝ }
 {
-    if k == b'N' { any } else { b }
+    any & (((k == b'N') | (k == b'Y')) | b)
 }
 
 // Whether thread t owes an assign on one of the first n variables.
@@ -78,18 +102,19 @@ fn owes_some(pending: &[bool; 128], t: usize, n: usize) -> bool
     any
 }
 
-// 22: at the end a lock is held or an assign owed.
-fn unfinished(h: Counts, depths: &[u32; 8], pending: &[bool; 128]) -> bool
+// 22: at the end a lock is held or an assign owed, or a thread is waiting.
+fn unfinished(h: Counts, depths: &[u32; 8], pending: &[bool; 128], remembered: &[u32; 8]) -> bool
     requires { ⌜ h .threads ≤ 8 ⌝ }
     requires { ⌜ h .variables ≤ 16 ⌝ }
-    ensures { λ r. ⌜ r ≡ unfinishedIn h (now (depths .entry)) (now (pending .entry)) ⌝ }
+    ensures { λ r. ⌜ r ≡ unfinishedIn h (now (depths .entry)) (now (pending .entry)) (now (remembered .entry)) ⌝ }
 {
     let mut any = false;
     let mut t: usize = 0;
     while t < h.threads {
         let a = 0 < depths[t];
         let b = owes_some(pending, t, h.variables);
-        any = (a | b) | any;
+        let w = 0 < remembered[t];
+        any = (a | (b | w)) | any;
         t += 1;
     }
     any
@@ -128,6 +153,7 @@ fn deny(h: Counts, locks: [usize; 16], what: &[u32], value: &[Value]) -> Verdict
     let mut levels: [u32; 128] = [0; 128];
     let mut pending: [bool; 128] = [false; 128];
     let mut depths: [u32; 8] = [0; 8];
+    let mut remembered: [u32; 8] = [0; 8];
     let mut late: [bool; 8] = [false; 8];
     let mut i: usize = 0;
     while i < what.len() {
@@ -135,22 +161,20 @@ fn deny(h: Counts, locks: [usize; 16], what: &[u32], value: &[Value]) -> Verdict
         let k = records::letter_in(w);
         let t = records::thread_in(w);
         let p = records::place_in(w);
-        let c = t * 16 + p;
         let under = is_under(&levels, t, locks[p]);
         let was = late[t];
         let bare = ((k == b'U') | ((k == b'A') | (k == b'B'))) & !under;
-        let again = (k == b'K') & was;
+        let again = ((k == b'K') | (k == b'C')) & was;
         if bare | again {
             return refuse(h, broken(bare), i);
         }
-        let depth = level_after(depths[t], k);
-        levels[c] = level_after(levels[c], k);
-        depths[t] = depth;
+        let depth = hold(&mut levels, &mut depths, &mut remembered, t, p, k);
         late[t] = late_after(was, k, 0 < depth);
+        let c = t * 16 + p;
         pending[c] = pending_after(pending[c], k);
         i += 1;
     }
-    if unfinished(h, &depths, &pending) {
+    if unfinished(h, &depths, &pending, &remembered) {
         return refuse(h, 22, i);
     }
     Verdict::Accepted
@@ -175,15 +199,18 @@ fn idle_or(depth: u32, x: u64, y: u64) -> u64
     if depth == 0 { y } else { x }
 }
 
-// The second pass. The scratch has a place for each K, in their order: each section stands at the place of its last K, 0 at the others. A section begins
-// at a K before which its thread held nothing, and is written down at the N after which it holds nothing. Other events are passed over. How many K.
+// The second pass. The scratch has a place for each K or C, in their order: each section stands at the place of its last one, 0 at the others. A section
+// begins at a K or C before which its thread held nothing, and is written down at the N or Y after which it holds nothing. Other events are passed over. How
+// many K and C.
 fn fill(h: Counts, what: &[u32], value: &[Value], scratch: &mut [u64]) -> usize
     requires { ⌜ Fits h (now what) (now value) ⌝ }
     requires { ⌜ unfinished h (past (eventAt h (now what) (now value)) (length (now what))) ≡ false ⌝ }
     requires { ⌜ full .scratch ≤ length (now scratch) ⌝ }
     ensures { λ r. ⌜ Filled h (now (what .entry)) (now (value .entry)) r (now (scratch .exit)) ⌝ }
 {
+    let mut levels: [u32; 128] = [0; 128];
     let mut depths: [u32; 8] = [0; 8];
+    let mut remembered: [u32; 8] = [0; 8];
     let mut first: [u64; 8] = [0; 8];
     let mut top: [usize; 8] = [0; 8];
     let mut n: usize = 0;
@@ -192,21 +219,20 @@ fn fill(h: Counts, what: &[u32], value: &[Value], scratch: &mut [u64]) -> usize
         let w = what[i];
         let k = records::letter_in(w);
         let t = records::thread_in(w);
+        let p = records::place_in(w);
         let line = rules::line_after(h, i as u32) as u64;
-        if k == b'K' {
-            let depth = depths[t];
-            first[t] = idle_or(depth, first[t], line);
-            depths[t] = level_after(depth, k);
+        if (k == b'K') | (k == b'C') {
+            first[t] = idle_or(depths[t], first[t], line);
+            hold(&mut levels, &mut depths, &mut remembered, t, p, k);
             scratch[n] = 0;
             top[t] = n;
             n += 1;
             i += 1;
-        } else if k == b'N' {
-            let depth = level_after(depths[t], k);
+        } else if (k == b'N') | (k == b'Y') {
+            let depth = hold(&mut levels, &mut depths, &mut remembered, t, p, k);
             let j = top[t];
             let code = encode(t, first[t], line);
             scratch[j] = idle_or(depth, scratch[j], code);
-            depths[t] = depth;
             i += 1;
         } else {
             i += 1;

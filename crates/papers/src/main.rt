@@ -47,6 +47,24 @@ fn main() {
     full(b"H 1 1 0\nG -\nV 0\nU 0 0 0\nZ 24\n");
     full(b"H 1 2 0\nG -\nV 0 1\nA 0 0 5\nA 0 1 6\nS 0 1 6\nS 0 0 5\nW 0 1 6\nZ 58\n");
     full(b"H 1 1 0\nG -\nV 0\nP 0 0 5\nZ 24\n");
+    // A consumer waits for a value: Y ends its section, F notifies it, and C begins another.
+    full(
+        b"H 2 1 1\nG 0\nK 0 0\nR 0 0 0\nL 0 0 0\nU 0 0 0\nY 0 0\nK 1 0\nA 1 0 5\nS 1 0 5\nW 1 0 5\nF 1 0 0\nN 1 0\nC 0 0\nR 0 0 5\nL 0 0 5\nU 0 0 5\nN 0 0\nZ 128\n",
+    );
+    // Both holds are given up and taken again.
+    full(
+        b"H 2 1 1\nG 0\nK 0 0\nK 0 0\nY 0 0\nK 1 0\nF 1 0 0\nN 1 0\nC 0 0\nN 0 0\nA 0 0 5\nS 0 0 5\nW 0 0 5\nN 0 0\nZ 92\n",
+    );
+    // A thread that holds another lock waits and comes back: C is a lock after an unlock in its section, 21. One that still waits: 22.
+    full(b"H 2 1 2\nG 0\nK 0 0\nK 0 1\nY 0 1\nK 1 1\nF 1 1 0\nN 1 1\nC 0 1\nN 0 1\nN 0 0\nZ 68\n");
+    full(b"H 1 1 1\nG 0\nK 0 0\nY 0 0\nZ 24\n");
+    // Of a thread that waits an early store is written and a read is made; its assign is refused.
+    full(b"H 2 1 1\nG -\nK 0 0\nP 0 0 5\nY 0 0\nW 0 0 5\nR 0 0 5\nB 0 0 5\nZ 56\n");
+    // A wait without the lock; a notification of a thread that does not wait, and of one that is not declared; a return without a notification.
+    full(b"H 2 1 1\nG -\nY 0 0\nZ 18\n");
+    full(b"H 2 1 1\nG -\nK 0 0\nF 0 0 1\nZ 26\n");
+    full(b"H 2 1 1\nG -\nK 0 0\nF 0 0 2\nZ 26\n");
+    full(b"H 2 1 1\nG -\nK 0 0\nY 0 0\nC 0 0\nZ 30\n");
     // The most that a head of the short course declares.
     short(b"H 2 4 2\nG -\nZ 12\n");
     // Three threads are over its limits, whatever line 2 is; nine are in no head.

@@ -1,4 +1,4 @@
--- Marking does not see that a record holds thread and place at 255: an event that is declared is kept as it is, and another is refused with the
+-- Marking does not see that a record holds threads and place at 255: an event that is declared is kept as it is, and another is refused with the
 -- same number.
 use Prim.Native.Nat.{ℕ, zero, suc, _≤_, _<_}
 use native.Mathlib.Decide.{decLt}
@@ -12,13 +12,14 @@ use lib.ListN.{length}
 use borrow.Author.Tests.{le-ltb}
 use Rattle.rules.specs.declared.Event.{Event}
 use Rattle.rules.specs.declared.Counts.{Counts}
-use Rattle.rules.specs.Events.{K, N, place, is, among, onLock}
+use Rattle.rules.specs.Events.{C, F, K, N, Y, place, capped, subject, is, among, onLock}
 use Rattle.rules.specs.Limits.{Limits, full, lineAfter, allowed, declared}
 use Rattle.rules.specs.Rules.{Marked, refused, wordsOf, answer, verdict, unless, markRead, passing, pastRead}
-use Rattle.rules.proofs.Bounds.{allowed-bounds, declared-bounds}
-use Rattle.records.specs.Records.{capped, packed, valueIn, rowLines}
+use Rattle.rules.proofs.Bounds.{allowed-bounds, declared-bounds, subject-bound}
+use Rattle.rules.proofs.Letters.{capped-same, capped-over}
+use Rattle.records.specs.Records.{packed, valueIn, rowLines}
 use Rattle.records.proofs.RowLaws.{Numbered, lines-held}
-use Rattle.records.proofs.RecordLaws.{held-same, held-over, holds, heldEvent, held-event}
+use Rattle.records.proofs.RecordLaws.{holds, heldEvent, held-event}
 
 -- a line with its event held
 abbrev pub heldLine : Option Event → Option Event
@@ -30,22 +31,26 @@ held-below : (n c : ℕ) → c ≤ 255 → ltb (capped n) c ≡ ltb n c
 held-below n c h = go (decLt n 255)
   where
     go : Dec (n < 255) → ltb (capped n) c ≡ ltb n c
-    go (yes q) = ap (λ (i : ℕ). ltb i c) (held-same n q)
+    go (yes q) = ap (λ (i : ℕ). ltb i c) (capped-same n q)
     go (no q) =
         let z : 255 ≤ n = omega (arith, q) in
-        le-ltb (capped n) c (omega (arith, held-over n z)) ∙ sym (le-ltb n c (omega arith))
+        le-ltb (capped n) c (omega (arith, capped-over n z)) ∙ sym (le-ltb n c (omega arith))
 
 module _ (h : Counts) (a : allowed full h ≡ true) where
   on-held : (e : Event) → onLock (heldEvent e) ≡ onLock e
   unfolding onLock is heldEvent
-  on-held e = ap (among (K ∷ N ∷ [])) (holds (e .kind) .letters)
+  on-held e = ap (among (K ∷ N ∷ Y ∷ F ∷ C ∷ [])) (holds (e .kind) .letters)
 
   pub declared-held : (e : Event) → declared h (heldEvent e) ≡ declared h e
   unfolding declared heldEvent
   declared-held e =
-      ap₂ (λ (x y : Bool). x && y) (held-below (e .thread) (h .threads) (omega (arith, allowed-bounds h a)))
-      ((λ i. ltb (holds (e .kind) .places i) (cond (on-held e i) (h .locks) (h .variables))) ∙ held-below (place (e .kind)) (cond (onLock e) (h .locks) (h .variables)) (most (onLock e)))
+      ap₂ (λ (x y : Bool). x && y) (held-below (e .thread) (h .threads) threads)
+      (ap₂ (λ (x y : Bool). x && y) (ap (λ (s : ℕ). ltb s (h .threads)) (holds (e .kind) .subjects (e .thread)) ∙ held-below (subject e) (h .threads) threads)
+      ((λ i. ltb (holds (e .kind) .places i) (cond (on-held e i) (h .locks) (h .variables))) ∙ held-below (place (e .kind)) (cond (onLock e) (h .locks) (h .variables)) (most (onLock e))))
     where
+      threads : h .threads ≤ 255
+      threads = omega (arith, allowed-bounds h a)
+
       most : (o : Bool) → cond o (h .locks) (h .variables) ≤ 255
       most true = omega (arith, allowed-bounds h a)
       most false = omega (arith, allowed-bounds h a)
@@ -73,7 +78,9 @@ module _ (h : Counts) (a : allowed full h ≡ true) where
 
     -- an event that is declared is kept
     kept : (e : Event) → declared h e ≡ true → heldEvent e ≡ e
-    kept e d = let b = declared-bounds h e a d in held-event e (omega (arith, b)) (omega (arith, b))
+    kept e d =
+        let b = declared-bounds h e a d in
+        held-event e (omega (arith, b)) (omega (arith, subject-bound h e d, allowed-bounds h a)) (omega (arith, b))
 
     -- what is read line by line up to the first refusal does not see it
     module _ {X : Type 0} (read : List Event → List (Option Event) → X) (stop : ℕ → List Event → X)

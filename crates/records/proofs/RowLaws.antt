@@ -1,5 +1,5 @@
 -- Rows of records: their lines and events one by one, and the rows of a list of events give it back.
-use Prim.Native.Nat.{ℕ, zero, suc, _+_, _-_, _≤_, _<_}
+use Prim.Native.Nat.{ℕ, zero, suc, _+_, _≤_, _<_}
 use native.Mathlib.Decide.{ℕ-discrete}
 use native.Mathlib.Omega.{arith}
 use mathlib.Core.Path.{_≡_, refl, sym, ap, ap₂, _∙_, subst}
@@ -11,7 +11,7 @@ use lib.ListN.{length, getD, take, length-map}
 use lib.Seq.{take-at}
 use Rattle.rules.specs.declared.Event.{Event}
 use Rattle.rules.specs.declared.Counts.{Counts}
-use Rattle.rules.specs.Events.{place, isLetter}
+use Rattle.rules.specs.Events.{place, isLetter, subject}
 use Rattle.rules.specs.Limits.{lineAfter}
 use Rattle.rules.specs.Memories.{from}
 use Rattle.rules.proofs.From.{from-is}
@@ -25,14 +25,14 @@ abbrev pub Numbered : Counts → ℕ → List Event → Type 0
 Numbered h n [] = Unit {0}
 Numbered h n (e ∷ es) = (e .line ≡ lineAfter h n) × Numbered h (suc n) es
 
--- thread and place of each are below 255
+-- threads and place of each are below 255
 abbrev pub Small : List Event → Type 0
 Small [] = Unit {0}
-Small (e ∷ es) = (e .thread < 255) × (place (e .kind) < 255) × Small es
+Small (e ∷ es) = (e .thread < 255) × (subject e < 255) × (place (e .kind) < 255) × Small es
 
 pub held-all : (es : List Event) → Small es → map heldEvent es ≡ es
 held-all [] s = refl
-held-all (e ∷ es) s = ap₂ (λ (x : Event) (xs : List Event). x ∷ xs) (held-event e (s .0) (s .1)) (held-all es (s .2))
+held-all (e ∷ es) s = ap₂ (λ (x : Event) (xs : List Event). x ∷ xs) (held-event e (s .0) (s .1) (s .2)) (held-all es (s .3))
 
 module _ (h : Counts) where
   -- at each place the record of the event
@@ -51,7 +51,7 @@ module _ (h : Counts) where
     same-length : {X : Type 0} (r : Event → X) → length (map packed es) ≡ length (map r es)
     same-length r = length-map es packed ∙ sym (length-map es r)
 
-    -- the lines are the events, with thread and place held
+    -- the lines are the events, with threads and place held
     pub lines-held : rowLines h (map packed es) (map valueIn es) ≡ map some (map heldEvent es)
     unfolding rowLines recordAt
     lines-held =

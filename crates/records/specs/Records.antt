@@ -13,13 +13,9 @@ use Rattle.rules.specs.declared.Kind.{Kind}
 use Rattle.rules.specs.declared.Kind.the-variants.{Read}
 use Rattle.rules.specs.declared.Named.{Named}
 use Rattle.rules.specs.declared.Named.the-variants as named
-use Rattle.rules.specs.Events.{letter, place, value, kindOf, eventWith}
+use Rattle.rules.specs.Events.{letter, place, capped, value, kindOf, eventWith}
 use Rattle.rules.specs.Limits.{lineAfter}
 use Rattle.rules.specs.Memories.{from}
-
--- a number held at 255, which no head declares
-unfoldable pub capped : ℕ → ℕ
-capped n = cond (ltb n 255) n 255
 
 -- what an event is, from its letter, thread, and variable or lock
 unfoldable pub whatOf : ℕ → ℕ → ℕ → ℕ

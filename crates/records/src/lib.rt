@@ -1,23 +1,15 @@
 // Records: an event as two plain numbers. Their layout is in specs/Records.antt.
 ghost use mathlib.Core.Path.{_≡_};
-ghost use Prim.Native.Nat.{_<_};
-ghost use Rattle.records.specs.Records.{capped, whatOf, packed, letterIn, threadIn, placeIn, unpacked};
+ghost use Rattle.records.specs.Records.{whatOf, packed, letterIn, threadIn, placeIn, unpacked};
 use rules::Event;
 use rules::Named;
 use rules::Value;
-
-// A number held at 255.
-fn hold(n: usize) -> u32
-    ensures { λ r. ⌜ r ≡ capped n ⌝ }
-{
-    if n < 255 { n as u32 } else { 255 }
-}
 
 // What an event is, from its letter, thread, and variable or lock.
 pub fn what_of(letter: u8, thread: usize, place: usize) -> u32
     ensures { λ r. ⌜ r ≡ whatOf letter thread place ⌝ }
 {
-    letter as u32 * 65536 + hold(thread) * 256 + hold(place)
+    letter as u32 * 65536 + rules::cap(thread) * 256 + rules::cap(place)
 }
 
 // The record of an event; its value stands beside it.

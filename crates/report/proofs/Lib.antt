@@ -7,3 +7,4 @@ pub mod Same
 pub mod Narrow
 pub mod Plain
 pub mod Courses
+pub mod Ten

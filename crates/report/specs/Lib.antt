@@ -1,4 +1,5 @@
 pub mod Report
 pub mod Same
+pub mod Ten
 -- what is only computed
 pub mod Computed

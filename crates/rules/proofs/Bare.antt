@@ -5,9 +5,9 @@ use mathlib.Core.Bool.{cond}
 use mathlib.Core.List.{List, [], _∷_}
 use Rattle.rules.specs.declared.Event.{Event}
 use Rattle.rules.specs.declared.Counts.{Counts}
-use Rattle.rules.specs.Events.{is, onLock}
+use Rattle.rules.specs.Events.{is, locks, unlocks, onLock}
 use Rattle.rules.specs.Limits.{declared}
-use Rattle.rules.specs.Rules.{Words, noPartner, lockTaken, notHeld, pendingBars, notFresh, notStored, readBeforeWrite, notWritten, notUsable, differs, eightAlready, deadRead, wrongNeighbour, useBarred, writeBarred, volatileOrder, prescientVolatile, breaks, firstBroken, judge}
+use Rattle.rules.specs.Rules.{Words, noPartner, lockTaken, notHeld, pendingBars, notFresh, notStored, readBeforeWrite, notWritten, notUsable, differs, eightAlready, deadRead, wrongNeighbour, useBarred, writeBarred, volatileOrder, prescientVolatile, ofWaiting, notNotified, breaks, firstBroken, judge}
 
 -- the event in another line
 abbrev pub inLine : ℕ → Event → Event
@@ -15,7 +15,7 @@ inLine n e = record { thread = e .thread; line = n; kind = e .kind }
 
 module _ (h : Counts) (w : Words) (n : ℕ) (e : Event) where
   breaks-bare : (k : ℕ) → breaks k h w (inLine n e) ≡ breaks k h w e
-  unfolding breaks noPartner lockTaken notHeld pendingBars notFresh notStored readBeforeWrite notWritten notUsable differs eightAlready deadRead wrongNeighbour useBarred writeBarred volatileOrder prescientVolatile is
+  unfolding breaks noPartner lockTaken notHeld pendingBars notFresh notStored readBeforeWrite notWritten notUsable differs eightAlready deadRead wrongNeighbour useBarred writeBarred volatileOrder prescientVolatile ofWaiting notNotified locks unlocks is
   breaks-bare k = refl
 
   first-bare : (ks : List ℕ) → firstBroken ks h w (inLine n e) ≡ firstBroken ks h w e

@@ -9,7 +9,7 @@ use Rattle.rules.specs.declared.Event.{Event}
 use Rattle.rules.specs.declared.Counts.{Counts}
 use Rattle.rules.specs.declared.Course.{Course}
 use Rattle.rules.specs.declared.Course.the-variants.{Full, Short}
-use Rattle.rules.specs.Events.{place, onLock}
+use Rattle.rules.specs.Events.{place, subject, onLock}
 use Rattle.rules.specs.Limits.{Limits, UpToFull, full, limitsOf, anyVolatile, strayVolatile, firstLine, allowed, declared}
 
 false-true : false ≡ true → ⊥
@@ -64,13 +64,24 @@ up-to-full Short = record { threads = omega arith; variables = omega arith; lock
 -- thread, and variable or lock, of a declared event
 pub declared-bounds : (h : Counts) (e : Event) → allowed full h ≡ true → declared h e ≡ true → (e .thread < 8) × (place (e .kind) < 16)
 unfolding declared
-declared-bounds h e a d = by (ltb (e .thread) (h .threads)) refl (onLock e) d
+declared-bounds h e a d = by (ltb (e .thread) (h .threads)) refl (ltb (subject e) (h .threads)) (onLock e) d
   where
-    by : (p : Bool) → ltb (e .thread) (h .threads) ≡ p → (o : Bool) → p && ltb (place (e .kind)) (cond o (h .locks) (h .variables)) ≡ true
+    by : (p : Bool) → ltb (e .thread) (h .threads) ≡ p → (f o : Bool) → p && (f && ltb (place (e .kind)) (cond o (h .locks) (h .variables))) ≡ true
         → (e .thread < 8) × (place (e .kind) < 16)
-    by true r true d = (omega (arith, ltb-true (e .thread) (h .threads) r, allowed-bounds h a), omega (arith, ltb-true (place (e .kind)) (h .locks) d, allowed-bounds h a))
-    by true r false d = (omega (arith, ltb-true (e .thread) (h .threads) r, allowed-bounds h a), omega (arith, ltb-true (place (e .kind)) (h .variables) d, allowed-bounds h a))
-    by false r o d = absurd (false-true d)
+    by true r true true d = (omega (arith, ltb-true (e .thread) (h .threads) r, allowed-bounds h a), omega (arith, ltb-true (place (e .kind)) (h .locks) d, allowed-bounds h a))
+    by true r true false d = (omega (arith, ltb-true (e .thread) (h .threads) r, allowed-bounds h a), omega (arith, ltb-true (place (e .kind)) (h .variables) d, allowed-bounds h a))
+    by true r false o d = absurd (false-true d)
+    by false r f o d = absurd (false-true d)
+
+-- the thread whose waiting a declared event is about
+pub subject-bound : (h : Counts) (e : Event) → declared h e ≡ true → subject e < h .threads
+unfolding declared
+subject-bound h e d = ltb-true (subject e) (h .threads) (by (ltb (e .thread) (h .threads)) (ltb (subject e) (h .threads)) _ d)
+  where
+    by : (p q r : Bool) → p && (q && r) ≡ true → q ≡ true
+    by true true r d = refl
+    by true false r d = d
+    by false q r d = absurd (false-true d)
 
 -- events start behind the head and the guards
 pub first-line-low : (h : Counts) → 3 ≤ firstLine h

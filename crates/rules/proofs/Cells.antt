@@ -7,7 +7,7 @@ use lib.Dec.{T, eqb}
 use lib.IntN.{ℤ}
 use borrow.Author.Tests.{eqb-true, eq-eqb}
 use Rattle.rules.specs.declared.Kind.{Kind}
-use Rattle.rules.specs.declared.Kind.the-variants.{Use, Assign, Load, Store, Read, Write, Lock, Unlock, PrescientStore, PrescientAssign}
+use Rattle.rules.specs.declared.Kind.the-variants.{Use, Assign, Load, Store, Read, Write, Lock, Unlock, PrescientStore, PrescientAssign, Wait, Notify, Resume}
 use Rattle.rules.specs.declared.Event.{Event}
 use Rattle.rules.specs.declared.Slot.{Slot}
 use Rattle.rules.specs.Events.{place, is, of, on}
@@ -46,6 +46,9 @@ changed p (Read v x) c = record { reads = c .reads ++ (slotAt p x ∷ []); store
 changed p (Write v x) c = record { reads = c .reads; stores = others (c .stores); fresh = c .fresh; pending = c .pending; announced = c .announced; lastWrite = p; lastAssign = c .lastAssign }
 changed p (Lock l) c = c
 changed p (Unlock l) c = c
+changed p (Wait l) c = c
+changed p (Notify l i) c = c
+changed p (Resume l) c = c
 changed p (PrescientStore v x) c = record { reads = c .reads; stores = c .stores ++ (slotAt p x ∷ []); fresh = c .fresh; pending = true; announced = x; lastWrite = c .lastWrite; lastAssign = c .lastAssign }
 changed p (PrescientAssign v x) c = record { reads = c .reads; stores = c .stores; fresh = false; pending = false; announced = c .announced; lastWrite = c .lastWrite; lastAssign = c .lastAssign }
 
@@ -61,6 +64,9 @@ cell-next w t n (Read v x) u m = cases (eqb t u && eqb v m) (λ q. rw q) (λ q. 
 cell-next w t n (Write v x) u m = cases (eqb t u && eqb v m) (λ q. rw q) (λ q. rw q)
 cell-next w t n (Lock l) u m = cases (eqb t u && eqb l m) (λ q. rw q) (λ q. rw q)
 cell-next w t n (Unlock l) u m = cases (eqb t u && eqb l m) (λ q. rw q) (λ q. rw q)
+cell-next w t n (Wait l) u m = cases (eqb t u && eqb l m) (λ q. rw q) (λ q. rw q)
+cell-next w t n (Notify l i) u m = cases (eqb t u && eqb l m) (λ q. rw q) (λ q. rw q)
+cell-next w t n (Resume l) u m = cases (eqb t u && eqb l m) (λ q. rw q) (λ q. rw q)
 cell-next w t n (PrescientStore v x) u m = cases (eqb t u && eqb v m) (λ q. rw q) (λ q. rw q)
 cell-next w t n (PrescientAssign v x) u m = cases (eqb t u && eqb v m) (λ q. rw q) (λ q. rw q)
 

@@ -3,21 +3,19 @@ use Prim.Native.Nat.{ℕ, zero, suc, _+_, _≤_, _<_}
 use native.Mathlib.Omega.{arith}
 use borrow.Author.Tests.{leb-true, leb-false, le-leb, lt-leb}
 use mathlib.Core.Path.{_≡_, refl, ap, _∙_}
-use mathlib.Core.Bool.{Bool, true, false, cond}
+use mathlib.Core.Bool.{Bool, true, false, not, cond}
 use mathlib.Core.List.{List, [], _∷_, _++_, map, reverse, reverseAux}
 use mathlib.Core.Logic.{_⊎_, inl, inr}
 use mathlib.Core.Option.{Option, none, some}
 use lib.Dec.{T, leb}
 use lib.ListN.{length, length-reverse}
 use Rattle.rules.specs.declared.Event.{Event}
-use Rattle.rules.specs.declared.Kind.{Kind}
-use Rattle.rules.specs.declared.Kind.the-variants.{Use, Assign, Load, Store, Read, Write, Lock, Unlock, PrescientStore, PrescientAssign}
 use Rattle.rules.specs.declared.Counts.{Counts}
 use Rattle.rules.specs.Events.{letter, among}
 use Rattle.rules.specs.Limits.{Limits, lineAfter}
 use Rattle.rules.specs.Rules.{Words, rows, rowIn, judge, wordsOf, answer, verdict, Accepted, accepted, refused, unless, markFrom, mark, markRead, pastRead}
 use Rattle.rules.specs.Reading.{readFrom}
-use Rattle.rules.proofs.Laws.{named-among, few, accepted-cons, accepted-legal, legal-accepted}
+use Rattle.rules.proofs.Laws.{named-among, at-letter, few, accepted-cons, accepted-legal, legal-accepted}
 use Rattle.rules.proofs.Marking.{mark-accepts, accepts-mark}
 use Rattle.rules.proofs.Readings.{excess-refused, read-over}
 
@@ -125,16 +123,8 @@ module _ (m n : Limits) (h : Counts) (earlier : List Event) (x : 0 < n .excess) 
 
 pub no-row : (h : Counts) (w : Words) (e : Event) → judge h w e ≡ 25 → ⊥
 unfolding judge rowIn rows
-no-row h w e q = by (e .kind) (named-among (rowIn rows (letter (e .kind))) h w e 24 q)
+no-row h w e q = against (among (rowIn rows (letter (e .kind))) 25) (at-letter (λ k. not (among (rowIn rows k) 25)) (tt, tt, tt, tt, tt, tt, tt, tt, tt, tt, tt, tt, tt) (e .kind)) (named-among (rowIn rows (letter (e .kind))) h w e 24 q)
   where
-    by : (k : Kind) → T (among (rowIn rows (letter k)) 25) → ⊥
-    by (Use v x) i = i
-    by (Assign v x) i = i
-    by (Load v x) i = i
-    by (Store v x) i = i
-    by (Read v x) i = i
-    by (Write v x) i = i
-    by (Lock l) i = i
-    by (Unlock l) i = i
-    by (PrescientStore v x) i = i
-    by (PrescientAssign v x) i = i
+    against : (b : Bool) → T (not b) → T b → ⊥
+    against true n i = n
+    against false n i = i

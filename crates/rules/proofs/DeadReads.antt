@@ -10,18 +10,18 @@ use lib.IntN.{ℤ}
 use lib.ListN.{length}
 use borrow.Author.Tests.{not-true, lt-ltb, eqb-true, eqb-false}
 use Rattle.rules.specs.declared.Kind.{Kind}
-use Rattle.rules.specs.declared.Kind.the-variants.{Use, Assign, Load, Store, Read, Write, Lock, Unlock, PrescientStore, PrescientAssign}
+use Rattle.rules.specs.declared.Kind.the-variants.{Use, Assign, Load, Store, Read, Write, Lock, Unlock, PrescientStore, PrescientAssign, Wait, Notify, Resume}
 use Rattle.rules.specs.declared.Event.{Event}
 use Rattle.rules.specs.declared.Slot.{Slot}
 use Rattle.rules.specs.declared.Counts.{Counts}
-use Rattle.rules.specs.Events.{L, letter, place, is, of, on}
+use Rattle.rules.specs.Events.{L, W, letter, place, is}
 use Rattle.rules.specs.Limits.{volatile, declared}
 use Rattle.rules.specs.Words.{first, count, by, reads}
-use Rattle.rules.specs.Rules.{Words, wordsOf, none?, loc, deadRead, breaks, rows, rowIn, firstBroken, judge, legalBy, legal}
+use Rattle.rules.specs.Rules.{Words, wordsOf, none?, loc, waits, deadRead, breaks, rows, rowIn, firstBroken, judge, legalBy, legal}
 use Rattle.rules.specs.DeadReads.{except, judgeBut, Dead}
-use Rattle.rules.proofs.Laws.{cases, Unbroken, unbroken, broken-is, accepts, is-true, and-left, and-right, legal-cons, legal-by-cons, legal-by-known, legal-by-row, legal-by-before, legal-by-less}
+use Rattle.rules.proofs.Laws.{cases, Unbroken, unbroken, broken-is, accepts, is-true, and-left, and-right, is-among, at-letter, load-partner, write-partner, legal-cons, legal-by-cons, legal-by-known, legal-by-row, legal-by-before, legal-by-less}
 use Rattle.rules.proofs.Next.{next}
-use Rattle.rules.proofs.Simulation.{Paired, Partnered, partnered, paired-next, paired-none, words-next, legal-next}
+use Rattle.rules.proofs.Simulation.{by-is, by-thread, by-loc, Paired, Partnered, paired-next, paired-none, words-next, legal-next}
 use Rattle.rules.proofs.Cells.{eventBy, Cell, cellOf, slotAt, changed, cell-own, cell-cases, events-next}
 use Rattle.rules.proofs.Rows.{Kept, row-of}
 use Rattle.rules.proofs.Live.{Placed, Live, live, append-some}
@@ -88,6 +88,9 @@ barred-change h w t n (Read v x) p d = record { waits = append-some (cellOf w t 
 barred-change h w t n (Write v x) p d = record { waits = d .waits; early = omega (arith, d .early); why = byWrite (omega (arith, d .early)) }
 barred-change h w t n (Lock l) p d = barred-later (cellOf w t l) (w .events) d
 barred-change h w t n (Unlock l) p d = barred-later (cellOf w t l) (w .events) d
+barred-change h w t n (Wait l) p d = barred-later (cellOf w t l) (w .events) d
+barred-change h w t n (Notify l i) p d = barred-later (cellOf w t l) (w .events) d
+barred-change h w t n (Resume l) p d = barred-later (cellOf w t l) (w .events) d
 barred-change h w t n (PrescientStore v x) p d = record { waits = d .waits; early = omega (arith, d .early); why = byStore (append-some (cellOf w t v .stores) (slotAt (suc (w .events)) x)) }
 barred-change h w t n (PrescientAssign v x) p d = record { waits = d .waits; early = omega (arith, d .early); why = go (d .why) }
   where
@@ -106,45 +109,41 @@ barred-next h w t n k p u m d =
     (λ a b. barred-change h w t n k p (rw (a, b) d))
     (λ q. barred-later (cellOf w u m) (w .events) d)
 
+-- the rows of L and W are without 23
+whole-row : (h : Counts) (w : Words) (t n : ℕ) (k : Kind) → T (is (L ∷ W ∷ []) (eventBy t n k)) → judgeBut 23 h w (eventBy t n k) ≡ 0 → judge h w (eventBy t n k) ≡ 0
+unfolding is judge judgeBut except rowIn rows
+whole-row h w t n (Load v x) o p = p
+whole-row h w t n (Write v x) o p = p
+
 -- and the event is no load of it
 barred-no-load : (h : Counts) (w : Words) (t n : ℕ) (k : Kind) → judgeBut 23 h w (eventBy t n k) ≡ 0 → (u m : ℕ) → Barred (cellOf w u m) (w .events)
     → by (L ∷ []) u m (eventBy t n k) ≡ false
-unfolding by is of on judge judgeBut except rowIn rows
-barred-no-load h w t n (Use v x) p u m d = refl
-barred-no-load h w t n (Assign v x) p u m d = refl
-barred-no-load h w t n (Load v x) p u m d = cases (eqb t u && eqb v m)
-    (λ q. absurd (barred-load h w t n v x p (rw (same .0 q, same .1 q) d)))
-    (λ q. q)
+unfolding is
+barred-no-load h w t n k p u m d = cases (by (L ∷ []) u m e) (λ q. absurd (loads (subst T (sym q) tt))) (λ q. q)
   where
-    same : ((eqb t u && eqb v m) ≡ true → t ≡ u) × ((eqb t u && eqb v m) ≡ true → v ≡ m)
-    same = (λ q. eqb-true t u (is-true (and-left (eqb t u) (eqb v m) (subst T (sym q) tt))), λ q. eqb-true v m (is-true (and-right (eqb t u) (eqb v m) (subst T (sym q) tt))))
-barred-no-load h w t n (Store v x) p u m d = refl
-barred-no-load h w t n (Read v x) p u m d = refl
-barred-no-load h w t n (Write v x) p u m d = refl
-barred-no-load h w t n (Lock l) p u m d = refl
-barred-no-load h w t n (Unlock l) p u m d = refl
-barred-no-load h w t n (PrescientStore v x) p u m d = refl
-barred-no-load h w t n (PrescientAssign v x) p u m d = refl
+    e : Event
+    e = eventBy t n k
+
+    loaded : (k : Kind) → T (is (L ∷ []) (eventBy t n k)) → judge h w (eventBy t n k) ≡ 0 → Barred (cellOf w t (place k)) (w .events) → ⊥
+    loaded (Load v x) o p d = barred-load h w t n v x p d
+
+    loads : T (by (L ∷ []) u m e) → ⊥
+    loads b =
+        let o = by-is (L ∷ []) u m e b in
+        loaded k o (whole-row h w t n k (is-among (L ∷ []) (L ∷ W ∷ []) e tt o) p) (rw (by-thread (L ∷ []) u m e b, by-loc (L ∷ []) u m e b) d)
 
 -- ---- lists that are legal but for 23
 
 -- rule 10 is left in
-partnered-but : (h : Counts) (w : Words) (t n : ℕ) (k : Kind) → judgeBut 23 h w (eventBy t n k) ≡ 0 → Partnered w (eventBy t n k)
-unfolding is judge judgeBut except rowIn rows
-partnered-but h w t n (Use v x) p = partnered h w (eventBy t n (Use v x)) p
-partnered-but h w t n (Assign v x) p = record { loads = λ o. absurd o; writes = λ o. absurd o }
-partnered-but h w t n (Load v x) p = partnered h w (eventBy t n (Load v x)) p
-partnered-but h w t n (Store v x) p = partnered h w (eventBy t n (Store v x)) p
-partnered-but h w t n (Read v x) p = record { loads = λ o. absurd o; writes = λ o. absurd o }
-partnered-but h w t n (Write v x) p = partnered h w (eventBy t n (Write v x)) p
-partnered-but h w t n (Lock l) p = partnered h w (eventBy t n (Lock l)) p
-partnered-but h w t n (Unlock l) p = partnered h w (eventBy t n (Unlock l)) p
-partnered-but h w t n (PrescientStore v x) p = record { loads = λ o. absurd o; writes = λ o. absurd o }
-partnered-but h w t n (PrescientAssign v x) p = partnered h w (eventBy t n (PrescientAssign v x)) p
+partnered-but : (h : Counts) (w : Words) (e : Event) → judgeBut 23 h w e ≡ 0 → Partnered w e
+partnered-but h w e p = record { loads = λ o. load-partner h w e (whole (is-among (L ∷ []) (L ∷ W ∷ []) e tt o)) o; writes = λ o. write-partner h w e (whole (is-among (W ∷ []) (L ∷ W ∷ []) e tt o)) o }
+  where
+    whole : T (is (L ∷ W ∷ []) e) → judge h w e ≡ 0
+    whole o = whole-row h w (e .thread) (e .line) (e .kind) o p
 
 paired-but : (h : Counts) (es : List Event) → T (legalBy (judgeBut 23) h es) → Paired es
 paired-but h [] l = paired-none
-paired-but h (e ∷ es) l = paired-next e es (partnered-but h (wordsOf es) (e .thread) (e .line) (e .kind) (legal-by-row (judgeBut 23) h e es l)) (paired-but h es (legal-by-before (judgeBut 23) h e es l))
+paired-but h (e ∷ es) l = paired-next e es (partnered-but h (wordsOf es) e (legal-by-row (judgeBut 23) h e es l)) (paired-but h es (legal-by-before (judgeBut 23) h e es l))
 
 -- none of these rules is broken, so none of them without n is
 unbroken-except : (n : ℕ) (ns : List ℕ) (h : Counts) (w : Words) (e : Event) → Unbroken ns h w e → Unbroken (except n ns) h w e
@@ -210,10 +209,9 @@ first-new a b x [] p = omega arith
 first-new a b x (s ∷ ss) p = omega (arith, p .1)
 
 -- the event that 23 names leaves such a read
-barred-start : (w : Words) (t n : ℕ) (k : Kind) → deadRead w (eventBy t n k) ≡ true → Live (cellOf w t (place k)) (w .events)
+barred-start : (w : Words) (t n : ℕ) (k : Kind) → T (deadRead w (eventBy t n k)) → Live (cellOf w t (place k)) (w .events)
     → Barred (changed (suc (w .events)) k (cellOf w t (place k))) (suc (w .events))
 unfolding deadRead is cellOf
-barred-start w t n (Use v x) p l = absurd (false≢true p)
 barred-start w t n (Assign v x) p l = record {
   waits = not-true (none? (w .reads t v)) (is-true (and-right (not (w .pending t v)) (not (none? (w .reads t v))) both));
   early = first-below (w .lastWrite t v) (w .events) (w .reads t v) (l .placed);
@@ -221,13 +219,11 @@ barred-start w t n (Assign v x) p l = record {
 }
   where
     both : T (not (w .pending t v) && not (none? (w .reads t v)))
-    both = subst T (sym (simp or-false at p)) tt
-barred-start w t n (Load v x) p l = absurd (false≢true p)
-barred-start w t n (Store v x) p l = absurd (false≢true p)
+    both = simp or-false at p
 barred-start w t n (Read v x) p l = record {
   waits = append-some (w .reads t v) (slotAt (suc (w .events)) x);
   early = first-new (w .lastWrite t v) (w .events) x (w .reads t v) (l .placed);
-  why = go (none? (w .stores t v)) (w .fresh t v) (w .pending t v) refl refl refl (simp or-false at p);
+  why = go (none? (w .stores t v)) (w .fresh t v) (w .pending t v) refl refl refl (is-true (simp or-false at p));
 }
   where
     go : (s f o : Bool) → none? (w .stores t v) ≡ s → w .fresh t v ≡ f → w .pending t v ≡ o → (not s || f && not o) ≡ true
@@ -236,15 +232,11 @@ barred-start w t n (Read v x) p l = record {
     go true true false a b c q = byAssign b c
     go true true true a b c q = absurd (false≢true q)
     go true false o a b c q = absurd (false≢true q)
-barred-start w t n (Write v x) p l = absurd (false≢true p)
-barred-start w t n (Lock m) p l = absurd (false≢true p)
-barred-start w t n (Unlock m) p l = absurd (false≢true p)
 barred-start w t n (PrescientStore v x) p l = record {
-  waits = not-true (none? (w .reads t v)) p;
+  waits = not-true (none? (w .reads t v)) (is-true p);
   early = first-below (w .lastWrite t v) (w .events) (w .reads t v) (l .placed);
   why = byStore (append-some (w .stores t v) (slotAt (suc (w .events)) x));
 }
-barred-start w t n (PrescientAssign v x) p l = absurd (false≢true p)
 
 judge-dead : (h : Counts) (w : Words) (e : Event) → judge h w e ≡ 23 → deadRead w e ≡ true
 unfolding judge breaks
@@ -278,16 +270,7 @@ last-named n (k ∷ ns) h w e o p = go (eqb k n) (breaks k h w e) refl refl o p 
 
 dead-last : (k : Kind) → T (lastOnly 23 (rowIn rows (letter k)))
 unfolding rowIn rows
-dead-last (Use v x) = tt
-dead-last (Assign v x) = tt
-dead-last (Load v x) = tt
-dead-last (Store v x) = tt
-dead-last (Read v x) = tt
-dead-last (Write v x) = tt
-dead-last (Lock l) = tt
-dead-last (Unlock l) = tt
-dead-last (PrescientStore v x) = tt
-dead-last (PrescientAssign v x) = tt
+dead-last = at-letter (λ n. lastOnly 23 (rowIn rows n)) (tt, tt, tt, tt, tt, tt, tt, tt, tt, tt, tt, tt, tt)
 
 refused-last : (h : Counts) (w : Words) (e : Event) → judge h w e ≡ 23 → judgeBut 23 h w e ≡ 0
 unfolding judge judgeBut
@@ -308,22 +291,24 @@ refused-dead h es e l k p = record {
     barred = subst (λ w. Barred (cellOf w (e .thread) (loc e)) (w .events)) (sym (legal-next h e es l))
         (subst (λ n. Barred (cellOf (next (wordsOf es) e) (e .thread) (loc e)) n) (sym (events-next (wordsOf es) e))
         (subst (λ c. Barred c (suc (wordsOf es .events))) (sym (cell-own (wordsOf es) (e .thread) (e .line) (e .kind)))
-        (barred-start (wordsOf es) (e .thread) (e .line) (e .kind) (judge-dead h (wordsOf es) e p) (live h es l (e .thread) (loc e)))))
+        (barred-start (wordsOf es) (e .thread) (e .line) (e .kind) (subst T (sym (judge-dead h (wordsOf es) e p)) tt) (live h es l (e .thread) (loc e)))))
 
     length-some : (ss : List Slot) → none? ss ≡ false → 0 < length ss
     length-some [] q = absurd (false≢true (sym q))
     length-some (s ∷ ss) q = omega arith
 
--- An event that leaves a read dead, of whichever thread and variable that is not volatile, is refused with 23.
-pub dead-refused : (h : Counts) (es : List Event) (e : Event) → T (legal h es) → (t v : ℕ) → volatile h v ≡ false → Dead h t v (e ∷ es) → judge h (wordsOf es) e ≡ 23
-dead-refused h es e l t v c d = go (judge-only 23 h (wordsOf es) e (legal-by-row (judgeBut 23) h e es (d .goes)))
+-- An event that leaves a read dead, of whichever variable that is not volatile and thread that does not wait after it, is refused with 23.
+pub dead-refused : (h : Counts) (es : List Event) (e : Event) → T (legal h es) → (t v : ℕ) → volatile h v ≡ false → waits h (wordsOf (e ∷ es)) t ≡ false → Dead h t v (e ∷ es)
+    → judge h (wordsOf es) e ≡ 23
+dead-refused h es e l t v c z d = go (judge-only 23 h (wordsOf es) e (legal-by-row (judgeBut 23) h e es (d .goes)))
   where
     go : (judge h (wordsOf es) e ≡ 0) ⊎ (judge h (wordsOf es) e ≡ 23) → judge h (wordsOf es) e ≡ 23
     go (inl q) =
-        let m = all-loadable h (e ∷ es) (legal-cons h e es (legal-by-known (judgeBut 23) h e es (d .goes)) q l) t v c in
+        let m = all-loadable h (e ∷ es) (legal-cons h e es (legal-by-known (judgeBut 23) h e es (d .goes)) q l) t v c z in
         absurd (omega (arith, d .waits, d .never (m .more) (legal-but 23 h (m .more ++ (e ∷ es)) (m .goes)), m .loads))
     go (inr q) = q
 
--- On a variable that is not volatile 23 is said exactly of an event that leaves T a read of V which can never be loaded.
-pub dead-exact : (h : Counts) (es : List Event) (e : Event) → T (legal h es) → declared h e ≡ true → volatile h (loc e) ≡ false → judge h (wordsOf es) e ≡ 23 ↔ Dead h (e .thread) (loc e) (e ∷ es)
-dead-exact h es e l d c = (refused-dead h es e l d, dead-refused h es e l (e .thread) (loc e) c)
+-- On a variable that is not volatile, of a thread that does not wait after it, 23 is said exactly of an event that leaves T a read of V which can never be loaded.
+pub dead-exact : (h : Counts) (es : List Event) (e : Event) → T (legal h es) → declared h e ≡ true → volatile h (loc e) ≡ false → waits h (wordsOf (e ∷ es)) (e .thread) ≡ false
+    → judge h (wordsOf es) e ≡ 23 ↔ Dead h (e .thread) (loc e) (e ∷ es)
+dead-exact h es e l d c z = (refused-dead h es e l d, dead-refused h es e l (e .thread) (loc e) c z)

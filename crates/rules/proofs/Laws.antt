@@ -3,7 +3,7 @@ use Prim.Native.Nat.{ℕ, zero, suc, _+_, _≤_, _<_}
 use native.Mathlib.Omega.{arith}
 use native.Mathlib.Numerals.{add-one}
 use native.Mathlib.Nat.{suc-ne-zero, not-suc-le-zero}
-use borrow.Author.Tests.{eqb-true, eqb-false, eq-eqb, leb-false, lt-leb}
+use borrow.Author.Tests.{eqb-true, eqb-false, eq-eqb, leb-false, lt-leb, not-true, not-false}
 use mathlib.Core.Path.{_≡_, refl, sym, ap, ap₂, _∙_, subst}
 use mathlib.Core.Bool.{Bool, true, false, not, cond, _&&_, _||_, or-false}
 use mathlib.Core.List.{List, [], _∷_}
@@ -11,11 +11,11 @@ use lib.Dec.{T, eqb, leb, eqb→eq}
 use lib.ListN.{length}
 use Rattle.rules.specs.declared.Event.{Event}
 use Rattle.rules.specs.declared.Kind.{Kind}
-use Rattle.rules.specs.declared.Kind.the-variants.{Use, Assign, Load, Store, Read, Write, Lock, Unlock, PrescientStore, PrescientAssign}
-use Rattle.rules.specs.Events.{A, B, K, L, N, P, R, S, U, W, letter, among, is}
+use Rattle.rules.specs.declared.Kind.the-variants.{Use, Assign, Load, Store, Read, Write, Lock, Unlock, PrescientStore, PrescientAssign, Wait, Notify, Resume}
+use Rattle.rules.specs.Events.{A, B, C, F, K, L, N, P, R, S, U, W, Y, letter, among, is, subject, subjectOf, locks}
 use Rattle.rules.specs.declared.Counts.{Counts}
 use Rattle.rules.specs.Limits.{Limits, most, declared}
-use Rattle.rules.specs.Rules.{Words, wordsOf, none?, loc, held, some, noPartner, lockTaken, notHeld, notFresh, eightAlready, wrongNeighbour, volatileOrder, prescientVolatile, breaks, rows, rowIn, firstBroken, judge, answer, verdict, Accepted, legalBy, legal}
+use Rattle.rules.specs.Rules.{Words, wordsOf, none?, loc, held, some, waitsOn, waits, noPartner, lockTaken, notHeld, notFresh, eightAlready, wrongNeighbour, volatileOrder, prescientVolatile, ofWaiting, notNotified, breaks, rows, rowIn, firstBroken, judge, answer, verdict, Accepted, legalBy, legal}
 
 -- ---- Booleans
 
@@ -169,6 +169,11 @@ pub is-among : (ks js : List ℕ) (e : Event) → T (allOf (among js) ks) → T 
 unfolding is
 is-among ks js e m h = each-among (among js) ks (letter (e .kind)) m h
 
+-- and none of js, where none of ks is among js
+pub is-apart : (ks js : List ℕ) (e : Event) → T (allOf (λ n. not (among js n)) ks) → T (is ks e) → is js e ≡ false
+unfolding is
+is-apart ks js e m h = not-true (among js (letter (e .kind))) (is-true (each-among (λ n. not (among js n)) ks (letter (e .kind)) m h))
+
 -- rule n stands in the row of letter k
 abbrev pub inRow : ℕ → ℕ → Bool
 inRow n k = among (rowIn rows k) n
@@ -178,8 +183,8 @@ pub letter-kept : (n : ℕ) (ks : List ℕ) (c : Counts) (w : Words) (e : Event)
 unfolding is
 letter-kept n ks c w e p r h = row-kept n c w e p (each-among (inRow n) ks (letter (e .kind)) r h)
 
--- what holds of each of the ten letters holds of a kind's letter
-pub at-letter : (f : ℕ → Bool) → T (f U) × T (f A) × T (f L) × T (f S) × T (f R) × T (f W) × T (f K) × T (f N) × T (f P) × T (f B) → (k : Kind) → T (f (letter k))
+-- what holds of each of the thirteen letters holds of a kind's letter
+pub at-letter : (f : ℕ → Bool) → T (f U) × T (f A) × T (f L) × T (f S) × T (f R) × T (f W) × T (f K) × T (f N) × T (f P) × T (f B) × T (f Y) × T (f F) × T (f C) → (k : Kind) → T (f (letter k))
 at-letter f h (Use v x) = h .0
 at-letter f h (Assign v x) = h .1
 at-letter f h (Load v x) = h .2
@@ -190,19 +195,22 @@ at-letter f h (Lock l) = h .6
 at-letter f h (Unlock l) = h .7
 at-letter f h (PrescientStore v x) = h .8
 at-letter f h (PrescientAssign v x) = h .9
+at-letter f h (Wait l) = h .10
+at-letter f h (Notify l u) = h .11
+at-letter f h (Resume l) = h .12
 
 -- an accepted event keeps the volatile rules, which lead each row
 pub neighbour-kept : (c : Counts) (w : Words) (e : Event) → judge c w e ≡ 0 → wrongNeighbour c w e ≡ false
 unfolding breaks rowIn rows
-neighbour-kept c w e p = row-kept 26 c w e p (at-letter (λ k. among (rowIn rows k) 26) (tt, tt, tt, tt, tt, tt, tt, tt, tt, tt) (e .kind))
+neighbour-kept c w e p = row-kept 26 c w e p (at-letter (λ k. among (rowIn rows k) 26) (tt, tt, tt, tt, tt, tt, tt, tt, tt, tt, tt, tt, tt) (e .kind))
 
 pub order-kept : (c : Counts) (w : Words) (e : Event) → judge c w e ≡ 0 → volatileOrder c w e ≡ false
 unfolding breaks rowIn rows
-order-kept c w e p = row-kept 27 c w e p (at-letter (λ k. among (rowIn rows k) 27) (tt, tt, tt, tt, tt, tt, tt, tt, tt, tt) (e .kind))
+order-kept c w e p = row-kept 27 c w e p (at-letter (λ k. among (rowIn rows k) 27) (tt, tt, tt, tt, tt, tt, tt, tt, tt, tt, tt, tt, tt) (e .kind))
 
 pub prescient-kept : (c : Counts) (w : Words) (e : Event) → judge c w e ≡ 0 → prescientVolatile c e ≡ false
 unfolding breaks rowIn rows
-prescient-kept c w e p = row-kept 28 c w e p (at-letter (λ k. among (rowIn rows k) 28) (tt, tt, tt, tt, tt, tt, tt, tt, tt, tt) (e .kind))
+prescient-kept c w e p = row-kept 28 c w e p (at-letter (λ k. among (rowIn rows k) 28) (tt, tt, tt, tt, tt, tt, tt, tt, tt, tt, tt, tt, tt) (e .kind))
 
 -- an accepted load has an outstanding read
 pub load-partner : (c : Counts) (w : Words) (e : Event) → judge c w e ≡ 0 → T (is (L ∷ []) e) → none? (w .reads (e .thread) (loc e)) ≡ false
@@ -214,15 +222,15 @@ pub write-partner : (c : Counts) (w : Words) (e : Event) → judge c w e ≡ 0 �
 unfolding breaks noPartner is rowIn rows
 write-partner c w e p h = simp (← (letter-is W e h), or-false) at (letter-kept 10 (W ∷ []) c w e p tt h)
 
--- an accepted unlock is of a lock that is held
-pub unlock-held : (c : Counts) (w : Words) (e : Event) → judge c w e ≡ 0 → T (is (N ∷ []) e) → not (held w (e .thread) (loc e)) ≡ false
-unfolding breaks notHeld is rowIn rows
-unlock-held c w e p h = simp (← (letter-is N e h), or-false) at (letter-kept 12 (N ∷ []) c w e p tt h)
+-- an accepted N, Y or F is of a lock that is held
+pub unlock-held : (c : Counts) (w : Words) (e : Event) → judge c w e ≡ 0 → T (is (N ∷ Y ∷ F ∷ []) e) → held w (e .thread) (loc e) ≡ true
+unfolding breaks notHeld rowIn rows
+unlock-held c w e p h = not-false _ (other-false (is (N ∷ Y ∷ F ∷ []) e) (not (held w (e .thread) (loc e))) (letter-kept 12 (N ∷ Y ∷ F ∷ []) c w e p tt h) h)
 
--- a lock that an accepted lock event takes is held by no other thread
-pub lock-free : (c : Counts) (w : Words) (e : Event) → judge c w e ≡ 0 → T (is (K ∷ []) e) → some (c .threads) (λ t. not (eqb t (e .thread)) && held w t (loc e)) ≡ false
-unfolding breaks lockTaken is rowIn rows
-lock-free c w e p h = simp (← (letter-is K e h), or-false) at (letter-kept 11 (K ∷ []) c w e p tt h)
+-- a lock that an accepted K or C takes is held by no other thread
+pub lock-free : (c : Counts) (w : Words) (e : Event) → judge c w e ≡ 0 → T (locks e) → some (c .threads) (λ t. not (eqb t (e .thread)) && held w t (loc e)) ≡ false
+unfolding breaks lockTaken locks rowIn rows
+lock-free c w e p h = other-false (is (K ∷ C ∷ []) e) _ (letter-kept 11 (K ∷ C ∷ []) c w e p tt h) h
 
 -- an accepted read or store has room
 pub read-room : (c : Counts) (w : Words) (e : Event) → judge c w e ≡ 0 → T (is (R ∷ []) e) → leb most (length (w .reads (e .thread) (loc e))) ≡ false
@@ -241,6 +249,24 @@ prescient-room c w e p h = simp (← (letter-is P e h), or-false) at (letter-kep
 pub store-fresh : (c : Counts) (w : Words) (e : Event) → judge c w e ≡ 0 → T (is (S ∷ []) e) → not (w .fresh (e .thread) (loc e)) ≡ false
 unfolding breaks notFresh is rowIn rows
 store-fresh c w e p h = simp (← (letter-is S e h), or-false) at (letter-kept 14 (S ∷ []) c w e p tt h)
+
+-- an accepted event other than C, R and W is of a thread that does not wait
+abbrev pub barred : List ℕ
+barred = U ∷ A ∷ L ∷ S ∷ K ∷ N ∷ P ∷ B ∷ Y ∷ F ∷ []
+
+pub not-waiting : (c : Counts) (w : Words) (e : Event) → judge c w e ≡ 0 → T (is barred e) → waits c w (e .thread) ≡ false
+unfolding breaks ofWaiting is rowIn rows
+not-waiting c w e p h = other-false (not (is (C ∷ R ∷ W ∷ []) e)) _ (letter-kept 29 barred c w e p tt h) (each-among (λ k. not (among (C ∷ R ∷ W ∷ []) k)) barred (letter (e .kind)) tt h)
+
+-- an accepted C is of a thread that waits on the lock, and is notified on it
+pub resume-waits : (c : Counts) (w : Words) (e : Event) → judge c w e ≡ 0 → T (is (C ∷ []) e) → (waitsOn w (e .thread) (loc e) && w .notified (e .thread) (loc e)) ≡ true
+unfolding breaks notNotified subjectOf is rowIn rows
+resume-waits c w e p h = not-false _ (simp (← (letter-is C e h)) at (letter-kept 30 (C ∷ []) c w e p tt h))
+
+-- an accepted F is for a thread that waits on the lock, and is not notified on it
+pub notify-waits : (c : Counts) (w : Words) (e : Event) → judge c w e ≡ 0 → T (is (F ∷ []) e) → (not (waitsOn w (subject e) (loc e)) || w .notified (subject e) (loc e)) ≡ false
+unfolding breaks notNotified is rowIn rows
+notify-waits c w e p h = other-false (is (F ∷ []) e) _ (or-false-left (is (F ∷ []) e && (not (waitsOn w (subject e) (loc e)) || w .notified (subject e) (loc e))) _ (letter-kept 30 (F ∷ []) c w e p tt h)) h
 
 -- ---- an accepted list
 

@@ -21,5 +21,7 @@ pub mod Volatile
 pub mod VolatileOrder
 pub mod VolatileExact
 pub mod Plain
+pub mod Fewer
 pub mod Widths
+pub mod Ten
 pub mod Courses

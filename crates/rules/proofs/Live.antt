@@ -7,7 +7,7 @@ use mathlib.Core.List.{List, [], _∷_, _++_}
 use lib.Dec.{T}
 use lib.IntN.{ℤ}
 use Rattle.rules.specs.declared.Kind.{Kind}
-use Rattle.rules.specs.declared.Kind.the-variants.{Use, Assign, Load, Store, Read, Write, Lock, Unlock, PrescientStore, PrescientAssign}
+use Rattle.rules.specs.declared.Kind.the-variants.{Use, Assign, Load, Store, Read, Write, Lock, Unlock, PrescientStore, PrescientAssign, Wait, Notify, Resume}
 use Rattle.rules.specs.declared.Event.{Event}
 use Rattle.rules.specs.declared.Slot.{Slot}
 use Rattle.rules.specs.declared.Counts.{Counts}
@@ -119,6 +119,9 @@ live-change h w t (Read v x) r l = record {
 live-change h w t (Write v x) r l = live-none (changed (suc (w .events)) (Write v x) (cellOf w t v)) (suc (w .events)) (not-not (none? (w .reads t v)) (λ q. false≢true (sym (r .0) ∙ l .written q))) (omega arith)
 live-change h w t (Lock m) r l = live-later (cellOf w t m) (w .events) l
 live-change h w t (Unlock m) r l = live-later (cellOf w t m) (w .events) l
+live-change h w t (Wait m) r l = live-later (cellOf w t m) (w .events) l
+live-change h w t (Notify m i) r l = live-later (cellOf w t m) (w .events) l
+live-change h w t (Resume m) r l = live-later (cellOf w t m) (w .events) l
 live-change h w t (PrescientStore v x) r l = live-none (changed (suc (w .events)) (PrescientStore v x) (cellOf w t v)) (suc (w .events)) (not-not (none? (w .reads t v)) (λ q. false≢true (sym (r .live) ∙ dead-prescient w t v x q))) (omega (arith, l .last))
 live-change h w t (PrescientAssign v x) r l = record {
   written = l .written;

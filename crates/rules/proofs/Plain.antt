@@ -10,14 +10,14 @@ use lib.IntN.{ℤ}
 use lib.ListN.{length, drop, List·getD-eq-default}
 use borrow.Author.Tests.{leb-true, leb-false}
 use Rattle.rules.specs.declared.Kind.{Kind}
-use Rattle.rules.specs.declared.Kind.the-variants.{Use, Assign, Load, Store, Read, Write, Lock, Unlock, PrescientStore, PrescientAssign}
+use Rattle.rules.specs.declared.Kind.the-variants.{Use, Assign, Load, Store, Read, Write, Lock, Unlock, PrescientStore, PrescientAssign, Wait, Notify, Resume}
 use Rattle.rules.specs.declared.Event.{Event}
 use Rattle.rules.specs.declared.Slot.{Slot}
 use Rattle.rules.specs.declared.Counts.{Counts}
 use Rattle.rules.specs.Events.{P, S, W, letter}
 use Rattle.rules.specs.Limits.{Limits, volatile, anyVolatile, firstLine, declared}
 use Rattle.rules.specs.Words.{count, slot, storeSlot, inOrder, first, by, stores}
-use Rattle.rules.specs.Rules.{Words, wordsOf, some, none?, loc, noPartner, lockTaken, notHeld, pendingBars, notFresh, notStored, readBeforeWrite, unwritten, notWritten, notUsable, differs, eightAlready, deadRead, wrongNeighbour, useBarred, writeBarred, volatileOrder, prescientVolatile, breaks, rowsBehind, rows, rowIn, firstBroken, judge, answer, verdict, accepted, markFrom, mark, markBy, markRead, pastBy, pastRead}
+use Rattle.rules.specs.Rules.{Words, wordsOf, some, none?, loc, noPartner, lockTaken, notHeld, pendingBars, notFresh, notStored, readBeforeWrite, unwritten, notWritten, notUsable, differs, eightAlready, deadRead, wrongNeighbour, useBarred, writeBarred, volatileOrder, prescientVolatile, waits, ofWaiting, notNotified, breaks, rowsBehind, rows, rowIn, firstBroken, judge, answer, verdict, accepted, markFrom, mark, markBy, markRead, pastBy, pastRead}
 use Rattle.rules.specs.Plain.{Plain, withoutVolatiles, plainStores, plainWordsOf, plainJudge, plainVerdict, markPlain, pastPlain}
 use Rattle.rules.proofs.Laws.{some-none, none-some, unbroken, accepts}
 use Rattle.rules.proofs.Marking.{walk-parts, mark-on}
@@ -53,24 +53,27 @@ module _ (h : Counts) (w : Words) (e : Event) (p : volatile h (loc e) ≡ false)
   unfolding prescientVolatile
   plain-28 = simp (p, and-false)
 
--- each row is the plain row behind 26, 27, 28
-row-led : (k : Kind) → rowIn rows (letter k) ≡ 26 ∷ 27 ∷ 28 ∷ rowIn (rowsBehind []) (letter k)
-unfolding rowIn rows
-row-led (Use v x) = refl
-row-led (Assign v x) = refl
-row-led (Load v x) = refl
-row-led (Store v x) = refl
-row-led (Read v x) = refl
-row-led (Write v x) = refl
-row-led (Lock l) = refl
-row-led (Unlock l) = refl
-row-led (PrescientStore v x) = refl
-row-led (PrescientAssign v x) = refl
+-- each row is the same behind what leads it
+pub row-led : (lead : List ℕ) (k : Kind) → rowIn (rowsBehind lead) (letter k) ≡ lead ++ rowIn (rowsBehind []) (letter k)
+unfolding rowIn
+row-led lead (Use v x) = refl
+row-led lead (Assign v x) = refl
+row-led lead (Load v x) = refl
+row-led lead (Store v x) = refl
+row-led lead (Read v x) = refl
+row-led lead (Write v x) = refl
+row-led lead (Lock l) = refl
+row-led lead (Unlock l) = refl
+row-led lead (PrescientStore v x) = refl
+row-led lead (PrescientAssign v x) = refl
+row-led lead (Wait l) = refl
+row-led lead (Notify l i) = refl
+row-led lead (Resume l) = refl
 
--- so the row may be read from behind them
+-- so the row may be read without 26, 27, 28
 pub row-plain : (h : Counts) (w : Words) (e : Event) → volatile h (loc e) ≡ false → judge h w e ≡ plainJudge h w e
-unfolding judge plainJudge firstBroken breaks
-row-plain h w e p = rw (row-led (e .kind), plain-26 h w e p, plain-27 h w e p, plain-28 h w e p)
+unfolding judge plainJudge firstBroken breaks rows
+row-plain h w e p = rw (row-led (29 ∷ 30 ∷ 26 ∷ 27 ∷ 28 ∷ []) (e .kind), row-led (29 ∷ 30 ∷ []) (e .kind), plain-26 h w e p, plain-27 h w e p, plain-28 h w e p)
 
 -- ---- the plain rules look at no position of a store
 
@@ -132,7 +135,7 @@ module _ (h : Counts) (p : Plain h) (es : List Event) (e : Event) where
   plain-23 = rw (alike (loc e) .0)
 
   plain-broken : (ns : List ℕ) → firstBroken ns h (wordsOf es) e ≡ firstBroken ns h (plainWordsOf es) e
-  unfolding firstBroken breaks lockTaken notHeld pendingBars notFresh notStored notUsable wordsOf plainWordsOf
+  unfolding firstBroken breaks lockTaken notHeld pendingBars notFresh notStored notUsable waits ofWaiting notNotified wordsOf plainWordsOf
   plain-broken [] = refl
   plain-broken (n ∷ ns) =
       rw (
@@ -151,7 +154,7 @@ module _ (h : Counts) (p : Plain h) (es : List Event) (e : Event) where
   -- Without volatile variables the verdict of a row is that without the volatile rules.
   pub plain-same : judge h (wordsOf es) e ≡ plainJudge h (plainWordsOf es) e
   unfolding plainJudge
-  plain-same = row-plain h (wordsOf es) e (p (loc e)) ∙ plain-broken (rowIn (rowsBehind []) (letter (e .kind)))
+  plain-same = row-plain h (wordsOf es) e (p (loc e)) ∙ plain-broken (rowIn (rowsBehind (29 ∷ 30 ∷ [])) (letter (e .kind)))
 
   plain-verdict : (m : Limits) → plainVerdict m h es e ≡ verdict m h es e
   unfolding verdict answer plainVerdict wordsOf plainWordsOf
@@ -175,7 +178,7 @@ without-plain h = plain-flags (withoutVolatiles h) refl refl
 
 -- the plain rules do not look at what is volatile
 plain-without : (h : Counts) (w : Words) (t n : ℕ) (k : Kind) → plainJudge (withoutVolatiles h) w (eventBy t n k) ≡ plainJudge h w (eventBy t n k)
-unfolding plainJudge rowIn firstBroken breaks lockTaken pendingBars notStored notWritten
+unfolding plainJudge rowIn firstBroken breaks lockTaken pendingBars notStored notWritten waits ofWaiting
 plain-without h w t n (Use v x) = refl
 plain-without h w t n (Assign v x) = refl
 plain-without h w t n (Load v x) = refl
@@ -184,13 +187,19 @@ plain-without h w t n (Read v x) = refl
 plain-without h w t n (Write v x) = refl
 plain-without h w t n (Lock l) = refl
 plain-without h w t n (Unlock l) = refl
+plain-without h w t n (Wait l) = refl
+plain-without h w t n (Notify l i) = refl
+plain-without h w t n (Resume l) = refl
 plain-without h w t n (PrescientStore v x) = refl
 plain-without h w t n (PrescientAssign v x) = refl
 
--- the rules behind 26 to 28 are kept
+-- the rules besides 26 to 28 are kept
 plain-kept : (h : Counts) (w : Words) (e : Event) → judge h w e ≡ 0 → plainJudge h w e ≡ 0
-unfolding judge plainJudge
-plain-kept h w e p = let ns = rowIn (rowsBehind []) (letter (e .kind)) in accepts ns h w e (unbroken (26 ∷ 27 ∷ 28 ∷ ns) h w e (rw (row-led (e .kind)) at p) .1 .1 .1)
+unfolding judge plainJudge rows
+plain-kept h w e p =
+    let ns = rowIn (rowsBehind []) (letter (e .kind)) in
+    let u = unbroken (29 ∷ 30 ∷ 26 ∷ 27 ∷ 28 ∷ ns) h w e (rw (row-led (29 ∷ 30 ∷ 26 ∷ 27 ∷ 28 ∷ []) (e .kind)) at p) in
+    rw (row-led (29 ∷ 30 ∷ []) (e .kind)) (accepts (29 ∷ 30 ∷ ns) h w e (u .0, (u .1 .0, u .1 .1 .1 .1 .1)))
 
 without-kept : (h : Counts) (w : Words) (e : Event) → judge h w e ≡ 0 → judge (withoutVolatiles h) w e ≡ 0
 without-kept h w e p = row-plain (withoutVolatiles h) w e (without-plain h (loc e)) ∙ plain-without h w (e .thread) (e .line) (e .kind) ∙ plain-kept h w e p

@@ -12,16 +12,16 @@ use lib.IntN.{ℤ}
 use lib.ListN.{length}
 use borrow.Author.Tests.{eqb-true, eq-eqb, ne-eqb, lt-ltb, not-false}
 use Rattle.rules.specs.declared.Kind.{Kind}
-use Rattle.rules.specs.declared.Kind.the-variants.{Use, Assign, Load, Store, Read, Write, Lock, Unlock, PrescientStore, PrescientAssign}
+use Rattle.rules.specs.declared.Kind.the-variants.{Use, Assign, Load, Store, Read, Write, Lock, Unlock, PrescientStore, PrescientAssign, Wait, Notify, Resume}
 use Rattle.rules.specs.declared.Event.{Event}
 use Rattle.rules.specs.declared.Slot.{Slot}
 use Rattle.rules.specs.declared.Counts.{Counts}
-use Rattle.rules.specs.Events.{N, P, place, value, is, of, on}
+use Rattle.rules.specs.Events.{L, N, P, Y, place, value, is, of, on, unlocks}
 use Rattle.rules.specs.Limits.{Limits, lineAfter, declared}
 use Rattle.rules.specs.Words.{latest, valueIn, letterIn, lastAt, count, inOrder, by, stores, pending, announced, lastAssign}
-use Rattle.rules.specs.Rules.{Words, wordsOf, some, none?, onSome, unwritten, notWritten, wrongNeighbour, useBarred, writeBarred, volatileOrder, prescientVolatile, breaks, rows, rowIn, firstBroken, judge, answer, verdict, legalBy, legal, Marked, accepted, numberIn, unless, markRead, pastRead}
+use Rattle.rules.specs.Rules.{Words, wordsOf, some, none?, onSome, unwritten, notWritten, wrongNeighbour, useBarred, writeBarred, volatileOrder, prescientVolatile, notNotified, breaks, rows, rowIn, firstBroken, judge, answer, verdict, legalBy, legal, Marked, accepted, numberIn, unless, markRead, pastRead}
 use Rattle.rules.specs.PrescientStores.{prescientStore, assignPending, someMade, madeUnwritten, judgeStrict, verdictStrict, markStrict, pastStrict}
-use Rattle.rules.proofs.Laws.{cases, or-false-left, letter-is, legal-row, legal-before, legal-by-less, some-none, none-some}
+use Rattle.rules.proofs.Laws.{cases, is-true, or-false-left, is-apart, legal-row, legal-before, legal-by-less, some-none, none-some}
 use Rattle.rules.proofs.Next.{others, next}
 use Rattle.rules.proofs.Simulation.{legal-next}
 use Rattle.rules.proofs.Cells.{eventBy, Cell, cellOf, slotAt, changed, cell-cases, events-next}
@@ -78,6 +78,9 @@ prescient-change h w t (Write v x) z r e = record {
 }
 prescient-change h w t (Lock l) z r e = prescient-later z (cellOf w t l) (w .events) e
 prescient-change h w t (Unlock l) z r e = prescient-later z (cellOf w t l) (w .events) e
+prescient-change h w t (Wait l) z r e = prescient-later z (cellOf w t l) (w .events) e
+prescient-change h w t (Notify l i) z r e = prescient-later z (cellOf w t l) (w .events) e
+prescient-change h w t (Resume l) z r e = prescient-later z (cellOf w t l) (w .events) e
 prescient-change h w t (PrescientStore v x) z r e = record {
   placed = placed-append 0 (suc (w .events)) (suc (w .events)) x (w .stores t v) (omega arith) (omega arith) (placed-later 0 (w .events) (w .stores t v) (e .placed));
   assigned = omega (arith, e .assigned);
@@ -149,10 +152,10 @@ unwritten-exact h es l t v = go (pending t v es) (stores t v es) refl refl (pres
     go true (s ∷ (r ∷ ss)) p q f = let e = rw q at (f p) in rw (q, p, ne-eqb (s .position) (z .position) (λ d. omega (arith, d, e .0))) (lt-ltb 1 (suc (suc (length ss))) (omega arith))
     go false (s ∷ (r ∷ ss)) p q f = rw (q, p) (lt-ltb 0 (suc (suc (length ss))) (omega arith))
 
--- and so 16 at N is that T has one on some variable
-pub unlock-exact : (h : Counts) (es : List Event) → T (legal h es) → (e : Event) → T (is (N ∷ []) e) → breaks 16 h (wordsOf es) e ≡ onSome h (λ t v. madeUnwritten t v es) e
-unfolding breaks notWritten is
-unlock-exact h es l e o = rw (← (letter-is N e o)) (λ i. some (h .variables) (λ v. unwritten-exact h es l (e .thread) v i))
+-- and so 16 at N, and at Y, is that T has one on some variable
+pub unlock-exact : (h : Counts) (es : List Event) → T (legal h es) → (e : Event) → T (unlocks e) → breaks 16 h (wordsOf es) e ≡ onSome h (λ t v. madeUnwritten t v es) e
+unfolding breaks notWritten unlocks
+unlock-exact h es l e o = rw (is-apart (N ∷ Y ∷ []) (L ∷ []) e tt o, is-true {b = is (N ∷ Y ∷ []) e} o) (λ i. some (h .variables) (λ v. unwritten-exact h es l (e .thread) v i))
 
 -- no store is left, or that of the latest P alone
 none-made : (t v : ℕ) (es : List Event) (ss : List Slot) → someMade t v es ss ≡ false → (pending t v es ≡ true → Ending (prescientStore t v es) ss)
@@ -165,13 +168,14 @@ none-made t v es (s ∷ ss) q f = cases (pending t v es) (λ p. inr (p, alone ss
     alone [] e q = ap (λ (r : Slot). r ∷ []) e
     alone (r ∷ ss) e q = absurd (let d = eqb-true (s .position) (prescientStore t v es .position) (not-false _ (or-false-left _ (someMade t v es (r ∷ ss)) q)) in omega (arith, d, e .0))
 
-unlock-row : (h : Counts) (w : Words) (t n : ℕ) (k : Kind) → T (is (N ∷ []) (eventBy t n k)) → judge h w (eventBy t n k) ≡ 0 → some (h .variables) (λ v. unwritten w t v) ≡ false
-unfolding is
+unlock-row : (h : Counts) (w : Words) (t n : ℕ) (k : Kind) → T (unlocks (eventBy t n k)) → judge h w (eventBy t n k) ≡ 0 → some (h .variables) (λ v. unwritten w t v) ≡ false
+unfolding unlocks is
 unlock-row h w t n (Unlock l) o p = row-of h w t n (Unlock l) p .written
+unlock-row h w t n (Wait l) o p = row-of h w t n (Wait l) p .written
 
--- "only an assign already made must reach main memory before the unlock": at an accepted N the outstanding stores of T on V are none, or that of the
+-- "only an assign already made must reach main memory before the unlock": at an accepted N or Y the outstanding stores of T on V are none, or that of the
 -- latest P alone while its assign is owed.
-pub unlock-leaves : (h : Counts) (es : List Event) → T (legal h es) → (e : Event) → T (is (N ∷ []) e) → judge h (wordsOf es) e ≡ 0 → (v : ℕ) → v < h .variables
+pub unlock-leaves : (h : Counts) (es : List Event) → T (legal h es) → (e : Event) → T (unlocks e) → judge h (wordsOf es) e ≡ 0 → (v : ℕ) → v < h .variables
     → (stores (e .thread) v es ≡ []) ⊎ ((pending (e .thread) v es ≡ true) × (stores (e .thread) v es ≡ prescientStore (e .thread) v es ∷ []))
 unfolding wordsOf cellOf madeUnwritten
 unlock-leaves h es l e o p v b =
@@ -191,44 +195,43 @@ counted w t v q = go (w .pending t v) (w .stores t v) refl refl q
     go false [] p r q = rw (p, r) refl
     go o (s ∷ ss) p r q = absurd (false≢true (sym q))
 
--- the first of 12, 15 and 16 that is broken
-abbrev unlockRow : Bool → Bool → Bool → ℕ
-unlockRow a b c = cond a 12 (cond b 15 (cond c 16 0))
+-- the first of 29, 12, 15 and 16 that is broken
+abbrev unlockRow : Bool → Bool → Bool → Bool → ℕ
+unlockRow z a b c = cond z 29 (cond a 12 (cond b 15 (cond c 16 0)))
 
--- with every store counted e is judged the same, or refused with 16 where it is an N that breaks nothing
+-- N and Y are judged so
+unlock-judge : (h : Counts) (w : Words) (t n : ℕ) (k : Kind) → T (unlocks (eventBy t n k))
+    → judge h w (eventBy t n k) ≡ unlockRow (breaks 29 h w (eventBy t n k)) (breaks 12 h w (eventBy t n k)) (breaks 15 h w (eventBy t n k)) (onSome h (unwritten w) (eventBy t n k))
+unfolding judge rows rowIn firstBroken breaks notWritten wrongNeighbour useBarred writeBarred volatileOrder prescientVolatile notNotified unlocks is
+unlock-judge h w t n (Unlock l) o = refl
+unlock-judge h w t n (Wait l) o = refl
+
+-- with every store counted e is judged the same, or refused with 16 where it is an N or Y that breaks nothing
 abbrev Relaxed : Counts → Words → Event → Type 0
-Relaxed h w e = (judgeStrict h w e ≡ judge h w e) ⊎ (T (is (N ∷ []) e) × (judgeStrict h w e ≡ 16) × (judge h w e ≡ 0))
+Relaxed h w e = (judgeStrict h w e ≡ judge h w e) ⊎ (T (unlocks e) × (judgeStrict h w e ≡ 16) × (judge h w e ≡ 0))
 
-relaxed : (h : Counts) (w : Words) (t n : ℕ) (k : Kind) → Relaxed h w (eventBy t n k)
-unfolding judgeStrict judge rows rowIn firstBroken breaks notWritten wrongNeighbour useBarred writeBarred volatileOrder prescientVolatile is
-relaxed h w t n (Use v x) = inl refl
-relaxed h w t n (Assign v x) = inl refl
-relaxed h w t n (Load v x) = inl refl
-relaxed h w t n (Store v x) = inl refl
-relaxed h w t n (Read v x) = inl refl
-relaxed h w t n (Write v x) = inl refl
-relaxed h w t n (Lock l) = inl refl
-relaxed h w t n (Unlock l) = unlocks (breaks 12 h w e) (breaks 15 h w e) (onSome h (unwritten w) e) (onSome h (λ t v. not (none? (w .stores t v))) e) less
+relaxed : (h : Counts) (w : Words) (e : Event) → Relaxed h w e
+unfolding judgeStrict
+relaxed h w e = cases (unlocks e) (λ q. let j : judge h w e ≡ row (onSome h (unwritten w) e) = unlock-judge h w (e .thread) (e .line) (e .kind) (subst T (sym q) tt) in rw (q, j) (go (breaks 29 h w e) (breaks 12 h w e) (breaks 15 h w e) _ _ less)) (λ q. rw q (inl refl))
   where
-    e : Event
-    e = eventBy t n (Unlock l)
+    row : Bool → ℕ
+    row c = unlockRow (breaks 29 h w e) (breaks 12 h w e) (breaks 15 h w e) c
 
     less : onSome h (λ t v. not (none? (w .stores t v))) e ≡ false → onSome h (unwritten w) e ≡ false
-    less q = none-some (h .variables) (λ v. unwritten w t v) (λ u b. counted w t u (some-none (h .variables) (λ v. not (none? (w .stores t v))) q u b))
+    less q = none-some (h .variables) (λ v. unwritten w (e .thread) v) (λ u b. counted w (e .thread) u (some-none (h .variables) (λ v. not (none? (w .stores (e .thread) v))) q u b))
 
-    unlocks : (a b c d : Bool) → (d ≡ false → c ≡ false) → (unlockRow a b d ≡ unlockRow a b c) ⊎ (Unit {0} × (unlockRow a b d ≡ 16) × (unlockRow a b c ≡ 0))
-    unlocks true b c d f = inl refl
-    unlocks false true c d f = inl refl
-    unlocks false false true true f = inl refl
-    unlocks false false true false f = absurd (false≢true (sym (f refl)))
-    unlocks false false false true f = inr (tt, refl, refl)
-    unlocks false false false false f = inl refl
-relaxed h w t n (PrescientStore v x) = inl refl
-relaxed h w t n (PrescientAssign v x) = inl refl
+    go : (z a b c d : Bool) → (d ≡ false → c ≡ false) → (unlockRow z a b d ≡ unlockRow z a b c) ⊎ (Unit {0} × (unlockRow z a b d ≡ 16) × (unlockRow z a b c ≡ 0))
+    go true a b c d f = inl refl
+    go false true b c d f = inl refl
+    go false false true c d f = inl refl
+    go false false false true true f = inl refl
+    go false false false true false f = absurd (false≢true (sym (f refl)))
+    go false false false false true f = inr (tt, refl, refl)
+    go false false false false false f = inl refl
 
--- Whatever the words: e is judged the same with every store counted at N, or e is an N that breaks nothing and is then 16.
-pub strict-same : (h : Counts) (w : Words) (e : Event) → (judgeStrict h w e ≡ judge h w e) ⊎ (T (is (N ∷ []) e) × (judgeStrict h w e ≡ 16) × (judge h w e ≡ 0))
-strict-same h w e = relaxed h w (e .thread) (e .line) (e .kind)
+-- Whatever the words: e is judged the same with every store counted at N and Y, or e is one of these that breaks nothing and is then 16.
+pub strict-same : (h : Counts) (w : Words) (e : Event) → (judgeStrict h w e ≡ judge h w e) ⊎ (T (unlocks e) × (judgeStrict h w e ≡ 16) × (judge h w e ≡ 0))
+strict-same = relaxed
 
 -- 9 and 5 come first in both
 verdict-same : (m : Limits) (h : Counts) (es : List Event) (e : Event) → (verdictStrict m h es e ≡ verdict m h es e) ⊎ (verdictStrict m h es e ≡ 16)

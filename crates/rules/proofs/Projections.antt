@@ -1,5 +1,5 @@
 -- Each word depends on one projection of the earlier events alone; so do the refusals of a row, and the memories.
-use Prim.Native.Nat.{ℕ, zero, suc, pred, _≤_, _<_}
+use Prim.Native.Nat.{ℕ, zero, suc, _≤_, _<_}
 use native.Mathlib.Omega.{arith}
 use mathlib.Core.Path.{_≡_, refl, sym, ap, _∙_, subst}
 use mathlib.Core.Bool.{Bool, true, false, not, cond, _&&_, _||_, and-false}
@@ -8,18 +8,18 @@ use mathlib.Core.Logic.{_⊎_, inl, inr}
 use mathlib.Core.Option.{some}
 use lib.Dec.{T, eqb, ltb}
 use lib.ListN.{length, drop}
-use borrow.Author.Tests.{eqb-true, lt-ltb, le-ltb}
+use borrow.Author.Tests.{lt-ltb, le-ltb}
 use Rattle.rules.specs.declared.Event.{Event}
 use Rattle.rules.specs.declared.Slot.{Slot}
 use Rattle.rules.specs.declared.Counts.{Counts}
-use Rattle.rules.specs.Events.{A, K, L, N, P, R, S, U, W, letter, value, among, is, of, on, onLock, locks, unlocks, eqZ}
-use Rattle.rules.specs.Words.{latest, valueIn, letterIn, lastAt, count, slot, storeSlot, inOrder, first, by, accesses, locksBy, acquires, releases, reads, stores, copy, fresh, pending, announced, lastLock, lastWrite, usable, depth, main, afterLoad, afterAssign, loadedRead, usedRead, lastAssign}
+use Rattle.rules.specs.Events.{A, C, F, K, L, N, P, R, S, U, W, Y, letter, value, among, is, of, on, subject, lockLetters, onLock, locks, eqZ}
+use Rattle.rules.specs.Words.{latest, valueIn, letterIn, lastAt, count, slot, storeSlot, inOrder, first, by, accesses, locksBy, reads, stores, copy, fresh, pending, announced, lastLock, lastWrite, usable, Grip, gripAfter, grip, depth, remembered, tells, notified, main, afterLoad, afterAssign, loadedRead, usedRead, lastAssign}
 use Rattle.rules.specs.Limits.{volatile}
 use Rattle.rules.specs.Rules
-use Rattle.rules.specs.Rules.{wordsOf, none?, loc, noPartner, lockTaken, notHeld, pendingBars, notFresh, notStored, readBeforeWrite, unwritten, notWritten, notUsable, differs, eightAlready, deadRead, wrongNeighbour, barsUse, barsWrite, useBarred, writeBarred, volatileOrder, breaks, rows, rowIn, firstBroken, judge}
+use Rattle.rules.specs.Rules.{wordsOf, none?, loc, waitsOn, waits, noPartner, lockTaken, notHeld, pendingBars, notFresh, notStored, readBeforeWrite, unwritten, notWritten, notUsable, differs, eightAlready, deadRead, wrongNeighbour, barsUse, barsWrite, useBarred, writeBarred, volatileOrder, ofWaiting, notNotified, breaks, rows, rowIn, firstBroken, judge}
 use Rattle.rules.specs.Memories.{below, each, memory, copies}
 use Rattle.rules.specs.Projections.{keep, own, ownOn, memoryOn, lockOn}
-use Rattle.rules.proofs.Laws.{and-left, and-right, or-false-left, or-false-right, letter-is}
+use Rattle.rules.proofs.Laws.{and-left, and-right, allOf, each-among, is-among}
 
 -- ---- tests
 
@@ -187,18 +187,9 @@ module _ (q : Event → Bool) where
 
 -- ---- the words
 
--- letters without K and N: no lock event
-no-lock : (ks : List ℕ) (n : ℕ) → (among ks K || among ks N) ≡ false → T (among ks n) → T (not (among (K ∷ N ∷ []) n))
-no-lock ks n h t = go (eqb K n) (eqb N n) refl refl
-  where
-    go : (x y : Bool) → eqb K n ≡ x → eqb N n ≡ y → T (not (x || (y || false)))
-    go true y p r = subst T (or-false-left (among ks K) (among ks N) h) (rw (eqb-true K n p) t)
-    go false true p r = subst T (or-false-right (among ks K) (among ks N) h) (rw (eqb-true N n r) t)
-    go false false p r = tt
-
-is-among : (k : ℕ) (ks : List ℕ) (e : Event) → T (among ks k) → T (is (k ∷ []) e) → T (is ks e)
-unfolding is
-is-among k ks e m h = subst (λ n. T (among ks n)) (letter-is k e h) m
+-- none of these letters is that of a lock event
+abbrev noLock : List ℕ → Bool
+noLock ks = allOf (λ k. not (among lockLetters k)) ks
 
 -- T's event on variable V
 abbrev onVariable : ℕ → ℕ → Event → Bool
@@ -208,40 +199,40 @@ by-own : (ks : List ℕ) (t v : ℕ) → Within (by ks t v) (of t)
 unfolding by
 by-own ks t v e b = and-left (of t e) (on v e) (and-right (is ks e) (of t e && on v e) b)
 
-by-variable : (ks : List ℕ) (t v : ℕ) → (among ks K || among ks N) ≡ false → Within (by ks t v) (onVariable t v)
+by-variable : (ks : List ℕ) (t v : ℕ) → T (noLock ks) → Within (by ks t v) (onVariable t v)
 unfolding by onLock is
 by-variable ks t v h e b =
     let x = and-right (is ks e) (of t e && on v e) b in
-    both (of t e) _ (and-left (of t e) (on v e) x) (both (not (onLock e)) _ (no-lock ks (letter (e .kind)) h (and-left (is ks e) _ b)) (and-right (of t e) (on v e) x))
+    both (of t e) _ (and-left (of t e) (on v e) x) (both (not (onLock e)) _ (each-among (λ k. not (among lockLetters k)) ks (letter (e .kind)) h (and-left (is ks e) _ b)) (and-right (of t e) (on v e) x))
 
 module _ (t v : ℕ) where
-  latest-on : (ks : List ℕ) → (among ks K || among ks N) ≡ false → (es : List Event) → latest (by ks t v) es ≡ latest (by ks t v) (ownOn t v es)
+  latest-on : (ks : List ℕ) → T (noLock ks) → (es : List Event) → latest (by ks t v) es ≡ latest (by ks t v) (ownOn t v es)
   unfolding ownOn
   latest-on ks h = latest-kept (onVariable t v) (by ks t v) (by-variable ks t v h)
 
   pub copy-on : (es : List Event) → copy t v es ≡ copy t v (ownOn t v es)
   unfolding copy
-  copy-on es = ap valueIn (latest-on _ refl es)
+  copy-on es = ap valueIn (latest-on _ tt es)
 
   pub fresh-on : (es : List Event) → fresh t v es ≡ fresh t v (ownOn t v es)
   unfolding fresh
-  fresh-on es = ap (letterIn (A ∷ [])) (latest-on _ refl es)
+  fresh-on es = ap (letterIn (A ∷ [])) (latest-on _ tt es)
 
   pub pending-on : (es : List Event) → pending t v es ≡ pending t v (ownOn t v es)
   unfolding pending
-  pending-on es = ap (letterIn (P ∷ [])) (latest-on _ refl es)
+  pending-on es = ap (letterIn (P ∷ [])) (latest-on _ tt es)
 
   pub announced-on : (es : List Event) → announced t v es ≡ announced t v (ownOn t v es)
   unfolding announced
-  announced-on es = ap valueIn (latest-on _ refl es)
+  announced-on es = ap valueIn (latest-on _ tt es)
 
   pub after-load-on : (es : List Event) → afterLoad t v es ≡ afterLoad t v (ownOn t v es)
   unfolding afterLoad
-  after-load-on es = ap (letterIn (L ∷ [])) (latest-on accesses refl es)
+  after-load-on es = ap (letterIn (L ∷ [])) (latest-on accesses tt es)
 
   pub after-assign-on : (es : List Event) → afterAssign t v es ≡ afterAssign t v (ownOn t v es)
   unfolding afterAssign
-  after-assign-on es = ap (letterIn (A ∷ [])) (latest-on accesses refl es)
+  after-assign-on es = ap (letterIn (A ∷ [])) (latest-on accesses tt es)
 
   reads-alike : (q : Event → Bool) → Within (by (R ∷ []) t v) q → Within (by (L ∷ []) t v) q → (es : List Event) → Alike q es (reads t v es) (reads t v (keep q es))
   unfolding reads
@@ -253,19 +244,19 @@ module _ (t v : ℕ) where
 
   reads-on : (es : List Event) → Alike (onVariable t v) es (reads t v es) (reads t v (ownOn t v es))
   unfolding ownOn
-  reads-on = reads-alike (onVariable t v) (by-variable _ t v refl) (by-variable _ t v refl)
+  reads-on = reads-alike (onVariable t v) (by-variable _ t v tt) (by-variable _ t v tt)
 
   pub read-values-on : (es : List Event) → map (λ s. s .value) (reads t v es) ≡ map (λ s. s .value) (reads t v (ownOn t v es))
   read-values-on es = alike-values (onVariable t v) (reads-on es)
 
   pub store-values-on : (es : List Event) → map (λ s. s .value) (stores t v es) ≡ map (λ s. s .value) (stores t v (ownOn t v es))
   unfolding ownOn
-  store-values-on es = alike-values (onVariable t v) (stores-alike (onVariable t v) (by-variable _ t v refl) (by-variable _ t v refl) (by-variable _ t v refl) es)
+  store-values-on es = alike-values (onVariable t v) (stores-alike (onVariable t v) (by-variable _ t v tt) (by-variable _ t v tt) (by-variable _ t v tt) es)
 
   -- its read came before its write
   pub order-on : (es : List Event) → readBeforeWrite (wordsOf es) t v ≡ readBeforeWrite (wordsOf (ownOn t v es)) t v
   unfolding readBeforeWrite wordsOf lastWrite ownOn
-  order-on es = same-order (onVariable t v) es _ _ _ _ (alike-first (onVariable t v) (reads-on es)) (last-match (onVariable t v) (by (W ∷ []) t v) (by-variable _ t v refl) es)
+  order-on es = same-order (onVariable t v) es _ _ _ _ (alike-first (onVariable t v) (reads-on es)) (last-match (onVariable t v) (by (W ∷ []) t v) (by-variable _ t v tt) es)
 
   pub usable-own : (es : List Event) → usable t v es ≡ usable t v (own t es)
   unfolding usable own by locksBy lastLock
@@ -308,28 +299,61 @@ module _ (t v : ℕ) where
   unfolding usedRead
   used-match = latched (U ∷ []) (usedRead t v) (loadedRead t v) (λ e es. refl) refl loaded-match
 
+-- T's event on lock l with one of these letters
+by-lock : (ks : List ℕ) (t l : ℕ) → T (allOf (among lockLetters) ks) → Within (by ks t l) (λ e. onLock e && on l e)
+unfolding by onLock
+by-lock ks t l m e b = both (onLock e) (on l e) (is-among ks lockLetters e m (and-left (is ks e) _ b)) (and-right (of t e) (on l e) (and-right (is ks e) _ b))
+
+tells-lock : (t l : ℕ) → Within (tells t l) (λ e. onLock e && on l e)
+unfolding tells onLock
+tells-lock t l e b = both (onLock e) (on l e) (is-among (Y ∷ F ∷ C ∷ []) lockLetters e tt (and-left (is (Y ∷ F ∷ C ∷ []) e) _ b)) (and-right (eqb (subject e) t) (on l e) (and-right (is (Y ∷ F ∷ C ∷ []) e) _ b))
+
 module _ (t l : ℕ) where
-  depth-kept : (q : Event → Bool) → Within (acquires t l) q → Within (releases t l) q → (es : List Event) → depth t l es ≡ depth t l (keep q es)
-  unfolding depth
-  depth-kept q a r = kept q (λ es fs. depth t l es ≡ depth t l fs) refl
-      (λ e es h k. rw (fails (acquires t l e) (q e) (a e) h, fails (releases t l e) (q e) (r e) h) k)
-      (λ e es h k. ap (λ d. cond (acquires t l e) (suc d) (cond (releases t l e) (pred d) d)) k)
+  -- what T has of the lock hangs on its K, N, Y and C on it
+  grip-kept : (q : Event → Bool) → ((k : ℕ) → T (among (K ∷ N ∷ Y ∷ C ∷ []) k) → Within (by (k ∷ []) t l) q) → (es : List Event) → grip t l es ≡ grip t l (keep q es)
+  unfolding grip
+  grip-kept q w = kept-same q (grip t l)
+      (λ e es h. unfold gripAfter in rw (out e h K tt, out e h N tt, out e h Y tt, out e h C tt))
+      (λ e es k. ap (gripAfter t l e) k)
+    where
+      out : (e : Event) → q e ≡ false → (k : ℕ) → T (among (K ∷ N ∷ Y ∷ C ∷ []) k) → by (k ∷ []) t l e ≡ false
+      out e h k m = fails (by (k ∷ []) t l e) (q e) (w k m e) h
+
+  grip-lock : (es : List Event) → grip t l es ≡ grip t l (lockOn l es)
+  unfolding lockOn
+  grip-lock = grip-kept (λ e. onLock e && on l e) (λ k m. by-lock (k ∷ []) t l (one k m))
+    where
+      one : (k : ℕ) → T (among (K ∷ N ∷ Y ∷ C ∷ []) k) → T (among lockLetters k && true)
+      one k m = both (among lockLetters k) true (each-among (among lockLetters) (K ∷ N ∷ Y ∷ C ∷ []) k tt m) tt
+
+  grip-own : (es : List Event) → grip t l es ≡ grip t l (own t es)
+  unfolding own
+  grip-own = grip-kept (of t) (λ k m. by-own (k ∷ []) t l)
 
   pub depth-lock : (es : List Event) → depth t l es ≡ depth t l (lockOn l es)
-  unfolding lockOn acquires releases onLock locks unlocks
-  depth-lock = depth-kept (λ e. onLock e && on l e) (on-lock K tt) (on-lock N tt)
-    where
-      on-lock : (k : ℕ) → T (among (K ∷ N ∷ []) k) → Within (λ e. is (k ∷ []) e && (of t e && on l e)) (λ e. onLock e && on l e)
-      on-lock k m e b = both (onLock e) (on l e) (is-among k (K ∷ N ∷ []) e m (and-left (is (k ∷ []) e) _ b)) (and-right (of t e) (on l e) (and-right (is (k ∷ []) e) _ b))
+  unfolding depth
+  depth-lock es = ap (λ (g : Grip). g .held) (grip-lock es)
 
   pub depth-own : (es : List Event) → depth t l es ≡ depth t l (own t es)
-  unfolding own acquires releases locks unlocks
-  depth-own = depth-kept (of t) (λ e b. by-own (K ∷ []) t l e (unfold by in b)) (λ e b. by-own (N ∷ []) t l e (unfold by in b))
+  unfolding depth
+  depth-own es = ap (λ (g : Grip). g .held) (grip-own es)
+
+  pub remembered-lock : (es : List Event) → remembered t l es ≡ remembered t l (lockOn l es)
+  unfolding remembered
+  remembered-lock es = ap (λ (g : Grip). g .remembered) (grip-lock es)
+
+  pub remembered-own : (es : List Event) → remembered t l es ≡ remembered t l (own t es)
+  unfolding remembered
+  remembered-own es = ap (λ (g : Grip). g .remembered) (grip-own es)
+
+  pub notified-lock : (es : List Event) → notified t l es ≡ notified t l (lockOn l es)
+  unfolding notified lockOn
+  notified-lock es = ap (letterIn (F ∷ [])) (latest-kept (λ e. onLock e && on l e) (tells t l) (tells-lock t l) es)
 
 pub main-memory : (v : ℕ) (es : List Event) → main v es ≡ main v (memoryOn v es)
 unfolding main memoryOn
 main-memory v es = ap valueIn (latest-kept (λ e. is (R ∷ W ∷ []) e && on v e) (λ e. is (W ∷ []) e && on v e)
-    (λ e b. both (is (R ∷ W ∷ []) e) (on v e) (is-among W (R ∷ W ∷ []) e tt (and-left (is (W ∷ []) e) (on v e) b)) (and-right (is (W ∷ []) e) (on v e) b)) es)
+    (λ e b. both (is (R ∷ W ∷ []) e) (on v e) (is-among (W ∷ []) (R ∷ W ∷ []) e tt (and-left (is (W ∷ []) e) (on v e) b)) (and-right (is (W ∷ []) e) (on v e) b)) es)
 
 -- T's events on V are among T's own
 pub own-on : (t v : ℕ) (es : List Event) → ownOn t v es ≡ ownOn t v (own t es)
@@ -417,17 +441,30 @@ module _ (t : ℕ) (es fs : List Event) (h : own t es ≡ own t fs) where
   depth-same : (l : ℕ) → depth t l es ≡ depth t l fs
   depth-same l = through (depth t l) (own t) (depth-own t l) es fs h
 
--- the refusals of e hang on its thread's events; at R also on the variable's R and W, at K also on the lock's events
+  waits-same : (c : Counts) → waits c (wordsOf es) t ≡ waits c (wordsOf fs) t
+  unfolding waits wordsOf
+  waits-same c = some-same (c .locks) _ _ (λ l. ap (ltb 0) (through (remembered t l) (own t) (remembered-own t l) es fs h))
+
+-- whether T waits on lock l, and whether it is notified, after lists with the same events of the lock
+module _ (l : ℕ) (es fs : List Event) (h : lockOn l es ≡ lockOn l fs) where
+  waits-on-same : (t : ℕ) → waitsOn (wordsOf es) t l ≡ waitsOn (wordsOf fs) t l
+  unfolding wordsOf
+  waits-on-same t = ap (ltb 0) (through (remembered t l) (lockOn l) (remembered-lock t l) es fs h)
+
+  notified-same : (t : ℕ) → notified t l es ≡ notified t l fs
+  notified-same t = through (notified t l) (lockOn l) (notified-lock t l) es fs h
+
+-- the refusals of e hang on its thread's events; at R also on the variable's R and W, at K, C and F also on the lock's events
 module _ (c : Counts) (e : Event) (es fs : List Event) (o : own (e .thread) es ≡ own (e .thread) fs)
     (m : T (is (R ∷ []) e) → memoryOn (loc e) es ≡ memoryOn (loc e) fs)
-    (k : T (is (K ∷ []) e) → lockOn (loc e) es ≡ lockOn (loc e) fs) where
+    (k : T (is (K ∷ C ∷ F ∷ []) e) → lockOn (loc e) es ≡ lockOn (loc e) fs) where
   same-10 : noPartner (wordsOf es) e ≡ noPartner (wordsOf fs) e
   unfolding noPartner wordsOf
   same-10 = rw (reads-same (e .thread) es fs o (loc e) .0, stores-same (e .thread) es fs o (loc e) .0, pending-same (e .thread) es fs o (loc e))
 
   same-11 : lockTaken c (wordsOf es) e ≡ lockTaken c (wordsOf fs) e
-  unfolding lockTaken wordsOf
-  same-11 = and-same (is (K ∷ []) e) _ _ (λ x. some-same (c .threads) _ _ (λ t. ap (λ d. not (eqb t (e .thread)) && ltb 0 d) (through (depth t (loc e)) (lockOn (loc e)) (depth-lock t (loc e)) es fs (k x))))
+  unfolding lockTaken wordsOf locks
+  same-11 = and-same (is (K ∷ C ∷ []) e) _ _ (λ x. some-same (c .threads) _ _ (λ t. ap (λ d. not (eqb t (e .thread)) && ltb 0 d) (through (depth t (loc e)) (lockOn (loc e)) (depth-lock t (loc e)) es fs (k (is-among (K ∷ C ∷ []) (K ∷ C ∷ F ∷ []) e tt x)))))
 
   same-12 : notHeld (wordsOf es) e ≡ notHeld (wordsOf fs) e
   unfolding notHeld wordsOf
@@ -487,10 +524,24 @@ module _ (c : Counts) (e : Event) (es fs : List Event) (o : own (e .thread) es �
     stores-same (e .thread) es fs o (loc e) .0,
   )
 
+  same-29 : ofWaiting c (wordsOf es) e ≡ ofWaiting c (wordsOf fs) e
+  unfolding ofWaiting
+  same-29 = rw (waits-same (e .thread) es fs o c)
+
+  -- whether the thread that e is about waits on the lock, and is notified
+  same-subject : (j : ℕ) → T (among (K ∷ C ∷ F ∷ []) j) → (f : Bool → Bool → Bool)
+      → (is (j ∷ []) e && f (waitsOn (wordsOf es) (subject e) (loc e)) (notified (subject e) (loc e) es)) ≡ (is (j ∷ []) e && f (waitsOn (wordsOf fs) (subject e) (loc e)) (notified (subject e) (loc e) fs))
+  same-subject j m f = and-same (is (j ∷ []) e) _ _ (λ x. let h = k (is-among (j ∷ []) (K ∷ C ∷ F ∷ []) e (both (among (K ∷ C ∷ F ∷ []) j) true m tt) x) in
+      (λ i. f (waits-on-same (loc e) es fs h (subject e) i) (notified-same (loc e) es fs h (subject e) i)))
+
+  same-30 : notNotified (wordsOf es) e ≡ notNotified (wordsOf fs) e
+  unfolding notNotified wordsOf
+  same-30 = rw (same-subject F tt (λ a b. not a || b), same-subject C tt (λ a b. not (a && b)))
+
   same-broken : (ns : List ℕ) → firstBroken ns c (wordsOf es) e ≡ firstBroken ns c (wordsOf fs) e
   unfolding firstBroken breaks
   same-broken [] = refl
-  same-broken (n ∷ ns) = rw (same-10, same-11, same-12, same-13, same-14, same-15, same-16, same-17, same-18, same-19, same-23, same-26, same-27, same-broken ns)
+  same-broken (n ∷ ns) = rw (same-10, same-11, same-12, same-13, same-14, same-15, same-16, same-17, same-18, same-19, same-23, same-26, same-27, same-29, same-30, same-broken ns)
 
   pub judge-by-needed-lists : judge c (wordsOf es) e ≡ judge c (wordsOf fs) e
   unfolding judge

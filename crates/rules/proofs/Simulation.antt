@@ -1,5 +1,5 @@
 -- The words over a list one event longer are the words of `next`.
-use Prim.Native.Nat.{ℕ, zero, suc, _+_, _-_, _≤_, _<_, zero-le, suc-le-suc}
+use Prim.Native.Nat.{ℕ, zero, suc, _+_, _≤_, _<_, zero-le, suc-le-suc}
 use native.Mathlib.Omega.{arith}
 use mathlib.Core.Path.{_≡_, refl, subst}
 use mathlib.Core.Bool.{Bool, true, false, not, cond, _&&_}
@@ -9,11 +9,11 @@ use lib.Dec.{T, eqb→eq}
 use lib.ListN.{length, drop, length-append}
 use lib.Seq.{drop-append-le}
 use Rattle.rules.specs.declared.Event.{Event}
-use Rattle.rules.specs.Events.{A, B, L, P, R, S, W, value, among, is, of, on}
+use Rattle.rules.specs.Events.{A, B, F, L, P, R, S, W, value, among, is, of, on}
 use Rattle.rules.specs.declared.Slot.{Slot}
 use Rattle.rules.specs.declared.Counts.{Counts}
 use Rattle.rules.specs.Limits.{Limits}
-use Rattle.rules.specs.Words.{latest, valueIn, letterIn, lastAt, count, slot, storeSlot, inOrder, by, accesses, reads, stores, copy, fresh, pending, announced, lastLock, lastWrite, usable, depth, main, afterLoad, afterAssign, loadedRead, usedRead, lastAssign}
+use Rattle.rules.specs.Words.{latest, valueIn, letterIn, lastAt, count, slot, storeSlot, inOrder, by, accesses, reads, stores, copy, fresh, pending, announced, lastLock, lastWrite, usable, grip, depth, remembered, tells, notified, main, afterLoad, afterAssign, loadedRead, usedRead, lastAssign}
 use Rattle.rules.specs.Rules.{Words, wordsOf, none?, loc, judge, Accepted, legal}
 use Rattle.rules.proofs.Laws.{and-left, and-right, accepted-legal, legal-row, legal-before, load-partner, write-partner, at-letter}
 use Rattle.rules.proofs.Next.{others, next}
@@ -64,11 +64,11 @@ contrary false c d h x y = x
 
 pub read-load : (t v : ℕ) (e : Event) → T (by (R ∷ []) t v e) → T (by (L ∷ []) t v e) → ⊥
 unfolding by is
-read-load t v e = contrary (is (R ∷ []) e) (is (L ∷ []) e) (of t e && on v e) (at-letter (λ n. not (among (R ∷ []) n && among (L ∷ []) n)) (tt, tt, tt, tt, tt, tt, tt, tt, tt, tt) (e .kind))
+read-load t v e = contrary (is (R ∷ []) e) (is (L ∷ []) e) (of t e && on v e) (at-letter (λ n. not (among (R ∷ []) n && among (L ∷ []) n)) (tt, tt, tt, tt, tt, tt, tt, tt, tt, tt, tt, tt, tt) (e .kind))
 
 pub store-write : (t v : ℕ) (e : Event) → T (by (S ∷ P ∷ []) t v e) → T (by (W ∷ []) t v e) → ⊥
 unfolding by is
-store-write t v e = contrary (is (S ∷ P ∷ []) e) (is (W ∷ []) e) (of t e && on v e) (at-letter (λ n. not (among (S ∷ P ∷ []) n && among (W ∷ []) n)) (tt, tt, tt, tt, tt, tt, tt, tt, tt, tt) (e .kind))
+store-write t v e = contrary (is (S ∷ P ∷ []) e) (is (W ∷ []) e) (of t e && on v e) (at-letter (λ n. not (among (S ∷ P ∷ []) n && among (W ∷ []) n)) (tt, tt, tt, tt, tt, tt, tt, tt, tt, tt, tt, tt, tt) (e .kind))
 
 -- ---- the words at a longer list
 
@@ -78,7 +78,7 @@ pub record Paired (es : List Event) : Type 0 where
   pub writes : (t v : ℕ) → count (by (W ∷ []) t v) es ≤ length (inOrder (storeSlot t v) (by (S ∷ P ∷ []) t v) es)
 
 pub words-next : (e : Event) (es : List Event) → Paired es → wordsOf (e ∷ es) ≡ next (wordsOf es) e
-unfolding wordsOf next reads stores copy fresh pending announced lastLock lastWrite usable depth main afterLoad afterAssign loadedRead usedRead lastAssign lastAt
+unfolding wordsOf next reads stores copy fresh pending announced lastLock lastWrite usable grip depth remembered notified main afterLoad afterAssign loadedRead usedRead lastAssign lastAt
 words-next e es h = λ i. record {
   events = suc (length es);
   copy = λ t v. value-latest (by (A ∷ B ∷ L ∷ []) t v) e es i;
@@ -91,6 +91,8 @@ words-next e es h = λ i. record {
   lastWrite = λ t v. next (wordsOf es) e .lastWrite t v;
   lastLock = λ t. next (wordsOf es) e .lastLock t;
   depth = λ t l. next (wordsOf es) e .depth t l;
+  remembered = λ t l. next (wordsOf es) e .remembered t l;
+  notified = λ t l. letter-latest (F ∷ []) (tells t l) e es i;
   main = λ v. value-latest (λ x. is (W ∷ []) x && on v x) e es i;
   afterLoad = λ t v. letter-latest (L ∷ []) (by accesses t v) e es i;
   afterAssign = λ t v. letter-latest (A ∷ []) (by accesses t v) e es i;

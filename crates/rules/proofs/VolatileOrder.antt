@@ -9,11 +9,11 @@ use lib.Dec.{T, ltb}
 use lib.ListN.{length}
 use borrow.Author.Tests.{ltb-true, ltb-false, not-false}
 use Rattle.rules.specs.declared.Kind.{Kind}
-use Rattle.rules.specs.declared.Kind.the-variants.{Use, Assign, Load, Store, Read, Write, Lock, Unlock, PrescientStore, PrescientAssign}
+use Rattle.rules.specs.declared.Kind.the-variants.{Use, Assign, Load, Store, Read, Write, Lock, Unlock, PrescientStore, PrescientAssign, Wait, Notify, Resume}
 use Rattle.rules.specs.declared.Event.{Event}
 use Rattle.rules.specs.declared.Slot.{Slot}
 use Rattle.rules.specs.declared.Counts.{Counts}
-use Rattle.rules.specs.Events.{A, B, K, N, P, S, U, W, letter, among, is, of, on, onLock}
+use Rattle.rules.specs.Events.{A, B, P, S, U, W, letter, among, is, of, on, subject, onLock, lockLetters}
 use Rattle.rules.specs.Limits.{Limits, volatile, declared}
 use Rattle.rules.specs.Words.{latest, letterIn, lastAt, count, inOrder, first, storeSlot, by, accesses, stores, fresh, lastWrite, afterAssign, loadedRead, usedRead, lastAssign}
 use Rattle.rules.specs.Rules.{wordsOf, none?, loc, barsUse, barsWrite, useBarred, writeBarred, volatileOrder, prescientVolatile, judge, Accepted, legal}
@@ -134,6 +134,9 @@ module _ (c : Counts) (t v : ℕ) (q : volatile c v ≡ true) (es : List Event) 
       go (s ∷ ss) g k = writes refl (subst T (sym b) tt) (fresh-next c t v e es l) (last-next c t v e es l) s ss g (stores-next c t v e es l ∙ rw (b, g))
   turn u n (Lock m) true b p = same (eventBy u n (Lock m)) refl refl refl refl
   turn u n (Unlock m) true b p = same (eventBy u n (Unlock m)) refl refl refl refl
+  turn u n (Wait m) true b p = same (eventBy u n (Wait m)) refl refl refl refl
+  turn u n (Notify m i) true b p = same (eventBy u n (Notify m i)) refl refl refl refl
+  turn u n (Resume m) true b p = same (eventBy u n (Resume m)) refl refl refl refl
   turn u n (PrescientStore w x) true b p = absurd (not-prescient (eventBy u n (PrescientStore w x)) (subst T (sym b) tt) p)
   turn u n (PrescientAssign w x) true b p = absurd (not-prescient (eventBy u n (PrescientAssign w x)) (subst T (sym b) tt) p)
 
@@ -523,13 +526,14 @@ module _ (c : Counts) (t v : ℕ) (vol : volatile c v ≡ true) where
 
 -- ---- the variable of an accepted use or assign is declared
 
-declared-on : (c : Counts) (k t v : ℕ) (e : Event) → among (K ∷ N ∷ []) k ≡ false → declared c e ≡ true → T (by (k ∷ []) t v e) → v < c .variables
+declared-on : (c : Counts) (k t v : ℕ) (e : Event) → among lockLetters k ≡ false → declared c e ≡ true → T (by (k ∷ []) t v e) → v < c .variables
 unfolding declared onLock is
 declared-on c k t v e n d b =
-    let p : T (ltb (e .thread) (c .threads) && ltb (loc e) (cond (among (K ∷ N ∷ []) (letter (e .kind))) (c .locks) (c .variables))) = subst T (sym d) tt in
-    ltb-true v (c .variables) (is-true (rw (← (letter-is k e (by-is (k ∷ []) t v e b)), n, by-loc (k ∷ []) t v e b) at (and-right (ltb (e .thread) (c .threads)) (ltb (loc e) (cond (among (K ∷ N ∷ []) (letter (e .kind))) (c .locks) (c .variables))) p)))
+    let on = ltb (loc e) (cond (among lockLetters (letter (e .kind))) (c .locks) (c .variables)) in
+    let p : T (ltb (e .thread) (c .threads) && (ltb (subject e) (c .threads) && on)) = subst T (sym d) tt in
+    ltb-true v (c .variables) (is-true (rw (← (letter-is k e (by-is (k ∷ []) t v e b)), n, by-loc (k ∷ []) t v e b) at (and-right (ltb (subject e) (c .threads)) on (and-right (ltb (e .thread) (c .threads)) _ p))))
 
-at-declared : (c : Counts) (k t v : ℕ) → among (K ∷ N ∷ []) k ≡ false → (es : List Event) → T (legal c es) → (i : ℕ) → At k t v es i → v < c .variables
+at-declared : (c : Counts) (k t v : ℕ) → among lockLetters k ≡ false → (es : List Event) → T (legal c es) → (i : ℕ) → At k t v es i → v < c .variables
 at-declared c k t v n [] l i b = absurd b
 at-declared c k t v n (e ∷ es) l i (inl b) = declared-on c k t v e n (legal-known c e es l) (b .0)
 at-declared c k t v n (e ∷ es) l i (inr b) = at-declared c k t v n es (legal-before c e es l) i b

@@ -1,5 +1,6 @@
 -- Document 02 (a), what 23 is for: "Refuse the event that leaves T an outstanding read of V which can never be loaded".
--- proofs/DeadReads.antt proves that 23 is said of no other events, and on a variable that is not volatile of all of these that break no other rule.
+-- proofs/DeadReads.antt proves that 23 is said of no other events, and on a variable that is not volatile, of a thread that does not wait, of all of
+-- these that break no other rule.
 use Prim.Native.Nat.{ℕ, suc, _≤_, _<_}
 use mathlib.Core.Path.{_≡_}
 use mathlib.Core.Bool.{cond}

@@ -4,20 +4,26 @@ use mathlib.Core.Bool.{Bool, false, _||_}
 use mathlib.Core.Bool.{cond}
 use mathlib.Core.List.{List, [], _∷_}
 use mathlib.Core.Option.{Option, none, some}
-use lib.Dec.{eqb}
+use lib.Dec.{eqb, ltb}
 use lib.IntN.{ℤ, pos, negsuc}
 use Rattle.rules.specs.declared.Kind.{Kind}
-use Rattle.rules.specs.declared.Kind.the-variants.{Use, Assign, Load, Store, Read, Write, Lock, Unlock, PrescientStore, PrescientAssign}
+use Rattle.rules.specs.declared.Kind.the-variants.{Use, Assign, Load, Store, Read, Write, Lock, Unlock, PrescientStore, PrescientAssign, Wait, Notify, Resume}
 use Rattle.rules.specs.declared.Named.{Named}
 use Rattle.rules.specs.declared.Named.the-variants as named
 use Rattle.rules.specs.declared.Event.{Event}
 
--- the letter bytes of the ten kinds
+-- the letter bytes of the thirteen kinds
 abbrev pub A : ℕ
 A = 65
 
 abbrev pub B : ℕ
 B = 66
+
+abbrev pub C : ℕ
+C = 67
+
+abbrev pub F : ℕ
+F = 70
 
 abbrev pub K : ℕ
 K = 75
@@ -43,6 +49,9 @@ U = 85
 abbrev pub W : ℕ
 W = 87
 
+abbrev pub Y : ℕ
+Y = 89
+
 abbrev pub letter : Kind → ℕ
 letter (Use v x) = U
 letter (Assign v x) = A
@@ -54,6 +63,9 @@ letter (Lock l) = K
 letter (Unlock l) = N
 letter (PrescientStore v x) = P
 letter (PrescientAssign v x) = B
+letter (Wait l) = Y
+letter (Notify l u) = F
+letter (Resume l) = C
 
 -- the variable of an event; of a lock event, the lock
 abbrev pub place : Kind → ℕ
@@ -67,8 +79,15 @@ place (Lock l) = l
 place (Unlock l) = l
 place (PrescientStore v x) = v
 place (PrescientAssign v x) = v
+place (Wait l) = l
+place (Notify l u) = l
+place (Resume l) = l
 
--- the value of an event; a lock event has none, and 0 stands here
+-- a number held at 255, which no head declares
+unfoldable pub capped : ℕ → ℕ
+capped n = cond (ltb n 255) n 255
+
+-- the value of an event; a lock event has none, and 0 stands here, or the thread that an F notifies
 abbrev pub value : Kind → ℤ
 value (Use v x) = x
 value (Assign v x) = x
@@ -80,19 +99,27 @@ value (Lock l) = pos 0
 value (Unlock l) = pos 0
 value (PrescientStore v x) = x
 value (PrescientAssign v x) = x
+value (Wait l) = pos 0
+value (Notify l u) = pos (capped u)
+value (Resume l) = pos 0
+
+-- the thread that the number in the place of a value names; a negative one names none, and 255 stands here
+abbrev pub threadOf : ℤ → ℕ
+threadOf (pos n) = capped n
+threadOf (negsuc n) = 255
 
 -- n is one of these numbers
 abbrev pub among : List ℕ → ℕ → Bool
 among [] n = false
 among (k ∷ ks) n = eqb k n || among ks n
 
--- An event is one of ten kinds.
+-- An event is one of ten kinds, and those of document 02 (i).
 unfoldable pub isLetter : ℕ → Bool
-isLetter k = eqb k U || eqb k A || eqb k L || eqb k S || eqb k R || eqb k W || eqb k K || eqb k N || eqb k P || eqb k B
+isLetter k = eqb k U || eqb k A || eqb k L || eqb k S || eqb k R || eqb k W || eqb k K || eqb k N || eqb k P || eqb k B || eqb k Y || eqb k F || eqb k C
 
--- `K t l` lock and `N t l` unlock.
+-- `K t l` lock and `N t l` unlock. `Y t l` waits, `F t l u` notifies thread u, `C t l` comes back.
 unfoldable pub isLockLetter : ℕ → Bool
-isLockLetter k = eqb k K || eqb k N
+isLockLetter k = eqb k K || eqb k N || eqb k Y || eqb k F || eqb k C
 
 -- the kind with this letter, variable or lock, and value; every other byte names none
 unfoldable pub kindOf : ℕ → ℕ → ℤ → Named
@@ -107,7 +134,10 @@ kindOf k p x =
     (cond (eqb k N) (named.Of (Unlock p))
     (cond (eqb k P) (named.Of (PrescientStore p x))
     (cond (eqb k B) (named.Of (PrescientAssign p x))
-    named.Nothing)))))))))
+    (cond (eqb k Y) (named.Of (Wait p))
+    (cond (eqb k F) (named.Of (Notify p (threadOf x)))
+    (cond (eqb k C) (named.Of (Resume p))
+    named.Nothing))))))))))))
 
 -- the event of a line: its number, thread and kind; none where there is no kind
 abbrev pub eventWith : ℕ → ℕ → Named → Option Event
@@ -126,17 +156,28 @@ of t e = eqb (e .thread) t
 unfoldable pub on : ℕ → Event → Bool
 on v e = eqb (place (e .kind)) v
 
--- a lock event: its place is a lock, and it has no value
+-- the thread whose waiting an event with letter k, thread t and value x is about: the one that an F notifies, else its own
+unfoldable pub subjectOf : ℕ → ℕ → ℤ → ℕ
+subjectOf k t x = cond (eqb k F) (threadOf x) t
+
+abbrev pub subject : Event → ℕ
+subject e = subjectOf (letter (e .kind)) (e .thread) (value (e .kind))
+
+-- the letters of the lock events
+abbrev pub lockLetters : List ℕ
+lockLetters = K ∷ N ∷ Y ∷ F ∷ C ∷ []
+
+-- a lock event: its place is a lock, and it has no value; an F has a thread in the place of one
 unfoldable pub onLock : Event → Bool
-onLock e = is (K ∷ N ∷ []) e
+onLock e = is lockLetters e
 
--- e locks: what T locks and unlocks is read here alone
+-- e locks: which events lock and unlock is read here, and in `gripAfter` how many holds. C counts "as a lock of each taken again".
 unfoldable pub locks : Event → Bool
-locks e = is (K ∷ []) e
+locks e = is (K ∷ C ∷ []) e
 
--- e unlocks
+-- e unlocks. "Y counts as an unlock of each hold given up".
 unfoldable pub unlocks : Event → Bool
-unlocks e = is (N ∷ []) e
+unlocks e = is (N ∷ Y ∷ []) e
 
 -- the same whole number
 unfoldable pub eqZ : ℤ → ℤ → Bool

@@ -11,3 +11,5 @@ pub mod PrescientStores
 pub mod Volatile
 pub mod Plain
 pub mod Widths
+pub mod Held
+pub mod Ten

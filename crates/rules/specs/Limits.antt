@@ -10,7 +10,7 @@ use Rattle.rules.specs.declared.Event.{Event}
 use Rattle.rules.specs.declared.Counts.{Counts}
 use Rattle.rules.specs.declared.Course.{Course}
 use Rattle.rules.specs.declared.Course.the-variants.{Full, Short}
-use Rattle.rules.specs.Events.{place, onLock}
+use Rattle.rules.specs.Events.{place, subject, onLock}
 
 -- A value is a signed number of 64 bits.
 abbrev pub valueWidth : Width
@@ -139,9 +139,9 @@ unfoldable pub allowed : Limits → Counts → Bool
 allowed m h =
     leb 1 (h .threads) && leb (h .threads) (m .threads) && leb 1 (h .variables) && leb (h .variables) (m .variables) && leb (h .locks) (m .locks) && not (strayVolatile h)
 
--- 5. Thread, variable or lock not declared.
+-- 5. Thread, variable or lock not declared; of an F also the thread that it notifies.
 unfoldable pub declared : Counts → Event → Bool
-declared h e = ltb (e .thread) (h .threads) && ltb (place (e .kind)) (cond (onLock e) (h .locks) (h .variables))
+declared h e = ltb (e .thread) (h .threads) && (ltb (subject e) (h .threads) && ltb (place (e .kind)) (cond (onLock e) (h .locks) (h .variables)))
 
 -- 7. Lent too little (line 0): records under 2,000 places, output under 32,768 bytes;
 unfoldable pub lentShort : Limits → ℕ → ℕ → Bool

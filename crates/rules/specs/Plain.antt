@@ -33,9 +33,9 @@ plainStores t v es = drop (count (by (W ∷ []) t v) es) (inOrder slot (by (S �
 unfoldable pub plainWordsOf : List Event → Words
 plainWordsOf es = wordsBy plainStores es
 
--- the first rule of its row that e breaks, where no rule leads the rows; 0 where it breaks none
+-- the first rule of its row that e breaks, where 29 and 30 alone lead the rows; 0 where it breaks none
 unfoldable pub plainJudge : Counts → Words → Event → ℕ
-plainJudge h w e = firstBroken (rowIn (rowsBehind []) (letter (e .kind))) h w e
+plainJudge h w e = firstBroken (rowIn (rowsBehind (29 ∷ 30 ∷ [])) (letter (e .kind))) h w e
 
 -- as `verdict`: 9 (25), 5, then the row
 unfoldable pub plainVerdict : Limits → Counts → List Event → Event → ℕ

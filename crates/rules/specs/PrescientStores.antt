@@ -1,4 +1,4 @@
--- Document 02 (d), what 16 at N is for: "only an assign already made must reach main memory before the unlock"; and the marking with 16 at N as
+-- Document 02 (d), what 16 at N, and so at Y, is for: "only an assign already made must reach main memory before the unlock"; and the marking with 16 at N as
 -- document 01 has it. proofs/PrescientStores.antt proves that N's test is this, and that no other verdict changes.
 use Prim.Native.Nat.{ℕ}
 use mathlib.Core.Bool.{Bool, false, not, cond, _&&_, _||_}
@@ -8,7 +8,7 @@ use lib.Dec.{eqb}
 use Rattle.rules.specs.declared.Event.{Event}
 use Rattle.rules.specs.declared.Slot.{Slot}
 use Rattle.rules.specs.declared.Counts.{Counts}
-use Rattle.rules.specs.Events.{N, P, is}
+use Rattle.rules.specs.Events.{P, unlocks}
 use Rattle.rules.specs.Limits.{Limits}
 use Rattle.rules.specs.Words.{lastAt, by, stores, pending, announced}
 use Rattle.rules.specs.Rules.{Words, wordsOf, none?, onSome, breaks, judge, answerWith, Marked, markBy, pastBy}
@@ -30,14 +30,14 @@ someMade t v es (s ∷ ss) = not (assignPending t v es s) || someMade t v es ss
 unfoldable pub madeUnwritten : ℕ → ℕ → List Event → Bool
 madeUnwritten t v es = someMade t v es (stores t v es)
 
--- ---- 16 at N as document 01 has it
+-- ---- 16 at N, and so at Y, as document 01 has it
 
 -- The first rule of its row that e breaks, 0 where it breaks none; 16 at N by document 01: "N while T has an outstanding store. The syllabus counts
 -- an early store here like the others."
 unfoldable pub judgeStrict : Counts → Words → Event → ℕ
 judgeStrict h w e =
-    cond (is (N ∷ []) e)
-    (cond (breaks 12 h w e) 12 (cond (breaks 15 h w e) 15 (cond (onSome h (λ t v. not (none? (w .stores t v))) e) 16 0)))
+    cond (unlocks e)
+    (cond (breaks 29 h w e) 29 (cond (breaks 12 h w e) 12 (cond (breaks 15 h w e) 15 (cond (onSome h (λ t v. not (none? (w .stores t v))) e) 16 0))))
     (judge h w e)
 
 -- as `verdict`: 9 (25), 5, then the row

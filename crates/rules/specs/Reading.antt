@@ -1,6 +1,7 @@
 -- Reading lines and marking events one after the other: the events up to the first line that is none, or up to the limit, and what ends the reading.
 use Prim.Native.Nat.{ℕ, suc}
-use mathlib.Core.Bool.{cond}
+use mathlib.Core.Path.{_≡_}
+use mathlib.Core.Bool.{Bool, true, cond}
 use mathlib.Core.List.{List, [], _∷_}
 use mathlib.Core.Option.{Option, none, some}
 use lib.Dec.{leb}
@@ -20,3 +21,14 @@ unfoldable pub stopFrom : Limits → Counts → ℕ → List (Option Event) → 
 stopFrom m h n [] = accepted
 stopFrom m h n (none ∷ rest) = refused 4 (lineAfter h n)
 stopFrom m h n (some e ∷ rest) = cond (leb (m .events) n) (refused (m .excess) (lineAfter h n)) (stopFrom m h (suc n) rest)
+
+-- what a line is where an event that fails the test is none
+abbrev pub onlyIf : (Event → Bool) → Option Event → Option Event
+onlyIf p none = none
+onlyIf p (some e) = cond (p e) (some e) none
+
+-- each of these lines that is an event passes the test
+abbrev pub AllPass : (Event → Bool) → List (Option Event) → Type 0
+AllPass p [] = Unit {0}
+AllPass p (none ∷ rs) = AllPass p rs
+AllPass p (some e ∷ rs) = (p e ≡ true) × AllPass p rs

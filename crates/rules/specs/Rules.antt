@@ -1,4 +1,4 @@
--- Document 01, the refusals 5 and 9 to 19, and document 02, 16 at N, 23, 25 in place of 9, and 26 to 28; the table of rows, and the verdict over a list of events.
+-- Document 01, the refusals 5 and 9 to 19, and document 02, 16 at N, 23, 25 in place of 9, and 26 to 30; the table of rows, and the verdict over a list of events.
 -- The rules speak of the words; `wordsOf` takes the words from a list of earlier events. A caller's state is read by the same rules, with its own
 -- contents for the words.
 use Prim.Native.Nat.{ℕ, zero, suc, _<_}
@@ -14,7 +14,7 @@ use Rattle.rules.specs.declared.Slot.{Slot}
 use Rattle.rules.specs.declared.Counts.{Counts}
 use Rattle.rules.specs.declared.Verdict.{Verdict}
 use Rattle.rules.specs.declared.Verdict.the-variants.{Accepted as Accepted′, Refused}
-use Rattle.rules.specs.Events.{A, B, K, L, N, P, R, S, U, W, letter, place, value, is, eqZ}
+use Rattle.rules.specs.Events.{A, B, C, F, K, L, N, P, R, S, U, W, Y, letter, place, value, is, subject, locks, unlocks, eqZ}
 use Rattle.rules.specs.Limits.{Limits, most, volatile, lineAfter, declared}
 unfoldable pub use Rattle.rules.specs.Limits.{some}
 use Rattle.rules.specs.Words.{first, accesses}
@@ -33,6 +33,8 @@ pub record Words : Type 0 where
   pub lastWrite : ℕ → ℕ → ℕ
   pub lastLock : ℕ → ℕ
   pub depth : ℕ → ℕ → ℕ
+  pub remembered : ℕ → ℕ → ℕ
+  pub notified : ℕ → ℕ → Bool
   pub main : ℕ → ℤ
   pub afterLoad : ℕ → ℕ → Bool
   pub afterAssign : ℕ → ℕ → Bool
@@ -54,6 +56,8 @@ wordsBy f es = record {
   lastWrite = λ t v. Earlier.lastWrite t v es;
   lastLock = λ t. Earlier.lastLock t es;
   depth = λ t l. Earlier.depth t l es;
+  remembered = λ t l. Earlier.remembered t l es;
+  notified = λ t l. Earlier.notified t l es;
   main = λ v. Earlier.main v es;
   afterLoad = λ t v. Earlier.afterLoad t v es;
   afterAssign = λ t v. Earlier.afterAssign t v es;
@@ -78,9 +82,17 @@ loc e = place (e .kind)
 abbrev pub onSome : Counts → (ℕ → ℕ → Bool) → Event → Bool
 onSome h f e = some (h .variables) (λ v. f (e .thread) v)
 
--- Held by T: more K than N by T on that lock.
+-- Held by T: more K than N by T on that lock, a Y as an unlock of each hold given up and a C as a lock of each taken again.
 abbrev pub held : Words → ℕ → ℕ → Bool
 held w t l = ltb 0 (w .depth t l)
+
+-- A thread waits from its Y to its C: on this lock,
+abbrev pub waitsOn : Words → ℕ → ℕ → Bool
+waitsOn w t l = ltb 0 (w .remembered t l)
+
+-- on some lock: a declared one
+unfoldable pub waits : Counts → Words → ℕ → Bool
+waits h w t = some (h .locks) (λ l. waitsOn w t l)
 
 -- 10. No partner: L without an outstanding read, W without an outstanding store, B when nothing is owed.
 unfoldable pub noPartner : Words → Event → Bool
@@ -89,18 +101,18 @@ noPartner w e =
     || is (W ∷ []) e && none? (w .stores (e .thread) (loc e))
     || is (B ∷ []) e && not (w .pending (e .thread) (loc e))
 
--- 11. Lock held by another thread.
+-- 11. Lock held by another thread. "C is checked as K is".
 unfoldable pub lockTaken : Counts → Words → Event → Bool
-lockTaken h w e = is (K ∷ []) e && some (h .threads) (λ t. not (eqb t (e .thread)) && held w t (loc e))
+lockTaken h w e = locks e && some (h .threads) (λ t. not (eqb t (e .thread)) && held w t (loc e))
 
--- 12. Unlock of a lock that T does not hold.
+-- 12. Unlock of a lock that T does not hold. "Y is checked as N is", "F needs the lock held, else 12".
 unfoldable pub notHeld : Words → Event → Bool
-notHeld w e = is (N ∷ []) e && not (held w (e .thread) (loc e))
+notHeld w e = is (N ∷ Y ∷ F ∷ []) e && not (held w (e .thread) (loc e))
 
 -- 13. An owed assign bars it: K while T owes on some variable; L, S, P on V while T owes on V.
 unfoldable pub pendingBars : Counts → Words → Event → Bool
 pendingBars h w e =
-    is (K ∷ []) e && onSome h (w .pending) e
+    locks e && onSome h (w .pending) e
     || is (L ∷ S ∷ P ∷ []) e && w .pending (e .thread) (loc e)
 
 -- 14. Store without a fresh assign.
@@ -111,7 +123,7 @@ notFresh w e = is (S ∷ []) e && not (w .fresh (e .thread) (loc e))
 unfoldable pub notStored : Counts → Words → Event → Bool
 notStored h w e =
     is (L ∷ []) e && w .fresh (e .thread) (loc e)
-    || is (N ∷ []) e && onSome h (w .fresh) e
+    || unlocks e && onSome h (w .fresh) e
 
 -- L's read, the oldest outstanding one, came before a write of T on V
 unfoldable pub readBeforeWrite : Words → ℕ → ℕ → Bool
@@ -127,7 +139,7 @@ unwritten w t v = ltb (cond (w .pending t v) 1 0) (length (w .stores t v))
 unfoldable pub notWritten : Counts → Words → Event → Bool
 notWritten h w e =
     is (L ∷ []) e && (not (none? (w .stores (e .thread) (loc e))) || readBeforeWrite w (e .thread) (loc e))
-    || is (N ∷ []) e && onSome h (unwritten w) e
+    || unlocks e && onSome h (unwritten w) e
 
 -- 17. Copy not usable.
 unfoldable pub notUsable : Words → Event → Bool
@@ -201,6 +213,19 @@ volatileOrder h w e = useBarred h w e || writeBarred h w e
 unfoldable pub prescientVolatile : Counts → Event → Bool
 prescientVolatile h e = is (P ∷ B ∷ []) e && volatile h (loc e)
 
+-- ---- the refusals 29 and 30: waiting and notification
+
+-- 29. Event other than C, R or W of a waiting thread.
+unfoldable pub ofWaiting : Counts → Words → Event → Bool
+ofWaiting h w e = not (is (C ∷ R ∷ W ∷ []) e) && waits h w (e .thread)
+
+-- 30. F for a thread not waiting on that lock or already notified, C by one not notified on it. (The thread that an F is for, and C's own, is its
+-- subject.)
+unfoldable pub notNotified : Words → Event → Bool
+notNotified w e =
+    is (F ∷ []) e && (not (waitsOn w (subject e) (loc e)) || w .notified (subject e) (loc e))
+    || is (C ∷ []) e && not (waitsOn w (subject e) (loc e) && w .notified (subject e) (loc e))
+
 -- e breaks the rule with this number
 unfoldable pub breaks : ℕ → Counts → Words → Event → Bool
 breaks n h w e =
@@ -217,15 +242,18 @@ breaks n h w e =
     (cond (eqb n 23) (deadRead w e)
     (cond (eqb n 26) (wrongNeighbour h w e)
     (cond (eqb n 27) (volatileOrder h w e)
-    (cond (eqb n 28) (prescientVolatile h e) false)))))))))))))
+    (cond (eqb n 28) (prescientVolatile h e)
+    (cond (eqb n 29) (ofWaiting h w e)
+    (cond (eqb n 30) (notNotified w e) false)))))))))))))))
 
--- ---- the ten rows
+-- ---- the rows
 
 pub record Row : Type 0 where
   pub kind : ℕ
   pub checks : List ℕ
 
--- What is checked hangs on the kind, and the ten rows of this table are fixed. These numbers lead each row.
+-- What is checked hangs on the kind, and the ten rows of this table are fixed; Y is checked as N is, F needs the lock held, C is checked as K is. These
+-- numbers lead each row.
 abbrev pub rowsBehind : List ℕ → List Row
 rowsBehind lead =
     row U (17 ∷ 18 ∷ [])
@@ -238,14 +266,17 @@ rowsBehind lead =
     ∷ row N (12 ∷ 15 ∷ 16 ∷ [])
     ∷ row P (13 ∷ 19 ∷ 23 ∷ [])
     ∷ row B (10 ∷ 18 ∷ [])
+    ∷ row Y (12 ∷ 15 ∷ 16 ∷ [])
+    ∷ row F (12 ∷ [])
+    ∷ row C (11 ∷ 13 ∷ [])
     ∷ []
   where
     row : ℕ → List ℕ → Row
     row k ns = record { kind = k; checks = lead ++ ns }
 
--- 26, 27 and 28 lead each row, in that order.
+-- 26, 27 and 28 lead each row, in that order; 29 and 30 are both ahead of 26.
 unfoldable pub rows : List Row
-rows = rowsBehind (26 ∷ 27 ∷ 28 ∷ [])
+rows = rowsBehind (29 ∷ 30 ∷ 26 ∷ 27 ∷ 28 ∷ [])
 
 -- the checks of the row of this letter
 unfoldable pub rowIn : List Row → ℕ → List ℕ

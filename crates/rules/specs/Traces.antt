@@ -1,5 +1,5 @@
 -- Document 01, "Short traces": the rows marked as proved, one table, two of them with the verdict of document 02 (a) and one with that
--- of (d); more traces of both documents; and the 1-2-3 run. `proofs/ShortTraces.antt` proves each table by one theorem, and that the run is accepted.
+-- of (d); more traces of both documents, volatile variables, waiting; and the 1-2-3 run. `proofs/ShortTraces.antt` proves each table by one theorem, and that the run is accepted.
 use Prim.Native.Nat.{ℕ, zero, suc}
 use mathlib.Core.Bool.{true, false}
 use mathlib.Core.List.{List, [], _∷_, reverse}
@@ -7,7 +7,7 @@ use mathlib.Core.Option.{Option, none, some}
 use lib.IntN.{ℤ, pos}
 use lib.ListN.{replicate}
 use Rattle.rules.specs.declared.Kind.{Kind}
-use Rattle.rules.specs.declared.Kind.the-variants.{Use, Assign, Load, Store, Read, Write, Lock, Unlock, PrescientStore, PrescientAssign}
+use Rattle.rules.specs.declared.Kind.the-variants.{Use, Assign, Load, Store, Read, Write, Lock, Unlock, PrescientStore, PrescientAssign, Wait, Notify, Resume}
 use Rattle.rules.specs.declared.Event.{Event}
 use Rattle.rules.specs.declared.Counts.{Counts}
 use Rattle.rules.specs.Limits.{full, noVolatiles, lineAfter}
@@ -47,6 +47,16 @@ K t l = ev t (Lock l)
 
 unfoldable pub N : ℕ → ℕ → Event
 N t l = ev t (Unlock l)
+
+-- `Y t l` waits, `F t l u` notifies thread u, `C t l` comes back.
+unfoldable pub Y : ℕ → ℕ → Event
+Y t l = ev t (Wait l)
+
+unfoldable pub F : ℕ → ℕ → ℕ → Event
+F t l u = ev t (Notify l u)
+
+unfoldable pub C : ℕ → ℕ → Event
+C t l = ev t (Resume l)
 
 -- Two threads, variables and locks.
 abbrev pub two : Counts
@@ -157,6 +167,42 @@ volatileTraces =
     ∷ trace (B 0 0 5 ∷ []) (badVolatile 28 1)
     -- another thread's assign stands in no way
     ∷ trace (R 0 0 0 ∷ A 1 1 5 ∷ L 0 0 0 ∷ U 0 0 0 ∷ []) accepted
+    ∷ []
+
+-- Document 02 (i), waiting and notification.
+unfoldable pub waitingTraces : List Trace
+waitingTraces =
+    -- Y gives up every hold, C takes all the holds again
+    trace (K 0 0 ∷ K 0 0 ∷ Y 0 0 ∷ K 1 0 ∷ F 1 0 0 ∷ N 1 0 ∷ C 0 0 ∷ N 0 0 ∷ N 0 0 ∷ []) accepted
+    ∷ trace (K 0 0 ∷ K 0 0 ∷ Y 0 0 ∷ K 1 0 ∷ F 1 0 0 ∷ N 1 0 ∷ C 0 0 ∷ N 0 0 ∷ N 0 0 ∷ N 0 0 ∷ []) (bad 12 10)
+    -- on that lock alone
+    ∷ trace (K 0 1 ∷ K 0 0 ∷ Y 0 0 ∷ K 1 1 ∷ []) (bad 11 4)
+    -- Y is checked as N is
+    ∷ trace (Y 0 0 ∷ []) (bad 12 1)
+    ∷ trace (K 0 0 ∷ A 0 0 5 ∷ Y 0 0 ∷ []) (bad 15 3)
+    ∷ trace (K 0 0 ∷ A 0 0 5 ∷ S 0 0 5 ∷ Y 0 0 ∷ []) (bad 16 4)
+    -- F needs the lock held, else 12
+    ∷ trace (K 0 0 ∷ Y 0 0 ∷ F 1 0 0 ∷ []) (bad 12 3)
+    -- C is checked as K is, and spoils copies as K does
+    ∷ trace (K 0 0 ∷ Y 0 0 ∷ K 1 0 ∷ F 1 0 0 ∷ C 0 0 ∷ []) (bad 11 5)
+    ∷ trace (K 0 0 ∷ P 0 0 5 ∷ Y 0 0 ∷ K 1 0 ∷ F 1 0 0 ∷ N 1 0 ∷ C 0 0 ∷ []) (bad 13 7)
+    ∷ trace (K 0 0 ∷ R 0 1 0 ∷ L 0 1 0 ∷ U 0 1 0 ∷ Y 0 0 ∷ K 1 0 ∷ F 1 0 0 ∷ N 1 0 ∷ C 0 0 ∷ U 0 1 0 ∷ []) (bad 17 10)
+    -- 29: an early store may be written while its thread waits, its assign may not be made
+    ∷ trace (K 0 0 ∷ P 0 0 5 ∷ Y 0 0 ∷ W 0 0 5 ∷ R 0 1 0 ∷ B 0 0 5 ∷ []) (bad 29 6)
+    ∷ trace (K 0 0 ∷ Y 0 0 ∷ K 0 1 ∷ []) (bad 29 3)
+    ∷ trace (K 0 0 ∷ Y 0 0 ∷ F 0 0 0 ∷ []) (bad 29 3)
+    -- 30: an F for a thread that does not wait, waits on another lock, or is notified; a C by one that does not wait, is not notified, or waits on
+    -- another lock
+    ∷ trace (F 0 0 1 ∷ []) (bad 30 1)
+    ∷ trace (K 0 0 ∷ Y 0 0 ∷ K 1 1 ∷ F 1 1 0 ∷ []) (bad 30 4)
+    ∷ trace (K 0 0 ∷ Y 0 0 ∷ K 1 0 ∷ F 1 0 0 ∷ F 1 0 0 ∷ []) (bad 30 5)
+    ∷ trace (C 0 0 ∷ []) (bad 30 1)
+    ∷ trace (K 0 0 ∷ Y 0 0 ∷ C 0 0 ∷ []) (bad 30 3)
+    ∷ trace (K 0 0 ∷ Y 0 0 ∷ K 1 0 ∷ F 1 0 0 ∷ N 1 0 ∷ C 0 1 ∷ []) (bad 30 6)
+    -- a second wait asks for a notification of its own
+    ∷ trace (K 0 0 ∷ Y 0 0 ∷ K 1 0 ∷ F 1 0 0 ∷ N 1 0 ∷ C 0 0 ∷ Y 0 0 ∷ C 0 0 ∷ []) (bad 30 8)
+    -- the thread that F notifies is not declared
+    ∷ trace (K 0 0 ∷ F 0 0 2 ∷ []) (bad 5 2)
     ∷ []
 
 -- the same row, as the definitions give it with these counts

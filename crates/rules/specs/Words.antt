@@ -4,12 +4,12 @@ use Prim.Native.Nat.{ℕ, suc, pred}
 use mathlib.Core.Bool.{Bool, false, not, cond, _&&_, _||_}
 use mathlib.Core.List.{List, [], _∷_, _++_}
 use mathlib.Core.Option.{Option, none, some}
-use lib.Dec.{ltb}
+use lib.Dec.{eqb, ltb}
 use lib.IntN.{ℤ, pos}
 use lib.ListN.{length, drop}
 use Rattle.rules.specs.declared.Event.{Event}
 use Rattle.rules.specs.declared.Slot.{Slot}
-use Rattle.rules.specs.Events.{A, B, L, P, R, S, U, W, value, is, of, on, locks, unlocks}
+use Rattle.rules.specs.Events.{A, B, C, F, K, L, N, P, R, S, U, W, Y, value, is, of, on, subject, locks}
 
 -- ---- what the words are made of
 
@@ -60,14 +60,6 @@ by ks t v e = is ks e && (of t e && on v e)
 unfoldable pub locksBy : ℕ → Event → Bool
 locksBy t e = locks e && of t e
 
--- T locks l
-unfoldable pub acquires : ℕ → ℕ → Event → Bool
-acquires t l e = locks e && (of t e && on l e)
-
--- T unlocks l
-unfoldable pub releases : ℕ → ℕ → Event → Bool
-releases t l e = unlocks e && (of t e && on l e)
-
 -- ---- the words, for thread t and variable v
 
 -- the position of T's last assign on V
@@ -101,7 +93,7 @@ pending t v es = letterIn (P ∷ []) (latest (by (P ∷ B ∷ []) t v) es)
 unfoldable pub announced : ℕ → ℕ → List Event → ℤ
 announced t v es = valueIn (latest (by (P ∷ []) t v) es)
 
--- the position of T's last K, on whichever lock; 0 is the start
+-- the position of T's last K, on whichever lock; 0 is the start. ("C .. spoils copies as K does".)
 unfoldable pub lastLock : ℕ → List Event → ℕ
 lastLock t es = lastAt (locksBy t) es
 
@@ -117,11 +109,44 @@ usable t v (e ∷ es) =
     not (locksBy t e)
     && (by (A ∷ B ∷ []) t v e || by (L ∷ []) t v e && ltb (lastLock t es) (first (reads t v es) .position) || usable t v es)
 
--- how many holds T has on the lock: one more with its K, one less with its N. Held by T: more K than N by T on that lock. (After legal events
--- the holds are the K less the N: `depth-less` in proofs/Held.antt.)
+-- what T has of a lock: its holds, and the number of those that it gave up at a Y and has not taken again
+pub record Grip : Type 0 where
+  pub held : ℕ
+  pub remembered : ℕ
+
+-- After one event more: one hold more with its K, one less with its N. Document 02 (i): "Y .. gives up every hold on the lock and remembers their
+-- number", "C .. takes all the holds again".
+unfoldable pub gripAfter : ℕ → ℕ → Event → Grip → Grip
+gripAfter t l e g = record {
+  held =
+      cond (by (K ∷ []) t l e) (suc (g .held))
+      (cond (by (N ∷ []) t l e) (pred (g .held))
+      (cond (by (Y ∷ []) t l e) 0
+      (cond (by (C ∷ []) t l e && ltb 0 (g .remembered)) (g .remembered) (g .held))));
+  remembered = cond (by (Y ∷ []) t l e) (g .held) (cond (by (C ∷ []) t l e) 0 (g .remembered));
+}
+
+unfoldable pub grip : ℕ → ℕ → List Event → Grip
+grip t l [] = record { held = 0; remembered = 0 }
+grip t l (e ∷ es) = gripAfter t l e (grip t l es)
+
+-- how many holds T has on the lock. Held by T: more K than N by T on that lock, less what T gave up at a Y and has not taken again. (After legal events:
+-- `balanced` in proofs/Held.antt.)
 unfoldable pub depth : ℕ → ℕ → List Event → ℕ
-depth t l [] = 0
-depth t l (e ∷ es) = cond (acquires t l e) (suc (depth t l es)) (cond (releases t l e) (pred (depth t l es)) (depth t l es))
+depth t l es = grip t l es .held
+
+-- the number that T remembers of the lock. A thread waits from its Y to its C: while this is not 0. (After legal events: `waits-between` in
+-- proofs/Held.antt.)
+unfoldable pub remembered : ℕ → ℕ → List Event → ℕ
+remembered t l es = grip t l es .remembered
+
+-- e is a Y or C of T on the lock, or an F for T on it
+unfoldable pub tells : ℕ → ℕ → Event → Bool
+tells t l e = is (Y ∷ F ∷ C ∷ []) e && (eqb (subject e) t && on l e)
+
+-- T is notified on the lock: the latest of these is an F
+unfoldable pub notified : ℕ → ℕ → List Event → Bool
+notified t l es = letterIn (F ∷ []) (latest (tells t l) es)
 
 -- Main memory of V: the value of the latest W on V, by any thread; 0 before one.
 unfoldable pub main : ℕ → List Event → ℤ

@@ -1,13 +1,13 @@
 // The events of a trace, what a trace declares, and what is said of it. What the rules say of events stands in specs/.
 ghost use mathlib.Core.Path.{_≡_};
-ghost use Rattle.rules.specs.Events.{letter, place, value, isLetter, isLockLetter, kindOf};
+ghost use Rattle.rules.specs.Events.{letter, place, capped, value, threadOf, isLetter, isLockLetter, kindOf, subjectOf};
 ghost use Rattle.rules.specs.Limits.{full, limitsOf, mostCounts, volatile, anyVolatile, strayVolatile, lineAfter, allowed, declared, lentShort, orderShort};
 ghost use Rattle.rules.specs.Rules.{told, numberIn, lineIn};
 
 // The value of a variable. Its width is `valueWidth` in specs/Limits.antt.
 pub type Value = i64;
 
-// The ten kinds, each with its own data: a variable and a value, or a lock.
+// The thirteen kinds, each with its own data: a variable and a value, a lock, or a lock and a thread.
 pub enum Kind {
     Use(usize, Value),
     Assign(usize, Value),
@@ -21,6 +21,12 @@ pub enum Kind {
     PrescientStore(usize, Value),
     // B, the assign that an early store announced
     PrescientAssign(usize, Value),
+    // Y, waits: gives up every hold on the lock
+    Wait(usize),
+    // F, notifies a thread that waits on the lock
+    Notify(usize, usize),
+    // C, comes back: takes all the holds again
+    Resume(usize),
 }
 
 // A kind, or none.
@@ -85,7 +91,21 @@ pub enum Verdict {
 
 // ---- Kinds and letters.
 
-// The kind with this letter: the ten letters; every other byte names none.
+// A number held at 255, which no head declares.
+pub fn cap(n: usize) -> u32
+    ensures { λ r. ⌜ r ≡ capped n ⌝ }
+{
+    if n < 255 { n as u32 } else { 255 }
+}
+
+// The thread that a number in the place of a value names; a negative one names none.
+pub fn thread_of(x: Value) -> usize
+    ensures { λ r. ⌜ r ≡ threadOf x ⌝ }
+{
+    if x < 0 { 255 } else { cap(x as usize) as usize }
+}
+
+// The kind with this letter: the thirteen letters; every other byte names none.
 pub fn kind_of(letter: u8, place: usize, value: Value) -> Named
     ensures { λ r. ⌜ r ≡ kindOf letter place value ⌝ }
 {
@@ -100,11 +120,14 @@ pub fn kind_of(letter: u8, place: usize, value: Value) -> Named
         b'N' => Named::Of(Kind::Unlock(place)),
         b'P' => Named::Of(Kind::PrescientStore(place, value)),
         b'B' => Named::Of(Kind::PrescientAssign(place, value)),
+        b'Y' => Named::Of(Kind::Wait(place)),
+        b'F' => Named::Of(Kind::Notify(place, thread_of(value))),
+        b'C' => Named::Of(Kind::Resume(place)),
         _ => Named::Nothing,
     }
 }
 
-// Whether a byte is one of the ten letters.
+// Whether a byte is one of the thirteen letters.
 pub fn is_letter(k: u8) -> bool
     ensures { λ r. ⌜ r ≡ isLetter k ⌝ }
 {
@@ -119,6 +142,9 @@ pub fn is_letter(k: u8) -> bool
         b'N' => true,
         b'P' => true,
         b'B' => true,
+        b'Y' => true,
+        b'F' => true,
+        b'C' => true,
         _ => false,
     }
 }
@@ -127,7 +153,7 @@ pub fn is_letter(k: u8) -> bool
 pub fn is_lock_letter(k: u8) -> bool
     ensures { λ r. ⌜ r ≡ isLockLetter k ⌝ }
 {
-    (k == b'K') | (k == b'N')
+    (k == b'K') | (k == b'N') | (k == b'Y') | (k == b'F') | (k == b'C')
 }
 
 // The letter byte of a kind.
@@ -145,6 +171,9 @@ pub fn letter_of(k: Kind) -> u8
         Kind::Unlock(_) => b'N',
         Kind::PrescientStore(_, _) => b'P',
         Kind::PrescientAssign(_, _) => b'B',
+        Kind::Wait(_) => b'Y',
+        Kind::Notify(_, _) => b'F',
+        Kind::Resume(_) => b'C',
     }
 }
 
@@ -163,10 +192,13 @@ pub fn place_of(k: Kind) -> usize
         Kind::Unlock(l) => l,
         Kind::PrescientStore(v, _) => v,
         Kind::PrescientAssign(v, _) => v,
+        Kind::Wait(l) => l,
+        Kind::Notify(l, _) => l,
+        Kind::Resume(l) => l,
     }
 }
 
-// The value of a kind; 0 of a lock event.
+// The value of a kind; 0 of a lock event, and of F the thread that it notifies.
 pub fn value_of(k: Kind) -> Value
     ensures { λ r. ⌜ r ≡ value k ⌝ }
 {
@@ -181,7 +213,17 @@ pub fn value_of(k: Kind) -> Value
         Kind::Unlock(_) => 0,
         Kind::PrescientStore(_, x) => x,
         Kind::PrescientAssign(_, x) => x,
+        Kind::Wait(_) => 0,
+        Kind::Notify(_, u) => cap(u) as Value,
+        Kind::Resume(_) => 0,
     }
+}
+
+// The thread whose waiting an event with this letter, thread and value is about.
+pub fn subject_of(k: u8, t: usize, x: Value) -> usize
+    ensures { λ r. ⌜ r ≡ subjectOf k t x ⌝ }
+{
+    if k == b'F' { thread_of(x) } else { t }
 }
 
 // ---- Limits.
@@ -273,17 +315,18 @@ pub fn excess_of(course: Course) -> u8
     }
 }
 
-// Whether the event's thread, and its variable or lock, are declared.
+// Whether the event's thread, the one that it notifies, and its variable or lock are declared.
 pub fn is_declared(h: Counts, e: Event) -> bool
     ensures { λ r. ⌜ r ≡ declared h e ⌝ }
 {
     let kind = e.kind;
     let place = place_of(kind);
     let k = letter_of(kind);
+    let subject = subject_of(k, e.thread, value_of(kind));
     if is_lock_letter(k) {
-        return (e.thread < h.threads) & (place < h.locks);
+        return (e.thread < h.threads) & ((subject < h.threads) & (place < h.locks));
     }
-    (e.thread < h.threads) & (place < h.variables)
+    (e.thread < h.threads) & ((subject < h.threads) & (place < h.variables))
 }
 
 // The line of the event after n events.

@@ -10,7 +10,7 @@ use lib.IntN.{ℤ, pos}
 use lib.ListN.{length}
 use Rattle.rules.specs.declared.Event.{Event}
 use Rattle.rules.specs.declared.Kind.{Kind}
-use Rattle.rules.specs.declared.Kind.the-variants.{Use, Assign, Load, Store, Read, Write, Lock, Unlock, PrescientStore, PrescientAssign}
+use Rattle.rules.specs.declared.Kind.the-variants.{Use, Assign, Load, Store, Read, Write, Lock, Unlock, PrescientStore, PrescientAssign, Wait, Notify, Resume}
 use Rattle.rules.specs.Events.{B, value, is, of, on, locks}
 use Rattle.rules.specs.declared.Slot.{Slot}
 use Rattle.rules.specs.Words.{first, by, locksBy, latest, valueIn, letterIn, lastAt, count, inOrder, reads, stores, copy, fresh, pending, announced, lastLock, lastWrite, usable, main}
@@ -106,6 +106,9 @@ module _ (w : Words) (t v u ln : ℕ) where
   step-mem (PrescientAssign v′ x) = mem-change n t v E.PrescientAssign u v′ x (cellOf w t v) ∙ cases (eqb u t && eqb v′ v) (λ q. rw q) (λ q. rw q)
   step-mem (Lock l) = own-change n t u C.locks (cellOf w t v) ∙ cases (eqb u t) (λ q. rw q) (λ q. rw q)
   step-mem (Unlock l) = own-change n t u C.unlocks (cellOf w t v) ∙ cases (eqb u t) (λ q. rw q) (λ q. rw q)
+  step-mem (Wait l) = own-change n t u C.unlocks (cellOf w t v) ∙ cases (eqb u t) (λ q. rw q) (λ q. rw q)
+  step-mem (Notify l x) = refl
+  step-mem (Resume l) = own-change n t u C.locks (cellOf w t v) ∙ cases (eqb u t) (λ q. rw q) (λ q. rw q)
 
 pub length-view : (es : List Event) → length (map view es) ≡ length es
 length-view [] = refl
@@ -137,6 +140,9 @@ main-step w v (Read v′ x) u ln = touched C.written E.Read u v′ v x (w .main 
 main-step w v (Write v′ x) u ln = touched C.written E.Write u v′ v x (w .main v)
 main-step w v (Lock l) u ln = refl
 main-step w v (Unlock l) u ln = refl
+main-step w v (Wait l) u ln = refl
+main-step w v (Notify l x) u ln = refl
+main-step w v (Resume l) u ln = refl
 main-step w v (PrescientStore v′ x) u ln = touched C.written E.PrescientStore u v′ v x (w .main v) ∙ same-cond (eqb v′ v) (w .main v)
 main-step w v (PrescientAssign v′ x) u ln = touched C.written E.PrescientAssign u v′ v x (w .main v) ∙ same-cond (eqb v′ v) (w .main v)
 

@@ -92,12 +92,12 @@ demand-3 m h guard events a = record {
     ends p v i = unfold zeros in
         (ap (λ f. f v) (sym (after-view ran (λ v. pos 0))) ∙ rw (← view-ran) (serial-order h guard events ok d p .1 v i))
 
--- at the end of a trace with an order nothing is held or owed
+-- at the end of a trace with an order nothing is held or owed, and nobody waits
 pub ended : (h : Counts) (guard : ℕ → ℕ) (events : List Event) → denial h guard events ≡ fit → unfinished h (reverse events) ≡ false
 unfolding denial orderly
 ended h guard events p = fit-from h guard [] events p tt .1
 
--- such a trace has at most 1,000 K
+-- such a trace has at most 1,000 K and C
 pub locks-room : (m : Limits) (h : Counts) (events : List Event) → AcceptedTrace m h events → unfinished h (reverse events) ≡ false → 2 * count locks (reverse events) ≤ full .events
 locks-room m h events a u = omega (
   arith,

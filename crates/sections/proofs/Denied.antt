@@ -5,7 +5,7 @@ use native.Mathlib.Omega.{arith}
 use mathlib.Core.Path.{_≡_, refl, sym, ap, _∙_, subst}
 use mathlib.Core.Logic.{_⊎_, inl, inr}
 use mathlib.Core.Bool.{Bool, true, false, not, cond, _&&_, _||_, and-false, or-true, true≢false, false≢true}
-use mathlib.Core.List.{List, [], _∷_, map, reverse}
+use mathlib.Core.List.{List, [], _∷_, reverse}
 use mathlib.Core.Option.{Option, none, some}
 use lib.Dec.{T, eqb}
 use lib.ListN.{length, drop, length-reverse}
@@ -13,26 +13,24 @@ use lib.Seq.{drop-length}
 use borrow.Author.Tests.{eq-eqb, ne-eqb, eqb-true, not-true}
 use Rattle.rules.specs.declared.Event.{Event}
 use Rattle.rules.specs.declared.Kind.{Kind}
-use Rattle.rules.specs.declared.Kind.the-variants.{Use, Assign, Load, Store, Read, Write, Lock, Unlock, PrescientStore, PrescientAssign}
+use Rattle.rules.specs.declared.Kind.the-variants.{Use, Assign, Load, Store, Read, Write, Lock, Unlock, PrescientStore, PrescientAssign, Wait, Notify, Resume}
 use Rattle.rules.specs.declared.Counts.{Counts}
 use Rattle.rules.specs.Events.{B, P, is, of, on, locks}
 use Rattle.rules.specs.Limits.{lineAfter}
 use Rattle.rules.proofs.Bounds.{first-line-low}
 use Rattle.rules.specs.Words.{by, locksBy, latest, letterIn, pending}
 use Rattle.rules.specs.Rules as Rules
-use Rattle.rules.specs.Rules.{loc, wordsOf, held}
+use Rattle.rules.specs.Rules.{loc, wordsOf, held, waitsOn, waits}
 use Rattle.rules.proofs.Laws.{is-true, some-has}
 use Rattle.serial.specs.Lists.{All}
-use Rattle.serial.proofs.Counted as H
-use Rattle.sections.specs.View.{view}
 use Rattle.sections.specs.Refusals.{afterUnlock, notUnder, lateLock, unfinished, denialFrom, denial}
 use Rattle.sections.specs.Places.{position, atPosition, soFar, eventAt, upTo, usesOrAssigns, unlocksBy, passes, lockAt, holdsSome}
 use Rattle.sections.specs.Order.{lineOf}
 use Rattle.sections.specs.Denials.{Denial, fit, denied, Unguarded, LateLock, Unfinished, Clean, Orderly, Denies, unguarded, late}
 use Rattle.sections.specs.Denials as D
 use Rattle.sections.proofs.Valid.{Declared, Numbered}
-use Rattle.sections.proofs.Whole.{from-held, holds-below}
-use Rattle.sections.proofs.Ordered.{some-witness, lock-below, no-debt, All-turn}
+use Rattle.sections.proofs.Whole.{from-held, holds-known, waits-known}
+use Rattle.sections.proofs.Ordered.{some-witness, no-debt, All-turn}
 use Rattle.sections.proofs.Places.{position-line, position-after, position-last, position-up, position-to, position-ahead, unlocksAt, holdsAfter, lock-line, unlock-line, holding-line, Here, at-place, nothing-past, so-far-all, length-so-far, lock-signal, unlock-signal, holds-more}
 
 -- ---- Booleans
@@ -221,6 +219,9 @@ no-debt-on h t v (e ∷ es) d q = rw (not-on (e .thread) (e .line) (of t e) (e .
     not-on u ln b (Write w x) i = refl
     not-on u ln b (Lock l) i = refl
     not-on u ln b (Unlock l) i = refl
+    not-on u ln b (Wait l) i = refl
+    not-on u ln b (Notify l x) i = refl
+    not-on u ln b (Resume l) i = refl
     not-on u ln b (PrescientStore w x) i = rw (ne-eqb w v (λ p. absurd (omega arith))) (and-false b)
     not-on u ln b (PrescientAssign w x) i = rw (ne-eqb w v (λ p. absurd (omega arith))) (and-false b)
 
@@ -237,20 +238,24 @@ module _ (h : Counts) (events : List Event) (d : All (Declared h) events) where
   owes : ℕ → Bool
   owes t = Rules.some (h .variables) (λ v. pending t v (reverse events))
 
-  pub to-22 : Unfinished events → unfinished h (reverse events) ≡ true
-  unfolding unfinished owes
-  to-22 (inl r) =
-      some-has (h .threads) (λ t. holdsSome h t (reverse events) || owes t) (r .thread) (holds-below h (r .thread) (r .lock) (reverse events) turned g)
-      (or-left (holdsSome h (r .thread) (reverse events)) (owes (r .thread)) (unfold holdsSome in some-has (h .locks) (λ l. held (wordsOf (reverse events)) (r .thread) l) (r .lock) below (r .held)))
-    where
-      g : H.Holds (r .thread) (r .lock) (map view (reverse events))
-      g = from-held (r .thread) (r .lock) (reverse events) (r .held)
+  -- what 22 asks of one thread
+  open? : ℕ → Bool
+  open? t = holdsSome h t (reverse events) || (owes t || waits h (wordsOf (reverse events)) t)
 
-      below : r .lock < h .locks
-      below = lock-below h (r .thread) (r .lock) (reverse events) turned (unfold H.Holds in g)
-  to-22 (inr r) =
-      some-has (h .threads) (λ t. holdsSome h t (reverse events) || owes t) (r .thread) (declared (decLt (r .thread) (h .threads)))
-      (or-right (holdsSome h (r .thread) (reverse events)) (owes (r .thread)) (some-has (h .variables) (λ v. pending (r .thread) v (reverse events)) (r .variable) (named (decLt (r .variable) (h .variables))) (r .pending)))
+  pub to-22 : Unfinished events → unfinished h (reverse events) ≡ true
+  unfolding unfinished owes open?
+  to-22 (inl r) =
+      some-has (h .threads) open? (r .thread) (who .0)
+      (or-left (holdsSome h (r .thread) (reverse events)) (owes (r .thread) || waits h (wordsOf (reverse events)) (r .thread))
+      (unfold holdsSome in some-has (h .locks) (λ l. held (wordsOf (reverse events)) (r .thread) l) (r .lock) (who .1) (r .held)))
+    where
+      who : (r .thread < h .threads) × (r .lock < h .locks)
+      who = holds-known h (r .thread) (r .lock) (reverse events) turned (from-held (r .thread) (r .lock) (reverse events) (r .held))
+  to-22 (inr (inl r)) =
+      some-has (h .threads) open? (r .thread) (declared (decLt (r .thread) (h .threads)))
+      (or-right (holdsSome h (r .thread) (reverse events)) (owes (r .thread) || waits h (wordsOf (reverse events)) (r .thread))
+      (or-left (owes (r .thread)) (waits h (wordsOf (reverse events)) (r .thread))
+      (some-has (h .variables) (λ v. pending (r .thread) v (reverse events)) (r .variable) (named (decLt (r .variable) (h .variables))) (r .pending))))
     where
       declared : Dec (r .thread < h .threads) → r .thread < h .threads
       declared (yes i) = i
@@ -259,24 +264,38 @@ module _ (h : Counts) (events : List Event) (d : All (Declared h) events) where
       named : Dec (r .variable < h .variables) → r .variable < h .variables
       named (yes i) = i
       named (no i) = absurd (true≢false (sym (r .pending) ∙ no-debt-on h (r .thread) (r .variable) (reverse events) turned (omega arith)))
+  to-22 (inr (inr r)) =
+      some-has (h .threads) open? (r .thread) (who .0)
+      (or-right (holdsSome h (r .thread) (reverse events)) (owes (r .thread) || waits h (wordsOf (reverse events)) (r .thread))
+      (or-right (owes (r .thread)) (waits h (wordsOf (reverse events)) (r .thread))
+      (unfold waits in some-has (h .locks) (λ l. waitsOn (wordsOf (reverse events)) (r .thread) l) (r .lock) (who .1) (r .waiting))))
+    where
+      who : (r .thread < h .threads) × (r .lock < h .locks)
+      who = waits-known h (r .thread) (r .lock) (reverse events) turned (r .waiting)
 
   pub from-22 : unfinished h (reverse events) ≡ true → Unfinished events
-  unfolding unfinished holdsSome owes
-  from-22 b = go (one-of (holdsSome h t (reverse events)) (owes t) (is-true (w .1)))
+  unfolding unfinished holdsSome owes open? waits
+  from-22 b = go (one-of (holdsSome h t (reverse events)) (owes t || waits h (wordsOf (reverse events)) t) (is-true (w .1)))
     where
-      w : (t : ℕ) × T (holdsSome h t (reverse events) || owes t)
-      w = some-witness (h .threads) (λ t. holdsSome h t (reverse events) || owes t) (subst T (sym b) tt)
+      w : (t : ℕ) × T (holdsSome h t (reverse events) || (owes t || waits h (wordsOf (reverse events)) t))
+      w = some-witness (h .threads) open? (subst T (sym b) tt)
 
       t : ℕ
       t = w .0
 
-      go : (holdsSome h t (reverse events) ≡ true) ⊎ (owes t ≡ true) → Unfinished events
+      late : (owes t ≡ true) ⊎ (waits h (wordsOf (reverse events)) t ≡ true) → Unfinished events
+      late (inl p) =
+          let v : (v : ℕ) × T (pending t v (reverse events)) = some-witness (h .variables) (λ v. pending t v (reverse events)) (subst T (sym p) tt) in
+          inr (inl (record { thread = t; variable = v .0; pending = is-true (v .1) }))
+      late (inr p) =
+          let l : (l : ℕ) × T (waitsOn (wordsOf (reverse events)) t l) = some-witness (h .locks) (λ l. waitsOn (wordsOf (reverse events)) t l) (subst T (sym p) tt) in
+          inr (inr (record { thread = t; lock = l .0; waiting = is-true (l .1) }))
+
+      go : (holdsSome h t (reverse events) ≡ true) ⊎ ((owes t || waits h (wordsOf (reverse events)) t) ≡ true) → Unfinished events
       go (inl p) =
           let l : (l : ℕ) × T (held (wordsOf (reverse events)) t l) = some-witness (h .locks) (λ l. held (wordsOf (reverse events)) t l) (subst T (sym p) tt) in
           inl (record { thread = t; lock = l .0; held = is-true (l .1) })
-      go (inr p) =
-          let v : (v : ℕ) × T (pending t v (reverse events)) = some-witness (h .variables) (λ v. pending t v (reverse events)) (subst T (sym p) tt) in
-          inr (record { thread = t; variable = v .0; pending = is-true (v .1) })
+      go (inr p) = late (one-of (owes t) (waits h (wordsOf (reverse events)) t) p)
 
 -- nothing stands past the end
 pub unguarded-below : (hd : Counts) (guard : ℕ → ℕ) (events : List Event) (n : ℕ) → Unguarded hd guard events n → n < lineAfter hd (length events)

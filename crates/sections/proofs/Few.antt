@@ -1,11 +1,11 @@
--- Each section has a K of its own. At most half of the events of a trace that leaves no lock held are K, for then no thread has done more K than N
--- on any lock (rules' proofs/Held.antt).
+-- Each section has a K or C of its own. At most half of the events of a trace that leaves no lock held and no thread waiting are K and C, for then no
+-- thread has done more K than N on any lock, nor more C than Y (rules' proofs/Held.antt).
 use Prim.Native.Nat.{ℕ, zero, suc, _+_, _*_, _<_, _≤_}
 use native.Mathlib.Decide.{ℕ-discrete, decLt}
 use native.Mathlib.Omega.{arith}
-use mathlib.Core.Path.{_≡_, refl, sym, ap}
+use mathlib.Core.Path.{_≡_, refl, sym, ap, subst}
 use mathlib.Core.Logic.{ite}
-use mathlib.Core.Bool.{Bool, true, false, cond, _&&_, _||_, and-false, false≢true}
+use mathlib.Core.Bool.{Bool, true, false, cond, _&&_, and-false, false≢true}
 use mathlib.Core.List.{List, [], _∷_, map}
 use borrow.Author.Tests.{eq-eqb, ne-eqb, lt-ltb, le-ltb, ltb-false}
 use lib.Dec.{T, eqb, ltb}
@@ -14,10 +14,10 @@ use lib.ListN.{length}
 use Rattle.rules.specs.declared.Event.{Event}
 use Rattle.rules.specs.declared.Counts.{Counts}
 use Rattle.rules.specs.declared.Kind.{Kind}
-use Rattle.rules.specs.declared.Kind.the-variants.{Use, Assign, Load, Store, Read, Write, Lock, Unlock, PrescientStore, PrescientAssign}
-use Rattle.rules.specs.Events.{K, N, letter, place, among, is, of, on, locks, unlocks}
-use Rattle.rules.specs.Words.{acquires, releases, count, depth}
-use Rattle.rules.specs.Rules.{loc, wordsOf, held}
+use Rattle.rules.specs.declared.Kind.the-variants.{Use, Assign, Load, Store, Read, Write, Lock, Unlock, PrescientStore, PrescientAssign, Wait, Notify, Resume}
+use Rattle.rules.specs.Events.{C, K, N, Y, letter, place, among, is, of, on, lockLetters, onLock, locks}
+use Rattle.rules.specs.Words.{by, count, depth, remembered}
+use Rattle.rules.specs.Rules.{loc, wordsOf, held, waitsOn, waits}
 use Rattle.serial.specs.Events as E
 use Rattle.serial.specs.Lists.{All}
 use Rattle.serial.specs.Sections as Q
@@ -29,11 +29,11 @@ use Rattle.sections.specs.Places.{holdsSome}
 use Rattle.sections.specs.Order.{told, sections}
 use Rattle.sections.specs.Refusals.{unfinished}
 use Rattle.sections.proofs.Valid.{Valid, Numbered, Declared}
-use Rattle.rules.proofs.Laws.{some-none}
-use Rattle.rules.proofs.Held.{depth-counts}
+use Rattle.rules.proofs.Laws.{is-true, and-left, allOf, is-among, some-none}
+use Rattle.rules.proofs.Held.{balanced}
 use Rattle.sections.proofs.Ordered.{All-imp, sections-same, some-busy, settled}
 
--- ---- each section has a K of its own
+-- ---- each section has a K or C of its own
 
 push-long : {X : Type 0} (t n : ℕ) (e : E.Event X) (es : List (E.Event X)) (ss : List (Section X)) → Now t es ss → length (push t n e ss) ≡ length ss
 unfolding Now push
@@ -66,11 +66,17 @@ section-locks h (e ∷ es) d = go (e .kind) (e .thread) (holdsSome h (e .thread)
     joins x u ss r n = omega (arith, push-long u (suc (length es)) x (map view es) ss n, r)
 
     go : (k : Kind) (u : ℕ) (b : Bool) (ss : List (Section ℤ)) → length ss ≤ count locks es → (T b → Now u (map view es) ss)
-        → length (Q.next (viewed u k) (told b) (suc (length es)) ss) ≤ cond (among (K ∷ []) (letter k)) (suc (count locks es)) (count locks es)
+        → length (Q.next (viewed u k) (told b) (suc (length es)) ss) ≤ cond (among (K ∷ C ∷ []) (letter k)) (suc (count locks es)) (count locks es)
     go (Lock l) u true ss r n = unfold Q.next in omega (arith, without-less u ss, r)
     go (Lock l) u false ss r n = unfold Q.next in omega (arith, r)
+    go (Resume l) u true ss r n = unfold Q.next in omega (arith, without-less u ss, r)
+    go (Resume l) u false ss r n = unfold Q.next in omega (arith, r)
     go (Unlock l) u true ss r n = unfold Q.next in joins (E.unlock 0 u l) u ss r (n tt)
     go (Unlock l) u false ss r n = unfold Q.next in r
+    go (Wait l) u true ss r n = unfold Q.next in joins (E.unlock 1 u l) u ss r (n tt)
+    go (Wait l) u false ss r n = unfold Q.next in r
+    go (Notify l x) u true ss r n = unfold Q.next in joins (E.idle u) u ss r (n tt)
+    go (Notify l x) u false ss r n = unfold Q.next in r
     go (Use v x) u true ss r n = unfold Q.next in joins (E.mem E.Use u v x) u ss r (n tt)
     go (Use v x) u false ss r n = unfold Q.next in r
     go (Assign v x) u true ss r n = unfold Q.next in joins (E.mem E.Assign u v x) u ss r (n tt)
@@ -135,14 +141,14 @@ module _ (f : Event → ℕ) where
   under-less p q (suc n) es g = omega (arith, split p n es, split q n es, under-less p q n es (λ i b. g i (omega arith)), g n (omega arith))
 
   -- no more pass p than q, where this is so for each number
-  pub no-more : (p q : Event → Bool) (n : ℕ) (es : List Event) → All (λ (e : Event). p e ≡ true → f e < n) es → All (λ (e : Event). q e ≡ true → f e < n) es
+  no-more : (p q : Event → Bool) (n : ℕ) (es : List Event) → All (λ (e : Event). p e ≡ true → f e < n) es → All (λ (e : Event). q e ≡ true → f e < n) es
       → ((i : ℕ) → i < n → with p i es ≤ with q i es) → count p es ≤ count q es
   no-more p q n es a b g = omega (arith, all-under p n es a, all-under q n es b, under-less p q n es g)
 
--- ---- no more K than N
+-- ---- no more of one letter than of another, where this is so for each thread and lock
 
-lock-low : (h : Counts) (t ln : ℕ) (k : Kind) → Numbered h k → locks (record { thread = t; line = ln; kind = k }) ≡ true → place k < h .locks
-unfolding locks is
+lock-low : (h : Counts) (t ln : ℕ) (k : Kind) → Numbered h k → onLock (record { thread = t; line = ln; kind = k }) ≡ true → place k < h .locks
+unfolding onLock is
 lock-low h t ln (Use v x) m q = absurd (false≢true q)
 lock-low h t ln (Assign v x) m q = absurd (false≢true q)
 lock-low h t ln (Load v x) m q = absurd (false≢true q)
@@ -150,79 +156,109 @@ lock-low h t ln (Store v x) m q = absurd (false≢true q)
 lock-low h t ln (Read v x) m q = absurd (false≢true q)
 lock-low h t ln (Write v x) m q = absurd (false≢true q)
 lock-low h t ln (Lock i) m q = m
-lock-low h t ln (Unlock i) m q = absurd (false≢true q)
+lock-low h t ln (Unlock i) m q = m
 lock-low h t ln (PrescientStore v x) m q = absurd (false≢true q)
 lock-low h t ln (PrescientAssign v x) m q = absurd (false≢true q)
+lock-low h t ln (Wait i) m q = m
+lock-low h t ln (Notify i x) m q = m
+lock-low h t ln (Resume i) m q = m
 
-unlock-low : (h : Counts) (t ln : ℕ) (k : Kind) → Numbered h k → unlocks (record { thread = t; line = ln; kind = k }) ≡ true → place k < h .locks
-unfolding unlocks is
-unlock-low h t ln (Use v x) m q = absurd (false≢true q)
-unlock-low h t ln (Assign v x) m q = absurd (false≢true q)
-unlock-low h t ln (Load v x) m q = absurd (false≢true q)
-unlock-low h t ln (Store v x) m q = absurd (false≢true q)
-unlock-low h t ln (Read v x) m q = absurd (false≢true q)
-unlock-low h t ln (Write v x) m q = absurd (false≢true q)
-unlock-low h t ln (Lock i) m q = absurd (false≢true q)
-unlock-low h t ln (Unlock i) m q = m
-unlock-low h t ln (PrescientStore v x) m q = absurd (false≢true q)
-unlock-low h t ln (PrescientAssign v x) m q = absurd (false≢true q)
+and-swap : (a b c : Bool) → ((a && b) && c) ≡ (a && (b && c))
+and-swap true b c = refl
+and-swap false b c = refl
 
-and-l : (a b : Bool) → (a && b) ≡ true → a ≡ true
-and-l true b q = refl
-and-l false b q = q
+module _ (h : Counts) (es : List Event) (d : All (Declared h) es) where
+  -- letters of lock events
+  abbrev Locking : List ℕ → Type 0
+  Locking ks = T (allOf (among lockLetters) ks)
 
-module _ (h : Counts) (es : List Event) (d : All (Declared h) es) (v : Valid h es) (u : unfinished h es ≡ false) where
-  -- of one thread on one lock
-  pair : (t l : ℕ) → t < h .threads → l < h .locks → count (acquires t l) es ≤ count (releases t l) es
-  unfolding holdsSome wordsOf
-  pair t l ht hl =
-      let b : held (wordsOf es) t l ≡ false = some-none (h .locks) (λ l. held (wordsOf es) t l) (settled h es u t ht .0) l hl in
-      let z : depth t l es ≤ 0 = ltb-false 0 (depth t l es) b in
-      omega (arith, z, depth-counts h t l es v)
+  low : (ks : List ℕ) (t : ℕ) → Locking ks → All (λ (e : Event). (is ks e && of t e) ≡ true → loc e < h .locks) es
+  unfolding onLock
+  low ks t o = All-imp (Declared h) (λ (e : Event). (is ks e && of t e) ≡ true → loc e < h .locks) es
+      (λ e n q. lock-low h (e .thread) (e .line) (e .kind) (n .1) (is-true (is-among ks lockLetters e o (and-left (is ks e) (of t e) (subst T (sym q) tt)))))
+      d
 
-  and-swap : (a b c : Bool) → ((a && b) && c) ≡ (a && (b && c))
-  and-swap true b c = refl
-  and-swap false b c = refl
+  -- the letter j, and the letter k
+  module _ (j k : ℕ) (a : Locking (j ∷ [])) (b : Locking (k ∷ [])) (g : (t l : ℕ) → t < h .threads → l < h .locks → count (by (j ∷ []) t l) es ≤ count (by (k ∷ []) t l) es) where
+    -- of one thread
+    of-thread : (t : ℕ) → t < h .threads → count (λ e. is (j ∷ []) e && of t e) es ≤ count (λ e. is (k ∷ []) e && of t e) es
+    unfolding by on
+    of-thread t ht = no-more loc (λ e. is (j ∷ []) e && of t e) (λ e. is (k ∷ []) e && of t e) (h .locks) es (low (j ∷ []) t a) (low (k ∷ []) t b)
+        (λ l hl. omega (
+          arith,
+          g t l ht hl,
+          count-same (λ e. (is (j ∷ []) e && of t e) && eqb (loc e) l) (by (j ∷ []) t l) es (λ e. and-swap (is (j ∷ []) e) (of t e) (eqb (loc e) l)),
+          count-same (λ e. (is (k ∷ []) e && of t e) && eqb (loc e) l) (by (k ∷ []) t l) es (λ e. and-swap (is (k ∷ []) e) (of t e) (eqb (loc e) l)),
+        ))
 
-  -- of one thread
-  thread-pair : (t : ℕ) → t < h .threads → count (λ e. locks e && of t e) es ≤ count (λ e. unlocks e && of t e) es
-  unfolding acquires releases on
-  thread-pair t ht = no-more loc (λ e. locks e && of t e) (λ e. unlocks e && of t e) (h .locks) es
-      (All-imp (Declared h) (λ (e : Event). (locks e && of t e) ≡ true → loc e < h .locks) es (λ e n q. lock-low h (e .thread) (e .line) (e .kind) (n .1) (and-l (locks e) (of t e) q)) d)
-      (All-imp (Declared h) (λ (e : Event). (unlocks e && of t e) ≡ true → loc e < h .locks) es (λ e n q. unlock-low h (e .thread) (e .line) (e .kind) (n .1) (and-l (unlocks e) (of t e) q)) d)
-      (λ l hl. omega (
-        arith,
-        pair t l ht hl,
-        count-same (λ e. (locks e && of t e) && eqb (loc e) l) (acquires t l) es (λ e. and-swap (locks e) (of t e) (eqb (loc e) l)),
-        count-same (λ e. (unlocks e && of t e) && eqb (loc e) l) (releases t l) es (λ e. and-swap (unlocks e) (of t e) (eqb (loc e) l)),
-      ))
+    of-all : count (is (j ∷ [])) es ≤ count (is (k ∷ [])) es
+    unfolding of
+    of-all = no-more (λ e. e .thread) (is (j ∷ [])) (is (k ∷ [])) (h .threads) es
+        (All-imp (Declared h) (λ (e : Event). is (j ∷ []) e ≡ true → e .thread < h .threads) es (λ e n q. n .0) d)
+        (All-imp (Declared h) (λ (e : Event). is (k ∷ []) e ≡ true → e .thread < h .threads) es (λ e n q. n .0) d)
+        of-thread
 
-  pairs-all : count locks es ≤ count unlocks es
-  unfolding of
-  pairs-all = no-more (λ e. e .thread) locks unlocks (h .threads) es
-      (All-imp (Declared h) (λ (e : Event). locks e ≡ true → e .thread < h .threads) es (λ e n q. n .0) d)
-      (All-imp (Declared h) (λ (e : Event). unlocks e ≡ true → e .thread < h .threads) es (λ e n q. n .0) d)
-      thread-pair
+-- ---- the K and C, and the N and Y
 
--- no event is both a K and an N
-apart : (es : List Event) → count locks es + count unlocks es ≤ length es
-unfolding count locks unlocks is
-apart [] = omega arith
-apart (e ∷ es) = go (letter (e .kind)) (ℕ-discrete (letter (e .kind)) K) (apart es)
+-- what locks is a K or a C, and no N and no Y
+parts : (es : List Event) → (count locks es ≤ count (is (K ∷ [])) es + count (is (C ∷ [])) es) × (count locks es + count (is (N ∷ [])) es + count (is (Y ∷ [])) es ≤ length es)
+unfolding count locks is
+parts [] = (omega arith, omega arith)
+parts (e ∷ es) = go (e .kind) (parts es)
   where
     x : ℕ
     x = count locks es
 
-    y : ℕ
-    y = count unlocks es
+    k : ℕ
+    k = count (is (K ∷ [])) es
 
-    go : (k : ℕ) → Dec (k ≡ K) → x + y ≤ length es → cond (among (K ∷ []) k) (suc x) x + cond (among (N ∷ []) k) (suc y) y ≤ suc (length es)
-    go k (yes p) r = rw p (omega (arith, r))
-    go k (no p) r = rw (ne-eqb K k (λ q. p (sym q))) (second (eqb N k) r)
-      where
-        second : (b : Bool) → x + y ≤ length es → x + cond (b || false) (suc y) y ≤ suc (length es)
-        second true r = omega (arith, r)
-        second false r = omega (arith, r)
+    c : ℕ
+    c = count (is (C ∷ [])) es
+
+    n : ℕ
+    n = count (is (N ∷ [])) es
+
+    y : ℕ
+    y = count (is (Y ∷ [])) es
+
+    more : {a : ℕ} → (x ≤ k + c) × (x + n + y ≤ a) → (x ≤ k + c) × (x + n + y ≤ suc a)
+    more r = (r .0, omega (arith, r .1))
+
+    go : (κ : Kind) → (x ≤ k + c) × (x + n + y ≤ length es)
+        → (cond (among (K ∷ C ∷ []) (letter κ)) (suc x) x ≤ cond (among (K ∷ []) (letter κ)) (suc k) k + cond (among (C ∷ []) (letter κ)) (suc c) c)
+        × (cond (among (K ∷ C ∷ []) (letter κ)) (suc x) x + cond (among (N ∷ []) (letter κ)) (suc n) n + cond (among (Y ∷ []) (letter κ)) (suc y) y ≤ suc (length es))
+    go (Use v z) r = more r
+    go (Assign v z) r = more r
+    go (Load v z) r = more r
+    go (Store v z) r = more r
+    go (Read v z) r = more r
+    go (Write v z) r = more r
+    go (Lock i) r = (omega (arith, r .0), omega (arith, r .1))
+    go (Unlock i) r = (r .0, omega (arith, r .1))
+    go (PrescientStore v z) r = more r
+    go (PrescientAssign v z) r = more r
+    go (Wait i) r = (r .0, omega (arith, r .1))
+    go (Notify i z) r = more r
+    go (Resume i) r = (omega (arith, r .0), omega (arith, r .1))
 
 pub locks-half : (h : Counts) (es : List Event) → All (Declared h) es → Valid h es → unfinished h es ≡ false → 2 * count locks es ≤ length es
-locks-half h es d v u = omega (arith, apart es, pairs-all h es d v u)
+unfolding holdsSome wordsOf waits
+locks-half h es d v u = omega (arith, parts es .0, parts es .1, of-all h es d K N tt tt undone, of-all h es d C Y tt tt waited)
+  where
+    unheld : (t l : ℕ) → t < h .threads → l < h .locks → held (wordsOf es) t l ≡ false
+    unheld t l ht hl = some-none (h .locks) (λ l. held (wordsOf es) t l) (settled h es u t ht .0) l hl
+
+    awake : (t l : ℕ) → t < h .threads → l < h .locks → waitsOn (wordsOf es) t l ≡ false
+    awake t l ht hl = some-none (h .locks) (λ l. waitsOn (wordsOf es) t l) (settled h es u t ht .2) l hl
+
+    -- nothing is held or remembered: each K is undone by an N
+    undone : (t l : ℕ) → t < h .threads → l < h .locks → count (by (K ∷ []) t l) es ≤ count (by (N ∷ []) t l) es
+    undone t l ht hl = omega (arith, balanced h t l es hl v .holds, ltb-false 0 (depth t l es) (unheld t l ht hl), ltb-false 0 (remembered t l es) (awake t l ht hl))
+
+    -- each C has a Y
+    waited : (t l : ℕ) → t < h .threads → l < h .locks → count (by (C ∷ []) t l) es ≤ count (by (Y ∷ []) t l) es
+    waited t l ht hl = see (ltb 0 (remembered t l es)) (balanced h t l es hl v .waited)
+      where
+        see : (b : Bool) → count (by (Y ∷ []) t l) es ≡ cond b (suc (count (by (C ∷ []) t l) es)) (count (by (C ∷ []) t l) es) → count (by (C ∷ []) t l) es ≤ count (by (Y ∷ []) t l) es
+        see true q = omega (arith, q)
+        see false q = omega (arith, q)

@@ -11,7 +11,7 @@ use lib.IntN.{ℤ}
 use lib.ListN.{length}
 use borrow.Author.Tests.{ltb-false}
 use Rattle.rules.specs.declared.Kind.{Kind}
-use Rattle.rules.specs.declared.Kind.the-variants.{Use, Assign, Load, Store, Read, Write, Lock, Unlock, PrescientStore, PrescientAssign}
+use Rattle.rules.specs.declared.Kind.the-variants.{Use, Assign, Load, Store, Read, Write, Lock, Unlock, PrescientStore, PrescientAssign, Wait, Notify, Resume}
 use Rattle.rules.specs.Events.{eqZ}
 use Rattle.rules.specs.declared.Slot.{Slot}
 use Rattle.rules.specs.Words.{first}
@@ -19,7 +19,7 @@ use Rattle.rules.specs.declared.Counts.{Counts}
 use Rattle.rules.specs.Rules.{Words, none?, unwritten, judge}
 use Rattle.rules.proofs.Laws.{some-none}
 use Rattle.rules.proofs.Cells.{eventBy}
-use Rattle.rules.proofs.Rows.{row-of}
+use Rattle.rules.proofs.Rows.{LockRow, UnlockRow, row-of}
 use Rattle.rules.proofs.Signed.{eqZ-true}
 use Rattle.serial.specs.Words as C
 use Rattle.serial.specs.Events as E
@@ -75,16 +75,15 @@ module _ (c : Counts) (w : Words) (u ln : ℕ) where
       go [] a ow fr st wr q = absurd (true≢false a)
       go (s ∷ ss) a ow fr st wr q = (slotted s, map slotted ss, refl, ow, fr, st, wr, eqZ-true x (s .value) q)
 
-  -- 13, at K: nothing is owed
-  own-lock : (l : ℕ) → judge c w (eventBy u ln (Lock l)) ≡ 0 → (v : ℕ) → v < c .variables → C.Allowed C.locks (cellOf w u v) (w .main v)
+  -- 13, at K and C: nothing is owed
+  own-lock : (l : ℕ) → LockRow c w u l → (v : ℕ) → v < c .variables → C.Allowed C.locks (cellOf w u v) (w .main v)
   unfolding cellOf
-  own-lock l p v h = some-none (c .variables) (λ v. w .pending u v) (row-of c w u ln (Lock l) p .notPending) v h
+  own-lock l r v h = some-none (c .variables) (λ v. w .pending u v) (r .notPending) v h
 
-  -- 15 and 16, at N: nothing is fresh, and with V not owed all is written
-  own-unlock : (l : ℕ) → judge c w (eventBy u ln (Unlock l)) ≡ 0 → (v : ℕ) → v < c .variables → C.Allowed C.unlocks (cellOf w u v) (w .main v)
+  -- 15 and 16, at N and Y: nothing is fresh, and with V not owed all is written
+  own-unlock : (l : ℕ) → UnlockRow c w u l → (v : ℕ) → v < c .variables → C.Allowed C.unlocks (cellOf w u v) (w .main v)
   unfolding cellOf unwritten
-  own-unlock l p v h =
-      let r = row-of c w u ln (Unlock l) p in
+  own-unlock l r v h =
       (some-none (c .variables) (λ v. w .fresh u v) (r .stored) v h, λ o. none-counted (w .stores u v) (rw o at (some-none (c .variables) (λ v. unwritten w u v) (r .written) v h)))
 
 -- an own act is allowed at the thread and the variable that see it as theirs
@@ -118,7 +117,10 @@ allowed c w (Load v′ x) u ln p t v h = seen w E.Load u v′ t v x (own-load c 
 allowed c w (Store v′ x) u ln p t v h = seen w E.Store u v′ t v x (own-store c w u ln v′ x p)
 allowed c w (Read v′ x) u ln p t v h = seen w E.Read u v′ t v x (own-read c w u ln v′ x p)
 allowed c w (Write v′ x) u ln p t v h = seen w E.Write u v′ t v x (own-write c w u ln v′ x p)
-allowed c w (Lock l) u ln p t v h = seen-lock w u t v (own-lock c w u ln l p v h)
-allowed c w (Unlock l) u ln p t v h = seen-unlock w u t v (own-unlock c w u ln l p v h)
+allowed c w (Lock l) u ln p t v h = seen-lock w u t v (own-lock c w u ln l (row-of c w u ln (Lock l) p) v h)
+allowed c w (Unlock l) u ln p t v h = seen-unlock w u t v (own-unlock c w u ln l (row-of c w u ln (Unlock l) p) v h)
+allowed c w (Wait l) u ln p t v h = seen-unlock w u t v (own-unlock c w u ln l (row-of c w u ln (Wait l) p) v h)
+allowed c w (Notify l x) u ln p t v h = tt
+allowed c w (Resume l) u ln p t v h = seen-lock w u t v (own-lock c w u ln l (row-of c w u ln (Resume l) p) v h)
 allowed c w (PrescientStore v′ x) u ln p t v h = seen w E.PrescientStore u v′ t v x (own-prescient-store c w u ln v′ x p)
 allowed c w (PrescientAssign v′ x) u ln p t v h = seen w E.PrescientAssign u v′ t v x (own-prescient-assign c w u ln v′ x p)

@@ -3,6 +3,7 @@ pub mod Cells
 pub mod Judged
 pub mod Whole
 pub mod Ordered
+pub mod Holding
 pub mod Places
 pub mod Steps
 pub mod Listed
@@ -14,3 +15,4 @@ pub mod Few
 pub mod Entries
 pub mod Demand3
 pub mod Examples
+pub mod Ten

@@ -9,7 +9,7 @@ use lib.ListN.{length}
 use Rattle.rules.specs.declared.Event.{Event}
 use Rattle.rules.specs.declared.Counts.{Counts}
 use Rattle.rules.specs.declared.Kind.{Kind}
-use Rattle.rules.specs.declared.Kind.the-variants.{Use, Assign, Load, Store, Read, Write, Lock, Unlock, PrescientStore, PrescientAssign}
+use Rattle.rules.specs.declared.Kind.the-variants.{Use, Assign, Load, Store, Read, Write, Lock, Unlock, PrescientStore, PrescientAssign, Wait, Notify, Resume}
 use Rattle.rules.specs.Events.{is, locks}
 use Rattle.rules.specs.Limits.{lineAfter}
 use Rattle.rules.specs.Words.{locksBy}
@@ -74,6 +74,9 @@ not-both t u ln (Lock l) a b = false≢true a
 not-both t u ln (Unlock l) a b = false≢true b
 not-both t u ln (PrescientStore v x) a b = false≢true b
 not-both t u ln (PrescientAssign v x) a b = false≢true b
+not-both t u ln (Wait l) a b = false≢true a
+not-both t u ln (Notify l x) a b = false≢true a
+not-both t u ln (Resume l) a b = false≢true a
 
 module _ (h : Counts) (guard : ℕ → ℕ) (events : List Event) where
   -- no line breaks both 20 and 21

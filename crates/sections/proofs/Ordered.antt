@@ -1,5 +1,5 @@
 -- A trace that no refusal of 10 to 23 meets has a serial order.
-use Prim.Native.Nat.{ℕ, zero, suc, pred, _-_, _≤_, _<_}
+use Prim.Native.Nat.{ℕ, zero, suc, _≤_, _<_}
 use native.Mathlib.Decide.{ℕ-discrete, decLt}
 use native.Mathlib.Omega.{arith}
 use mathlib.Core.Path.{_≡_, refl, sym, _∙_, subst}
@@ -12,12 +12,12 @@ use lib.IntN.{ℤ, pos}
 use lib.ListN.{length}
 use Rattle.rules.specs.declared.Event.{Event}
 use Rattle.rules.specs.declared.Kind.{Kind}
-use Rattle.rules.specs.declared.Kind.the-variants.{Use, Assign, Load, Store, Read, Write, Lock, Unlock, PrescientStore, PrescientAssign}
-use Rattle.rules.specs.Events.{A, B, P, R, is, of, on, locks, unlocks}
+use Rattle.rules.specs.declared.Kind.the-variants.{Use, Assign, Load, Store, Read, Write, Lock, Unlock, PrescientStore, PrescientAssign, Wait, Notify, Resume}
+use Rattle.rules.specs.Events.{B, P, is, of, on, locks, unlocks}
 use Rattle.rules.specs.declared.Counts.{Counts}
 use Rattle.rules.specs.Words.{by, pending, main, latest, letterIn}
 use Rattle.rules.specs.Rules as Rules
-use Rattle.rules.specs.Rules.{wordsOf, held}
+use Rattle.rules.specs.Rules.{wordsOf, held, waits}
 use Rattle.rules.specs.Limits.{lineAfter}
 use Rattle.rules.proofs.Laws.{is-true, and-left, and-right, or-false-left, or-false-right, some-has, some-none}
 use Rattle.serial.specs.Words as C
@@ -35,7 +35,7 @@ use Rattle.sections.specs.Refusals.{afterUnlock, notUnder, lateLock, unf
 use Rattle.sections.specs.Order.{told, sections}
 use Rattle.sections.proofs.Valid.{Valid, Numbered, Declared}
 use Rattle.sections.proofs.Cells.{cellOf, cells, mains, length-view, eqb-yes, eqb-no}
-use Rattle.sections.proofs.Whole.{accepted, exclusive, to-held, from-held, holds-below}
+use Rattle.sections.proofs.Whole.{accepted, exclusive, to-held, from-held, holds-known, holds-below}
 
 -- no event of the list breaks 20 or 21
 unfoldable pub orderly : Counts → (ℕ → ℕ) → List Event → Bool
@@ -47,41 +47,12 @@ All-imp P R [] f h = tt
 All-imp P R (a ∷ l) f h = (f a (h .0), All-imp P R l f (h .1))
 
 -- a lock that is held is declared
-pub lock-below : (h : Counts) (t l : ℕ) (es : List Event) → All (Declared h) es → 0 < H.held t l (map view es) → l < h .locks
-unfolding H.held
-lock-below h t l [] d b = absurd (omega arith)
-lock-below h t l (e ∷ es) d b = go (e .kind) (d .0 .1) b (lock-below h t l es (d .1))
-  where
-    go : (k : Kind) → Numbered h k → 0 < H.held t l (viewed (e .thread) k ∷ map view es) → (0 < H.held t l (map view es) → l < h .locks) → l < h .locks
-    go (Use v x) m b r = r b
-    go (Assign v x) m b r = r b
-    go (Load v x) m b r = r b
-    go (Store v x) m b r = r b
-    go (Read v x) m b r = r b
-    go (Write v x) m b r = r b
-    go (PrescientStore v x) m b r = r b
-    go (PrescientAssign v x) m b r = r b
-    go (Unlock i) m b r = both (ℕ-discrete (e .thread) t) (ℕ-discrete i l) b
-      where
-        less : (n : ℕ) → 0 < pred n → 0 < n
-        less n h = omega arith
-
-        both : (p : Dec (e .thread ≡ t)) (q : Dec (i ≡ l)) → 0 < H.where-both p q (pred (H.held t l (map view es))) (H.held t l (map view es)) → l < h .locks
-        both (yes p) (yes q) b = r (less (H.held t l (map view es)) b)
-        both (yes p) (no q) b = r b
-        both (no p) (yes q) b = r b
-        both (no p) (no q) b = r b
-    go (Lock i) m b r = both (ℕ-discrete (e .thread) t) (ℕ-discrete i l) b
-      where
-        both : (p : Dec (e .thread ≡ t)) (q : Dec (i ≡ l)) → 0 < H.where-both p q (suc (H.held t l (map view es))) (H.held t l (map view es)) → l < h .locks
-        both (yes p) (yes q) b = subst (λ j. j < h .locks) q m
-        both (yes p) (no q) b = r b
-        both (no p) (yes q) b = r b
-        both (no p) (no q) b = r b
+pub lock-below : (h : Counts) (t l : ℕ) (es : List Event) → All (Declared h) es → H.Holds t l (map view es) → l < h .locks
+lock-below h t l es d b = holds-known h t l es d b .1
 
 pub busy-some : (h : Counts) (t l : ℕ) (es : List Event) → All (Declared h) es → H.Holds t l (map view es) → holdsSome h t es ≡ true
-unfolding holdsSome H.Holds
-busy-some h t l es d b = some-has (h .locks) (λ l. held (wordsOf es) t l) l (lock-below h t l es d (omega (arith, b))) (to-held t l es b)
+unfolding holdsSome
+busy-some h t l es d b = some-has (h .locks) (λ l. held (wordsOf es) t l) l (lock-below h t l es d b) (to-held t l es b)
 
 pub whose : (k : Kind) (u : ℕ) → E.thread (viewed u k) ≡ u
 whose (Use v x) u = refl
@@ -94,12 +65,16 @@ whose (Lock l) u = refl
 whose (Unlock l) u = refl
 whose (PrescientStore v x) u = refl
 whose (PrescientAssign v x) u = refl
+whose (Wait l) u = refl
+whose (Notify l x) u = refl
+whose (Resume l) u = refl
 
 -- ---- 21
 
 pub unlocking : (k : Kind) (u ln t l j : ℕ) → viewed u k ≡ E.unlock j t l → unlocksBy t (record { thread = u; line = ln; kind = k }) ≡ true
 unfolding unlocksBy unlocks is of
 unlocking (Unlock i) u ln t l j p = eqb-yes u t (cc)
+unlocking (Wait i) u ln t l j p = eqb-yes u t (cc)
 unlocking (Use v x) u ln t l j p = cc
 unlocking (Assign v x) u ln t l j p = cc
 unlocking (Load v x) u ln t l j p = cc
@@ -109,12 +84,17 @@ unlocking (Write v x) u ln t l j p = cc
 unlocking (Lock i) u ln t l j p = cc
 unlocking (PrescientStore v x) u ln t l j p = cc
 unlocking (PrescientAssign v x) u ln t l j p = cc
+unlocking (Notify i x) u ln t l j p = cc
+unlocking (Resume i) u ln t l j p = cc
 
 shrunk : (h : Counts) (t : ℕ) (es : List Event) → All (Declared h) es → Q.Shrunk H.counted t (map view es) → afterUnlock h t es ≡ true
 unfolding Q.Shrunk afterUnlock
 shrunk h t [] d s = absurd s
-shrunk h t (e ∷ es) d s = rw (busy-some h t (s .0 .0) (e ∷ es) d (s .0 .1)) (go (s .1) (shrunk h t es (d .1)))
+shrunk h t (e ∷ es) d s = both (holdsSome h t (e ∷ es)) (unlocksBy t e || afterUnlock h t es) (busy-some h t (s .0 .0) (e ∷ es) d (s .0 .1)) (go (s .1) (shrunk h t es (d .1)))
   where
+    both : (a b : Bool) → a ≡ true → b ≡ true → (a && b) ≡ true
+    both a b p q = rw (p, q)
+
     go : ((l j : ℕ) × (view e ≡ E.unlock j t l)) ⊎ Q.Shrunk H.counted t (map view es) → (Q.Shrunk H.counted t (map view es) → afterUnlock h t es ≡ true) → (unlocksBy t e || afterUnlock h t es) ≡ true
     go (inl p) r = rw (unlocking (e .kind) (e .thread) (e .line) t (p .0) (p .1) (p .2))
     go (inr q) r = rw (r q) (or-true (unlocksBy t e))
@@ -122,6 +102,7 @@ shrunk h t (e ∷ es) d s = rw (busy-some h t (s .0 .0) (e ∷ es) d (s .0 .1)) 
 pub locking : (k : Kind) (u ln t l j : ℕ) → viewed u k ≡ E.lock j t l → (locks (record { thread = u; line = ln; kind = k }) ≡ true) × (u ≡ t)
 unfolding locks is
 locking (Lock i) u ln t l j p = (refl, cc)
+locking (Resume i) u ln t l j p = (refl, cc)
 locking (Use v x) u ln t l j p = (cc, cc)
 locking (Assign v x) u ln t l j p = (cc, cc)
 locking (Load v x) u ln t l j p = (cc, cc)
@@ -131,6 +112,8 @@ locking (Write v x) u ln t l j p = (cc, cc)
 locking (Unlock i) u ln t l j p = (cc, cc)
 locking (PrescientStore v x) u ln t l j p = (cc, cc)
 locking (PrescientAssign v x) u ln t l j p = (cc, cc)
+locking (Wait i) u ln t l j p = (cc, cc)
+locking (Notify i x) u ln t l j p = (cc, cc)
 
 not-true : (b : Bool) → T (not b) → b ≡ true → ⊥
 not-true true h p = h
@@ -182,6 +165,9 @@ under-one guard v es k u ln = go k
     go (PrescientStore v′ x) n p = own E.PrescientStore v′ x (λ q. absurd (false≢true q)) p
     go (Lock l) n p = absurd (false≢true p)
     go (Unlock l) n p = absurd (false≢true p)
+    go (Wait l) n p = absurd (false≢true p)
+    go (Notify l x) n p = absurd (false≢true p)
+    go (Resume l) n p = absurd (false≢true p)
 
 pub under : (h : Counts) (guard : ℕ → ℕ) (v : ℕ) (es : List Event) → T (orderly h guard es) → Q.Under H.counted (C.uses v) (guard v) (map view es)
 unfolding Q.Under orderly
@@ -209,12 +195,20 @@ no-debt h t v (e ∷ es) d b = step (eqb-no (e .thread) t (λ p. absurd (omega (
     step : eqb (e .thread) t ≡ false → letterIn (P ∷ []) (latest (by (P ∷ B ∷ []) t v) es) ≡ false → letterIn (P ∷ []) (cond (is (P ∷ B ∷ []) e && (eqb (e .thread) t && on v e)) (some e) (latest (by (P ∷ B ∷ []) t v) es)) ≡ false
     step p r = rw (none-of (is (P ∷ B ∷ []) e) (eqb (e .thread) t) p) r
 
--- t holds nothing, and owes nothing on a declared variable
-pub settled : (h : Counts) (es : List Event) → unfinished h es ≡ false → (t : ℕ) → t < h .threads → (holdsSome h t es ≡ false) × (Rules.some (h .variables) (λ v. pending t v es) ≡ false)
+-- t holds nothing, owes nothing on a declared variable, and waits on no declared lock
+pub settled : (h : Counts) (es : List Event) → unfinished h es ≡ false → (t : ℕ) → t < h .threads
+    → (holdsSome h t es ≡ false) × (Rules.some (h .variables) (λ v. pending t v es) ≡ false) × (waits h (wordsOf es) t ≡ false)
 unfolding unfinished
-settled h es f t b =
-    let q : (holdsSome h t es || Rules.some (h .variables) (λ v. pending t v es)) ≡ false = some-none (h .threads) (λ t. holdsSome h t es || Rules.some (h .variables) (λ v. pending t v es)) f t b in
-    (or-false-left (holdsSome h t es) (Rules.some (h .variables) (λ v. pending t v es)) q, or-false-right (holdsSome h t es) (Rules.some (h .variables) (λ v. pending t v es)) q)
+settled h es f t b = (or-false-left (holdsSome h t es) (owes || waits h (wordsOf es) t) q, or-false-left owes (waits h (wordsOf es) t) r, or-false-right owes (waits h (wordsOf es) t) r)
+  where
+    owes : Bool
+    owes = Rules.some (h .variables) (λ v. pending t v es)
+
+    q : (holdsSome h t es || (Rules.some (h .variables) (λ v. pending t v es) || waits h (wordsOf es) t)) ≡ false
+    q = some-none (h .threads) (λ t. holdsSome h t es || (Rules.some (h .variables) (λ v. pending t v es) || waits h (wordsOf es) t)) f t b
+
+    r : (Rules.some (h .variables) (λ v. pending t v es) || waits h (wordsOf es) t) ≡ false
+    r = or-false-right (holdsSome h t es) (Rules.some (h .variables) (λ v. pending t v es) || waits h (wordsOf es) t) q
 
 -- no lock is held
 pub unheld : (h : Counts) (es : List Event) → All (Declared h) es → unfinished h es ≡ false → (t l : ℕ) → H.Holds t l (map view es) → ⊥
@@ -256,6 +250,9 @@ names h (e ∷ es) d = (one (e .kind) (e .thread) (d .0 .1), names h es (d .1))
     one (Unlock l) u m = tt
     one (PrescientStore v x) u m = m
     one (PrescientAssign v x) u m = m
+    one (Wait l) u m = tt
+    one (Notify l x) u m = tt
+    one (Resume l) u m = tt
 
 -- ---- the order, by the rules' test of what a thread holds and by the theory's
 
@@ -353,13 +350,3 @@ unfolding denial orderly
 serial-order h guard events a d p =
     let f : T (orderly h guard (reverse events)) × (unfinished h (reverse events) ≡ false) = fit-from h guard [] events p tt in
     serial-run h guard events a d (f .0) (f .1)
-
-pub holds-lock : (j t l : ℕ) (es : List (E.Event ℤ)) → H.Holds t l (E.lock j t l ∷ es)
-unfolding H.Holds H.held
-holds-lock j t l es = go (ℕ-discrete t t) (ℕ-discrete l l)
-  where
-    go : (d : Dec (t ≡ t)) (d′ : Dec (l ≡ l)) → 0 < H.where-both d d′ (suc (H.held t l es)) (H.held t l es)
-    go (yes p) (yes q) = omega arith
-    go (yes p) (no q) = absurd (q refl)
-    go (no p) (yes q) = absurd (p refl)
-    go (no p) (no q) = absurd (p refl)

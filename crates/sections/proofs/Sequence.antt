@@ -12,7 +12,7 @@ use borrow.Author.Tests.{le-leb, lt-leb, eq-eqb, ne-eqb}
 use Rattle.rules.specs.declared.Event.{Event}
 use Rattle.rules.specs.declared.Counts.{Counts}
 use Rattle.rules.specs.declared.Kind.{Kind}
-use Rattle.rules.specs.declared.Kind.the-variants.{Use, Assign, Load, Store, Read, Write, Lock, Unlock, PrescientStore, PrescientAssign}
+use Rattle.rules.specs.declared.Kind.the-variants.{Use, Assign, Load, Store, Read, Write, Lock, Unlock, PrescientStore, PrescientAssign, Wait, Notify, Resume}
 use Rattle.rules.specs.Limits.{firstLine}
 use Rattle.rules.proofs.Bounds.{first-line-low}
 use Rattle.rules.specs.Events.{U, place, value, is, of, on}
@@ -81,6 +81,9 @@ assign-view m v t ln k = go k
     go (Write w x) = quiet E.Write w x refl
     go (Lock l) = refl
     go (Unlock l) = refl
+    go (Wait l) = refl
+    go (Notify l u) = refl
+    go (Resume l) = refl
     go (PrescientStore w x) = quiet E.PrescientStore w x refl
     go (PrescientAssign w x) = loud E.PrescientAssign w x refl
 
@@ -108,6 +111,9 @@ given-view (e ∷ es) m = go (e .kind) (given-view es (Trace.set (view e) m) ∙
     go (Write w x) h = h
     go (Lock l) h = h
     go (Unlock l) h = h
+    go (Wait l) h = h
+    go (Notify l u) h = h
+    go (Resume l) h = h
     go (PrescientStore w x) h = h
     go (PrescientAssign w x) h = h
 
@@ -126,5 +132,8 @@ stated-view (e ∷ es) = go (e .kind) (stated-view es)
     go (Write w x) h = h
     go (Lock l) h = h
     go (Unlock l) h = h
+    go (Wait l) h = h
+    go (Notify l u) h = h
+    go (Resume l) h = h
     go (PrescientStore w x) h = h
     go (PrescientAssign w x) h = h

@@ -3,47 +3,35 @@ use Prim.Native.Nat.{ℕ, zero, suc, _≤_, _<_}
 use native.Mathlib.Decide.{ℕ-discrete}
 use native.Mathlib.Omega.{arith}
 use mathlib.Core.Path.{_≡_, refl, sym, ap, _∙_, subst}
-use mathlib.Core.Logic.{_⊎_, inl, inr}
-use mathlib.Core.Bool.{Bool, true, false, _&&_, and-false, true≢false, false≢true}
-use mathlib.Core.List.{List, [], _∷_, map, reverse}
+use mathlib.Core.Bool.{Bool, true, false, _&&_, and-false, false≢true}
+use mathlib.Core.List.{List, [], _∷_, reverse}
 use mathlib.Core.Option.{some}
-use lib.Dec.{T, eqb}
+use lib.Dec.{T, eqb, eqb→eq}
 use lib.IntN.{ℤ}
 use lib.ListN.{length}
-use borrow.Author.Tests.{eq-eqb, ne-eqb, eqb-true}
+use borrow.Author.Tests.{eq-eqb, ne-eqb}
 use Rattle.rules.specs.declared.Event.{Event}
 use Rattle.rules.specs.declared.Kind.{Kind}
-use Rattle.rules.specs.declared.Kind.the-variants.{Use, Assign, Load, Store, Read, Write, Lock, Unlock, PrescientStore, PrescientAssign}
+use Rattle.rules.specs.declared.Kind.the-variants.{Use, Assign, Load, Store, Read, Write, Lock, Unlock, PrescientStore, PrescientAssign, Wait, Notify, Resume}
 use Rattle.rules.specs.declared.Counts.{Counts}
 use Rattle.rules.specs.Events.{is, of, locks, unlocks}
-use Rattle.rules.specs.Words.{locksBy, depth}
+use Rattle.rules.specs.Words.{locksBy, grip, depth}
 use Rattle.rules.specs.Rules as Rules
-use Rattle.rules.specs.Rules.{wordsOf}
+use Rattle.rules.specs.Rules.{loc, wordsOf, held}
+use Rattle.rules.proofs.Laws.{is-true, and-left, and-right}
 use Rattle.serial.specs.Events as E
 use Rattle.serial.specs.Lists.{All}
 use Rattle.serial.specs.Sections as Q
-use Rattle.serial.proofs.Counted as H
 use Rattle.sections.specs.View.{viewed, view}
 use Rattle.sections.specs.Order.{told, sections}
 use Rattle.sections.specs.Places.{soFar, unlocksBy, holdsSome}
-use Rattle.sections.proofs.Valid.{Valid, Declared}
-use Rattle.sections.proofs.Ordered.{whose, locking, unlocking, busy-some, some-busy, holds-lock}
-use Rattle.sections.proofs.Places.{locksAt, unlocksAt, holdsAfter, Here, at-place, length-so-far, all-so-far, lock-signal, unlock-signal, holds-more}
+use Rattle.sections.proofs.Valid.{Valid, row, Declared}
+use Rattle.sections.proofs.Whole.{from-held}
+use Rattle.sections.proofs.Ordered.{whose, busy-some}
+use Rattle.sections.proofs.Holding.{keeps-held, stays-idle, lock-taken}
+use Rattle.sections.proofs.Places.{locksAt, unlocksAt, holdsAfter, Here, at-place, length-so-far, all-so-far, valid-so-far, lock-signal, unlock-signal, holds-more}
 use Rattle.serial.proofs.Stacks.{own, grow, own-push, own-next-other, own-next-lock, own-next-open}
 use Rattle.serial.proofs.Signals.{Step, Stack, none-yet, other-busy, out, opening, raising, going}
-
-as-lock : (u t ln : ℕ) (k : Kind) → locksBy u (record { thread = t; line = ln; kind = k }) ≡ true → (l : ℕ) × (viewed t k ≡ E.lock 0 u l)
-unfolding locksBy locks is of
-as-lock u t ln (Lock l) h = (l, ap (λ w. viewed w (Lock l)) (eqb-true t u h))
-as-lock u t ln (Use v x) h = absurd (false≢true h)
-as-lock u t ln (Assign v x) h = absurd (false≢true h)
-as-lock u t ln (Load v x) h = absurd (false≢true h)
-as-lock u t ln (Store v x) h = absurd (false≢true h)
-as-lock u t ln (Read v x) h = absurd (false≢true h)
-as-lock u t ln (Write v x) h = absurd (false≢true h)
-as-lock u t ln (Unlock l) h = absurd (false≢true h)
-as-lock u t ln (PrescientStore v x) h = absurd (false≢true h)
-as-lock u t ln (PrescientAssign v x) h = absurd (false≢true h)
 
 not-both : (u t ln : ℕ) (k : Kind) → locksBy u (record { thread = t; line = ln; kind = k }) ≡ true → unlocksBy u (record { thread = t; line = ln; kind = k }) ≡ false
 unfolding locksBy unlocksBy locks unlocks is
@@ -57,13 +45,12 @@ not-both u t ln (Write v x) q = refl
 not-both u t ln (Unlock l) q = absurd (false≢true q)
 not-both u t ln (PrescientStore v x) q = refl
 not-both u t ln (PrescientAssign v x) q = refl
-
-is-lock : (u l j : ℕ) (e : Event) → view e ≡ E.lock j u l → locksBy u e ≡ true
-unfolding locksBy of
-is-lock u l j e p = let q : (locks e ≡ true) × (e .thread ≡ u) = locking (e .kind) (e .thread) (e .line) u l j p in rw (q .0, eq-eqb (e .thread) u (q .1))
+not-both u t ln (Wait l) q = absurd (false≢true q)
+not-both u t ln (Notify l x) q = refl
+not-both u t ln (Resume l) q = refl
 
 none-held : (n : ℕ) (t : ℕ) → Rules.some n (λ l. Rules.held (wordsOf []) t l) ≡ false
-unfolding Rules.some wordsOf depth
+unfolding Rules.some wordsOf depth grip
 none-held zero t = refl
 none-held (suc n) t = none-held n t
 
@@ -104,29 +91,24 @@ module _ (c : Counts) (events : List Event) (d : All (Declared c) events) (a : V
 
       lock-holds : locksAt u events (suc n) ≡ true → holdsAfter c u events (suc n) ≡ true
       lock-holds k =
-          let w : (l : ℕ) × (view e ≡ E.lock 0 u l) = as-lock u (e .thread) (e .line) (e .kind) (sym l-sig ∙ k) in
-          now ∙ busy-some c u (w .0) (e ∷ es) both
-          (subst (λ x. H.Holds u (w .0) (x ∷ map view es)) (sym (w .1))
-          (holds-lock 0 u (w .0) (map view es)))
+          now ∙ busy-some c u (loc e) (e ∷ es) both
+          (from-held u (loc e) (e ∷ es)
+          (subst (λ t. held (wordsOf (e ∷ es)) t (loc e) ≡ true) mine (lock-taken c es (e .kind) (e .thread) (e .line) (row c e es valid) (is-true (and-left (locks e) (of u e) here)))))
+        where
+          here : T (locks e && of u e)
+          here = unfold locksBy in subst T (sym (sym l-sig ∙ k)) tt
+
+          mine : e .thread ≡ u
+          mine = unfold of in eqb→eq (e .thread) u (and-right (locks e) (of u e) here)
+
+          valid : Valid c (e ∷ es)
+          valid = subst (λ l. Valid c l) (at .more) (valid-so-far c (suc n) events a)
 
       idle-keeps : holdsAfter c u events n ≡ false → locksAt u events (suc n) ≡ false → holdsAfter c u events (suc n) ≡ false
-      idle-keeps i k = now ∙ go (holdsSome c u (e ∷ es)) refl
-        where
-          back : (l : ℕ) → ((j : ℕ) × (view e ≡ E.lock j u l)) ⊎ H.Holds u l (map view es) → ⊥
-          back l (inl p) = true≢false (sym (is-lock u l (p .0) e (p .1)) ∙ sym l-sig ∙ k)
-          back l (inr g) = true≢false (sym (busy-some c u l es before g) ∙ sym was ∙ i)
-
-          go : (b : Bool) → holdsSome c u (e ∷ es) ≡ b → b ≡ false
-          go true q =
-              let w : (l : ℕ) × H.Holds u l (map view (e ∷ es)) = some-busy c u (e ∷ es) (subst T (sym q) tt) in
-              absurd (back (w .0) (H.holds-back u (w .0) (view e) (map view es) (w .1)))
-          go false q = refl
+      idle-keeps i k = now ∙ stays-idle c u e es (sym l-sig ∙ k) (sym was ∙ i)
 
       busy-keeps : holdsAfter c u events n ≡ true → unlocksAt u events (suc n) ≡ false → holdsAfter c u events (suc n) ≡ true
-      busy-keeps i k =
-          let w : (l : ℕ) × H.Holds u l (map view es) = some-busy c u es (subst T (sym (sym was ∙ i)) tt) in
-          now ∙ busy-some c u (w .0) (e ∷ es) both
-          (H.holds-keep u (w .0) (view e) (map view es) (w .1) (λ l j p. true≢false (sym (unlocking (e .kind) (e .thread) (e .line) u l j p) ∙ sym u-sig ∙ k)))
+      busy-keeps i k = now ∙ keeps-held c u e es (sym u-sig ∙ k) (sym was ∙ i)
 
       apart : locksAt u events (suc n) ≡ true → unlocksAt u events (suc n) ≡ false
       apart k = u-sig ∙ not-both u (e .thread) (e .line) (e .kind) (sym l-sig ∙ k)
@@ -144,9 +126,9 @@ module _ (L F G : ℕ → Bool) (n : ℕ) (f : Step L F G n) where
     plainly x p q k true g st = rw p (going L F G n f u x (own u ss) k g st)
     plainly x p q k false g st = rw (q, f .idle-keeps g k) (out L F G n f (own u ss) g st)
 
-    locked : (l : ℕ) → L (suc n) ≡ true → (b : Bool) → G n ≡ b → Stack L F G b n (own u ss) → Stack L F G (G (suc n)) (suc n) (own u (Q.next (E.lock 0 u l) (told b) (suc n) ss))
-    locked l k true g st = rw (own-next-lock {B = T true} 0 u l (tt {0}) (suc n) ss, f .lock-holds k) (raising L F G n f u (E.lock 0 u l) (own u ss) k st)
-    locked l k false g st = rw (own-next-open {B = T false} 0 u l (λ t. t) (suc n) ss, f .lock-holds k) (opening L F G n f u (E.lock 0 u l) (own u ss) g k st)
+    locked : (j l : ℕ) → L (suc n) ≡ true → (b : Bool) → G n ≡ b → Stack L F G b n (own u ss) → Stack L F G (G (suc n)) (suc n) (own u (Q.next (E.lock j u l) (told b) (suc n) ss))
+    locked j l k true g st = rw (own-next-lock {B = T true} j u l (tt {0}) (suc n) ss, f .lock-holds k) (raising L F G n f u (E.lock j u l) (own u ss) k st)
+    locked j l k false g st = rw (own-next-open {B = T false} j u l (λ t. t) (suc n) ss, f .lock-holds k) (opening L F G n f u (E.lock j u l) (own u ss) g k st)
 
     mine : (ln : ℕ) (k : Kind) → L (suc n) ≡ locks (record { thread = u; line = ln; kind = k }) → (b : Bool) → G n ≡ b → Stack L F G b n (own u ss)
         → Stack L F G (G (suc n)) (suc n) (own u (Q.next (viewed u k) (told b) (suc n) ss))
@@ -157,8 +139,11 @@ module _ (L F G : ℕ → Bool) (n : ℕ) (f : Step L F G n) where
     mine ln (Store v x) k b g st = plainly (E.mem E.Store u v x) (own-push u (suc n) (E.mem E.Store u v x) ss) refl k b g st
     mine ln (Read v x) k b g st = plainly (E.mem E.Read u v x) (own-push u (suc n) (E.mem E.Read u v x) ss) refl k b g st
     mine ln (Write v x) k b g st = plainly (E.mem E.Write u v x) (own-push u (suc n) (E.mem E.Write u v x) ss) refl k b g st
-    mine ln (Lock l) k b g st = locked l k b g st
+    mine ln (Lock l) k b g st = locked 0 l k b g st
     mine ln (Unlock l) k b g st = plainly (E.unlock 0 u l) (own-push u (suc n) (E.unlock 0 u l) ss) refl k b g st
+    mine ln (Wait l) k b g st = plainly (E.unlock 1 u l) (own-push u (suc n) (E.unlock 1 u l) ss) refl k b g st
+    mine ln (Notify l x) k b g st = plainly (E.idle u) (own-push u (suc n) (E.idle u) ss) refl k b g st
+    mine ln (Resume l) k b g st = locked 1 l k b g st
     mine ln (PrescientStore v x) k b g st = plainly (E.mem E.PrescientStore u v x) (own-push u (suc n) (E.mem E.PrescientStore u v x) ss) refl k b g st
     mine ln (PrescientAssign v x) k b g st = plainly (E.mem E.PrescientAssign u v x) (own-push u (suc n) (E.mem E.PrescientAssign u v x) ss) refl k b g st
 

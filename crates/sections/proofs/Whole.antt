@@ -1,28 +1,28 @@
 -- Demand 3 from the rules' own acceptance.
-use Prim.Native.Nat.{ℕ, suc, pred, _-_, _<_}
-use native.Mathlib.Decide.{ℕ-discrete}
+use Prim.Native.Nat.{ℕ, _+_, _<_}
+use native.Mathlib.Decide.{ℕ-discrete, decLt}
 use native.Mathlib.Omega.{arith}
 use mathlib.Core.Path.{_≡_, refl, sym, ap, _∙_, subst}
 use mathlib.Core.Bool.{Bool, true, false, not, cond, _&&_, true≢false}
 use mathlib.Core.List.{List, [], _∷_, map}
 use lib.Dec.{T, eqb, eqb→eq}
-use lib.IntN.{pos}
-use borrow.Author.Tests.{lt-ltb, ltb-true}
+use lib.IntN.{ℤ, pos}
+use borrow.Author.Tests.{eqb-true, lt-ltb, ltb-true}
 use Rattle.rules.specs.declared.Event.{Event}
 use Rattle.rules.specs.declared.Kind.{Kind}
-use Rattle.rules.specs.declared.Kind.the-variants.{Use, Assign, Load, Store, Read, Write, Lock, Unlock, PrescientStore, PrescientAssign}
-use Rattle.rules.specs.Events.{K, is, of, on, locks, unlocks}
+use Rattle.rules.specs.declared.Kind.the-variants.{Use, Assign, Load, Store, Read, Write, Lock, Unlock, PrescientStore, PrescientAssign, Wait, Notify, Resume}
+use Rattle.rules.specs.Events.{place, is, of, on, locks}
 use Rattle.rules.specs.declared.Counts.{Counts}
-use Rattle.rules.specs.Words.{acquires, releases, depth}
-use Rattle.rules.specs.Rules.{Words, wordsOf, loc, held, judge}
-use Rattle.rules.proofs.Laws.{and-left, and-right, lock-free, some-none}
+use Rattle.rules.specs.Words.{by, Grip, gripAfter, grip, depth, remembered}
+use Rattle.rules.specs.Rules.{Words, wordsOf, loc, held, waitsOn, judge}
+use Rattle.rules.proofs.Laws.{cases, lock-free, some-none}
 use Rattle.serial.specs.Words as C
 use Rattle.serial.specs.Events as E
 use Rattle.serial.specs.Sections as Q
 use Rattle.serial.proofs.Counted as H
 use Rattle.serial.specs.Lists.{All}
 use Rattle.sections.specs.View.{viewed, view}
-use Rattle.sections.proofs.Valid.{Valid, before, row, Declared}
+use Rattle.sections.proofs.Valid.{Valid, before, row, Numbered, Declared}
 use Rattle.sections.proofs.Cells.{cells, mains, eqb-yes, eqb-no}
 use Rattle.sections.proofs.Judged.{allowed}
 
@@ -35,78 +35,111 @@ accepted h v b (e ∷ es) a = (here, accepted h v b es (before h e es a))
     here : (t : ℕ) → C.Allowed (C.act t v (view e)) (C.cell (pos 0) t v (map view es)) (C.main (pos 0) v (map view es))
     here t = rw (cells h t v es (before h e es a), mains h v es (before h e es a)) (allowed h (wordsOf es) (e .kind) (e .thread) (e .line) (row h e es a) t v b)
 
--- ---- the locks: more K than N
+-- ---- the locks: what a thread has of a lock, in the theory's terms and in the rules'
 
-one-held : (t l : ℕ) (e : Event) (es : List Event) (m : ℕ) → H.held t l (map view es) ≡ m → H.held t l (map view (e ∷ es)) ≡ cond (acquires t l e) (suc m) (cond (releases t l e) (pred m) m)
-unfolding H.held acquires releases locks unlocks is of on
-one-held t l e es m h = go (e .kind) h
+where-cond : {X : Type 0} (u t i l : ℕ) (x g : X) → H.where-both (ℕ-discrete u t) (ℕ-discrete i l) x g ≡ cond (eqb u t && eqb i l) x g
+where-cond u t i l x g = go (ℕ-discrete u t) (ℕ-discrete i l)
   where
-    go : (k : Kind) → H.held t l (map view es) ≡ m
-        → H.held t l (viewed (e .thread) k ∷ map view es)
-        ≡ cond (acquires t l (record { thread = e .thread; line = e .line; kind = k })) (suc m) (cond (releases t l (record { thread = e .thread; line = e .line; kind = k })) (pred m) m)
-    go (Use v x) h = h
-    go (Assign v x) h = h
-    go (Load v x) h = h
-    go (Store v x) h = h
-    go (Read v x) h = h
-    go (Write v x) h = h
-    go (PrescientStore v x) h = h
-    go (PrescientAssign v x) h = h
-    go (Lock i) h = both (ℕ-discrete (e .thread) t) (ℕ-discrete i l)
-      where
-        both : (d : Dec (e .thread ≡ t)) (d′ : Dec (i ≡ l)) → H.where-both d d′ (suc (H.held t l (map view es))) (H.held t l (map view es)) ≡ cond (eqb (e .thread) t && eqb i l) (suc m) m
-        both (yes p) (yes q) = rw (eqb-yes (e .thread) t p, eqb-yes i l q) (ap suc h)
-        both (yes p) (no q) = rw (eqb-yes (e .thread) t p, eqb-no i l q) h
-        both (no p) (yes q) = rw (eqb-no (e .thread) t p) h
-        both (no p) (no q) = rw (eqb-no (e .thread) t p) h
-    go (Unlock i) h = both (ℕ-discrete (e .thread) t) (ℕ-discrete i l)
-      where
-        both : (d : Dec (e .thread ≡ t)) (d′ : Dec (i ≡ l)) → H.where-both d d′ (pred (H.held t l (map view es))) (H.held t l (map view es)) ≡ cond (eqb (e .thread) t && eqb i l) (pred m) m
-        both (yes p) (yes q) = rw (eqb-yes (e .thread) t p, eqb-yes i l q) (ap pred h)
-        both (yes p) (no q) = rw (eqb-yes (e .thread) t p, eqb-no i l q) h
-        both (no p) (yes q) = rw (eqb-no (e .thread) t p) h
-        both (no p) (no q) = rw (eqb-no (e .thread) t p) h
+    go : (d : Dec (u ≡ t)) (d′ : Dec (i ≡ l)) → H.where-both d d′ x g ≡ cond (eqb u t && eqb i l) x g
+    go (yes p) (yes q) = rw (eqb-yes u t p, eqb-yes i l q)
+    go (yes p) (no q) = rw (eqb-yes u t p, eqb-no i l q)
+    go (no p) (yes q) = rw (eqb-no u t p)
+    go (no p) (no q) = rw (eqb-no u t p)
 
--- the holds are the same
-pub helds : (t l : ℕ) (es : List Event) → H.held t l (map view es) ≡ depth t l es
-unfolding depth
-helds t l [] = unfold H.held in refl
-helds t l (e ∷ es) = one-held t l e es (depth t l es) (helds t l es)
+abbrev gripOf : Grip → H.Grip
+gripOf g = record { held = g .held; remembered = g .remembered }
+
+one-grip : (t l : ℕ) (es : List (E.Event ℤ)) (g : Grip) → H.grip t l es ≡ gripOf g → (k : Kind) (u ln : ℕ)
+    → H.grip t l (viewed u k ∷ es) ≡ gripOf (gripAfter t l (record { thread = u; line = ln; kind = k }) g)
+unfolding H.grip gripAfter by is of on
+one-grip t l es g h (Use v x) u ln = h
+one-grip t l es g h (Assign v x) u ln = h
+one-grip t l es g h (Load v x) u ln = h
+one-grip t l es g h (Store v x) u ln = h
+one-grip t l es g h (Read v x) u ln = h
+one-grip t l es g h (Write v x) u ln = h
+one-grip t l es g h (PrescientStore v x) u ln = h
+one-grip t l es g h (PrescientAssign v x) u ln = h
+one-grip t l es g h (Notify i x) u ln = h
+one-grip t l es g h (Lock i) u ln = where-cond u t i l (H.gained 0 (H.grip t l es)) (H.grip t l es) ∙ cases (eqb u t && eqb i l) (λ q. rw q (ap (H.gained 0) h)) (λ q. rw q h)
+one-grip t l es g h (Unlock i) u ln = where-cond u t i l (H.givenUp 0 (H.grip t l es)) (H.grip t l es) ∙ cases (eqb u t && eqb i l) (λ q. rw q (ap (H.givenUp 0) h)) (λ q. rw q h)
+one-grip t l es g h (Wait i) u ln = where-cond u t i l (H.givenUp 1 (H.grip t l es)) (H.grip t l es) ∙ cases (eqb u t && eqb i l) (λ q. rw q (ap (H.givenUp 1) h)) (λ q. rw q h)
+one-grip t l es g h (Resume i) u ln = where-cond u t i l (H.gained 1 (H.grip t l es)) (H.grip t l es) ∙ cases (eqb u t && eqb i l) (λ q. rw q (ap (H.gained 1) h)) (λ q. rw q h)
+
+pub grips : (t l : ℕ) (es : List Event) → H.grip t l (map view es) ≡ gripOf (grip t l es)
+unfolding grip
+grips t l [] = unfold H.grip in refl
+grips t l (e ∷ es) = one-grip t l (map view es) (grip t l es) (grips t l es) (e .kind) (e .thread) (e .line)
 
 -- Held, in the theory's terms and in the rules'
 pub to-held : (t l : ℕ) (es : List Event) → H.Holds t l (map view es) → held (wordsOf es) t l ≡ true
-unfolding H.Holds wordsOf
-to-held t l es h = lt-ltb 0 (depth t l es) (omega (arith, h, helds t l es))
+unfolding H.Holds wordsOf depth
+to-held t l es h = lt-ltb 0 (grip t l es .held) (rw (grips t l es) at h)
 
 pub from-held : (t l : ℕ) (es : List Event) → held (wordsOf es) t l ≡ true → H.Holds t l (map view es)
-unfolding H.Holds wordsOf
-from-held t l es h = let q : 0 < depth t l es = ltb-true 0 (depth t l es) h in omega (arith, q, helds t l es)
+unfolding H.Holds wordsOf depth
+from-held t l es h = rw (grips t l es) (ltb-true 0 (grip t l es .held) h)
 
--- ---- a thread that holds something is declared
+-- ---- a thread that holds or waits on something is declared, and so is the lock
 
-acquired-by : (t l : ℕ) (e : Event) → T (acquires t l e) → e .thread ≡ t
-unfolding acquires of
-acquired-by t l e b = eqb→eq (e .thread) t (and-left (of t e) (on l e) (and-right (locks e) (of t e && on l e) b))
+module _ (h : Counts) (t l : ℕ) (o : t < h .threads → l < h .locks → ⊥) where
+  -- no event is t's on l
+  miss : (u i : ℕ) → u < h .threads → i < h .locks → (eqb u t && eqb i l) ≡ false
+  miss u i a b = go (eqb u t) (eqb i l) refl refl
+    where
+      go : (x y : Bool) → eqb u t ≡ x → eqb i l ≡ y → (x && y) ≡ false
+      go true true p q = absurd (o (subst (λ j. j < h .threads) (eqb-true u t p) a) (subst (λ j. j < h .locks) (eqb-true i l q) b))
+      go true false p q = refl
+      go false y p q = refl
 
-below : (h : Counts) (t l : ℕ) (es : List Event) → All (Declared h) es → 0 < depth t l es → t < h .threads
-unfolding depth
-below h t l [] a b = absurd (omega arith)
-below h t l (e ∷ es) a b = go (acquires t l e) refl (releases t l e) b (below h t l es (a .1))
+  abbrev blank : Grip
+  blank = record { held = 0; remembered = 0 }
+
+  blank-on : (k : Kind) (u ln : ℕ) → u < h .threads → Numbered h k → gripAfter t l (record { thread = u; line = ln; kind = k }) blank ≡ blank
+  unfolding gripAfter by is of on
+  blank-on (Use v x) u ln a b = refl
+  blank-on (Assign v x) u ln a b = refl
+  blank-on (Load v x) u ln a b = refl
+  blank-on (Store v x) u ln a b = refl
+  blank-on (Read v x) u ln a b = refl
+  blank-on (Write v x) u ln a b = refl
+  blank-on (PrescientStore v x) u ln a b = refl
+  blank-on (PrescientAssign v x) u ln a b = refl
+  blank-on (Notify i x) u ln a b = refl
+  blank-on (Lock i) u ln a b = rw (miss u i a b)
+  blank-on (Unlock i) u ln a b = rw (miss u i a b)
+  blank-on (Wait i) u ln a b = rw (miss u i a b)
+  blank-on (Resume i) u ln a b = rw (miss u i a b)
+
+  no-grip : (es : List Event) → All (Declared h) es → grip t l es ≡ blank
+  unfolding grip
+  no-grip [] d = refl
+  no-grip (e ∷ es) d = ap (gripAfter t l e) (no-grip es (d .1)) ∙ blank-on (e .kind) (e .thread) (e .line) (d .0 .0) (d .0 .1)
+
+pub known : (h : Counts) (t l : ℕ) (es : List Event) → All (Declared h) es → 0 < grip t l es .held + grip t l es .remembered → (t < h .threads) × (l < h .locks)
+known h t l es d p = go (decLt t (h .threads)) (decLt l (h .locks))
   where
-    less : (n : ℕ) → 0 < pred n → 0 < n
-    less n h = omega arith
+    none : (t < h .threads → l < h .locks → ⊥) → ⊥
+    none o = absurd (omega (arith, rw (no-grip h t l o es d) at p))
 
-    go : (c : Bool) → acquires t l e ≡ c → (r : Bool) → 0 < cond c (suc (depth t l es)) (cond r (pred (depth t l es)) (depth t l es)) → (0 < depth t l es → t < h .threads) → t < h .threads
-    go true p r b f = subst (λ i. i < h .threads) (acquired-by t l e (subst T (sym p) tt)) (a .0 .0)
-    go false p true b f = f (less (depth t l es) b)
-    go false p false b f = f b
+    go : Dec (t < h .threads) → Dec (l < h .locks) → (t < h .threads) × (l < h .locks)
+    go (yes a) (yes b) = (a, b)
+    go (yes a) (no b) = absurd (none (λ x y. b y))
+    go (no a) b = absurd (none (λ x y. a x))
+
+pub holds-known : (h : Counts) (t l : ℕ) (es : List Event) → All (Declared h) es → H.Holds t l (map view es) → (t < h .threads) × (l < h .locks)
+unfolding H.Holds
+holds-known h t l es d b = known h t l es d (let q : 0 < grip t l es .held = rw (grips t l es) at b in omega arith)
 
 pub holds-below : (h : Counts) (t l : ℕ) (es : List Event) → All (Declared h) es → H.Holds t l (map view es) → t < h .threads
-unfolding H.Holds
-holds-below h t l es a b = below h t l es a (omega (arith, b, helds t l es))
+holds-below h t l es d b = holds-known h t l es d b .0
+
+pub waits-known : (h : Counts) (t l : ℕ) (es : List Event) → All (Declared h) es → waitsOn (wordsOf es) t l ≡ true → (t < h .threads) × (l < h .locks)
+unfolding wordsOf remembered
+waits-known h t l es d b = known h t l es d (let q : 0 < grip t l es .remembered = ltb-true 0 (grip t l es .remembered) b in omega arith)
 
 -- 11, as the theory words it
-sole : (h : Counts) (w : Words) (e : Event) (t : ℕ) → judge h w e ≡ 0 → T (is (K ∷ []) e) → t < h .threads → held w t (loc e) ≡ true → t ≡ e .thread
+sole : (h : Counts) (w : Words) (e : Event) (t : ℕ) → judge h w e ≡ 0 → T (locks e) → t < h .threads → held w t (loc e) ≡ true → t ≡ e .thread
 sole h w e t p k b q = go (eqb t (e .thread)) refl (rw q at (some-none (h .threads) (λ t. not (eqb t (e .thread)) && held w t (loc e)) (lock-free h w e p k) t b))
   where
     go : (c : Bool) → eqb t (e .thread) ≡ c → (not c && true) ≡ false → t ≡ e .thread
@@ -116,18 +149,23 @@ sole h w e t p k b q = go (eqb t (e .thread)) refl (rw q at (some-none (h .threa
 pub exclusive : (h : Counts) (es : List Event) → All (Declared h) es → Valid h es → Q.Exclusive H.counted (map view es)
 unfolding Q.Exclusive
 exclusive h [] d a = tt
-exclusive h (e ∷ es) d a = (λ t l i p u b. go (e .kind) (row h e es a) t l i p u b, exclusive h es (d .1) (before h e es a))
+exclusive h (e ∷ es) d a = (λ t l j p u b. go (e .kind) (row h e es a) t l j p u b, exclusive h es (d .1) (before h e es a))
   where
-    go : (k : Kind) → judge h (wordsOf es) (record { thread = e .thread; line = e .line; kind = k }) ≡ 0 → (t l n : ℕ) → viewed (e .thread) k ≡ E.lock n t l → (u : ℕ) → H.Holds u l (map view es) → u ≡ t
-    go (Lock i) j t l n p u b =
-        let q : i ≡ l = cc in let r : e .thread ≡ t = cc in
-        sole h (wordsOf es) (record { thread = e .thread; line = e .line; kind = Lock i }) u j (unfold is in tt) (holds-below h u l es (d .1) b) (subst (λ m. held (wordsOf es) u m ≡ true) (sym q) (to-held u l es b)) ∙ r
-    go (Use v x) j t l n p u b = cc
-    go (Assign v x) j t l n p u b = cc
-    go (Load v x) j t l n p u b = cc
-    go (Store v x) j t l n p u b = cc
-    go (Read v x) j t l n p u b = cc
-    go (Write v x) j t l n p u b = cc
-    go (Unlock i) j t l n p u b = cc
-    go (PrescientStore v x) j t l n p u b = cc
-    go (PrescientAssign v x) j t l n p u b = cc
+    one : (k : Kind) → judge h (wordsOf es) (record { thread = e .thread; line = e .line; kind = k }) ≡ 0 → T (locks (record { thread = e .thread; line = e .line; kind = k })) → (u l : ℕ) → place k ≡ l → H.Holds u l (map view es) → u ≡ e .thread
+    one k j x u l q b =
+        sole h (wordsOf es) (record { thread = e .thread; line = e .line; kind = k }) u j x (holds-below h u l es (d .1) b) (subst (λ m. held (wordsOf es) u m ≡ true) (sym q) (to-held u l es b))
+
+    go : (k : Kind) → judge h (wordsOf es) (record { thread = e .thread; line = e .line; kind = k }) ≡ 0 → (t l j : ℕ) → viewed (e .thread) k ≡ E.lock j t l → (u : ℕ) → H.Holds u l (map view es) → u ≡ t
+    go (Lock i) r t l j p u b = one (Lock i) r (unfold locks is in tt) u l (cc) b ∙ cc
+    go (Resume i) r t l j p u b = one (Resume i) r (unfold locks is in tt) u l (cc) b ∙ cc
+    go (Use v x) r t l j p u b = cc
+    go (Assign v x) r t l j p u b = cc
+    go (Load v x) r t l j p u b = cc
+    go (Store v x) r t l j p u b = cc
+    go (Read v x) r t l j p u b = cc
+    go (Write v x) r t l j p u b = cc
+    go (Unlock i) r t l j p u b = cc
+    go (PrescientStore v x) r t l j p u b = cc
+    go (PrescientAssign v x) r t l j p u b = cc
+    go (Wait i) r t l j p u b = cc
+    go (Notify i x) r t l j p u b = cc

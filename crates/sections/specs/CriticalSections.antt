@@ -1,4 +1,5 @@
--- Document 01, "Sections": the critical sections of a trace and their serial order, read off its lines.
+-- Document 01, "Sections": the critical sections of a trace and their serial order, read off its lines. Document 02 (i): where a K is meant C counts too, and
+-- where an N is meant Y.
 use Prim.Native.Nat.{ℕ, zero, suc, _-_, _≤_, _<_}
 use mathlib.Core.Path.{_≡_}
 use mathlib.Core.Logic.{_⊎_}

@@ -23,8 +23,8 @@ pub record AcceptedTrace (m : Limits) (h : Counts) (events : List Event) : Type 
 -- What is answered about the order of an accepted trace with guards, and the list that is given with `fit`: one claim about the
 -- whole list of events.
 pub record Demand3 (h : Counts) (guard : ℕ → ℕ) (events : List Event) (answer : Denial) (order : List Entry) : Type 0 where
-  -- It gets an order exactly when each U, A and B is made under its variable's guard, no K comes after an N in the same section,
-  -- and at the end no lock is held and no assign owed.
+  -- It gets an order exactly when each U, A and B is made under its variable's guard, no K (or C) comes after an N (or Y) in the same section,
+  -- and at the end no lock is held, no assign owed and no thread waiting.
   pub only-when : answer ≡ fit → Orderly h guard events
   pub when : Orderly h guard events → answer ≡ fit
   -- Otherwise number and line: 20 and 21 event by event, 22 last (trailer line).

@@ -28,7 +28,7 @@ pub record Unguarded (h : Counts) (guard : ℕ → ℕ) (events : List Event) (l
   pub notUnder : Rules.held (wordsOf (upTo h (line - 1) events)) (event .thread) (guard (loc event)) ≡ false
 
 -- 21. K by a thread after an N in the same section: one stands in this line. The thread holds something all the time from
--- that N to this K.
+-- that N, or Y, to this K, or C.
 pub record LateLock (h : Counts) (events : List Event) (line : ℕ) : Type 0 where
   pub thread : ℕ
   pub locks : lockAt h thread events line ≡ true
@@ -37,7 +37,7 @@ pub record LateLock (h : Counts) (events : List Event) (line : ℕ) : Type 0 whe
   pub unlocks : unlockAt h thread events earlier ≡ true
   pub same : (n : ℕ) → earlier ≤ n → n < line → holding h thread events n ≡ true
 
--- 22. At the end a lock is held or an assign owed.
+-- 22. At the end a lock is held or an assign owed. Document 02 (i): "a thread still waiting makes 22".
 pub record HeldAtEnd (events : List Event) : Type 0 where
   pub thread : ℕ
   pub lock : ℕ
@@ -48,8 +48,13 @@ pub record PendingAtEnd (events : List Event) : Type 0 where
   pub variable : ℕ
   pub pending : Earlier.pending thread variable (reverse events) ≡ true
 
+pub record WaitingAtEnd (events : List Event) : Type 0 where
+  pub thread : ℕ
+  pub lock : ℕ
+  pub waiting : Rules.waitsOn (wordsOf (reverse events)) thread lock ≡ true
+
 abbrev pub Unfinished : List Event → Type 0
-Unfinished events = HeldAtEnd events ⊎ PendingAtEnd events
+Unfinished events = HeldAtEnd events ⊎ (PendingAtEnd events ⊎ WaitingAtEnd events)
 
 -- no line before this one breaks 20 or 21
 pub record Clean (h : Counts) (guard : ℕ → ℕ) (events : List Event) (line : ℕ) : Type 0 where

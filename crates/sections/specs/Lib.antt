@@ -9,3 +9,5 @@ pub mod View
 pub mod Refusals
 pub mod Order
 pub mod Entries
+-- as it was before document 02 (i)
+pub mod Ten

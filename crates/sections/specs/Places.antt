@@ -44,7 +44,7 @@ upTo h line events = soFar (position h line) events
 unfoldable pub usesOrAssigns : Event → Bool
 usesOrAssigns e = is (U ∷ A ∷ B ∷ []) e
 
--- T unlocks, on whichever lock
+-- T unlocks, on whichever lock: an N, or a Y, which counts "as an unlock of each hold given up"
 unfoldable pub unlocksBy : ℕ → Event → Bool
 unlocksBy t e = unlocks e && of t e
 
@@ -52,11 +52,11 @@ abbrev pub passes : (Event → Bool) → Option Event → Bool
 passes f none = false
 passes f (some e) = f e
 
--- in this line stands a K by thread t
+-- in this line stands a K by thread t, or a C, which counts "as a lock of each taken again"
 unfoldable pub lockAt : Counts → ℕ → List Event → ℕ → Bool
 lockAt h t events line = passes (locksBy t) (eventAt h line events)
 
--- in this line stands an N by thread t
+-- in this line stands an N by thread t, or a Y
 unfoldable pub unlockAt : Counts → ℕ → List Event → ℕ → Bool
 unlockAt h t events line = passes (unlocksBy t) (eventAt h line events)
 

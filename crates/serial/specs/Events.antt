@@ -5,7 +5,8 @@ use Prim.Native.Nat.{ℕ}
 pub data Kind : Type 0 where
   Use Assign Load Store Read Write PrescientStore PrescientAssign : Kind
 
--- The first number of a lock and of an unlock the theory does not read: what it is to hold a lock may. An idle event does nothing.
+-- The first number of a lock and of an unlock tells 0, a K or N of one hold, from 1, a C or Y of all holds at once: what it is to hold a
+-- lock reads it (proofs/Counted.antt), the theory does not. An idle event does nothing.
 pub data Event (X : Type 0) : Type 0 where
   lock : ℕ → ℕ → ℕ → Event X
   unlock : ℕ → ℕ → ℕ → Event X

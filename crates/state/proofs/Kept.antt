@@ -4,7 +4,8 @@ use native.Mathlib.Omega.{arith}
 use native.Mathlib.Nat.{not-suc-le-zero, le-refl, le-step}
 use native.Mathlib.Numerals.{add-one}
 use mathlib.Core.Path.{_≡_, refl, sym, _∙_, subst}
-use mathlib.Core.Bool.{Bool, true, false, not, cond, _&&_, _||_}
+use mathlib.Core.Logic.{inl, inr}
+use mathlib.Core.Bool.{Bool, true, false, not, cond, _&&_, _||_, or-true}
 use mathlib.Core.List.{List, [], _∷_}
 use lib.Dec.{T, eqb, ltb, leb, lit<}
 use lib.IntN.{ℤ}
@@ -14,22 +15,24 @@ use Rattle.state.specs.Computed.Places.{Shape}
 use Rattle.state.specs.declared.Ring.{Ring}
 use Rattle.state.specs.declared.Cell.{Cell}
 use Rattle.state.specs.declared.Hold.{Hold}
+use Rattle.state.specs.declared.Waiting.{Waiting}
 use Rattle.state.specs.declared.State.{State}
-use Rattle.state.specs.State.{noSlot, noHold, blank, queued, cellAt, readsAt, depthOf, wordsIn}
-use Rattle.state.specs.Range.{every, holdOk, holdsIn, holdsOk, cellOk, cellsIn, cellsOk, slotAt, slotsIn, queueOk, queuesIn, queuesOk, inRange}
-use Rattle.state.specs.Step.{pushed, popped, nextCell, readAfter, storeAfter, holdAfter, lockedAfter, varOf, lockOf, behind, stepState}
+use Rattle.state.specs.State.{noSlot, noHold, noWait, blank, queued, cellAt, readsAt, depthOf, wordsIn}
+use Rattle.state.specs.Range.{every, holdOk, holdsIn, holdsOk, waitOk, waitsIn, waitsOk, cellOk, cellsIn, cellsOk, slotAt, slotsIn, queueOk, queuesIn, queuesOk, inRange}
+use Rattle.state.specs.Step.{pushed, popped, nextCell, readAfter, storeAfter, holdAfter, waitAfter, lockedAfter, varOf, lockOf, behind, stepState}
 use Rattle.state.specs.Step.{Within}
 use Rattle.state.proofs.LeafLaws.{both-true, both, depth-under, every-at, every-all, cell-same}
 use Rattle.state.proofs.Rings.{queued-after, queued-apart, UpTo, up-more, up-after, up-first, up-around, around-up}
-use Rattle.state.proofs.StepWords.{Bounded, set-at, read-few, store-few}
+use Rattle.state.proofs.StepWords.{WaitFits, Bounded, set-at, read-few, store-few, unlock-own, waits-there}
 use Rattle.rules.specs.declared.Event.{Event}
 use Rattle.rules.specs.declared.Counts.{Counts}
 use Rattle.rules.specs.declared.Slot.{Slot}
-use Rattle.rules.specs.Events.{A, B, K, L, N, P, R, S, U, W, letter, place, value, among, is, onLock}
+use Rattle.rules.specs.Events.{A, B, C, F, K, L, N, P, R, S, U, W, Y, letter, place, value, among, is, subject, lockLetters, onLock}
 use Rattle.rules.specs.Limits.{Limits, UpToFull, full, allowed, declared}
 use Rattle.rules.specs.Words.{first}
 use Rattle.rules.specs.Rules.{judge}
-use Rattle.rules.proofs.Bounds.{declares, allowed-full}
+use Rattle.rules.proofs.Bounds.{declares, allowed-full, subject-bound}
+use Rattle.rules.proofs.Laws.{each-among}
 
 -- ---- a queue
 
@@ -109,6 +112,22 @@ hold-ok t n a p f h = rw (le-leb (a .holder) t (f .holder), le-leb (a .depth) n 
     go false true p q = absurd (eqb-false (a .holder) 0 p (f .some (eqb-true (a .depth) 0 q)))
     go false false p q = refl
 
+-- ---- a waiting
+
+wait-fits : (l n : ℕ) (w : Waiting) → waitOk l n w ≡ true → WaitFits l n w
+wait-fits l n w e = go (eqb (w .lock) 0) refl e
+  where
+    go : (b : Bool) → eqb (w .lock) 0 ≡ b → (b || leb (w .lock) l && ltb 0 (w .depth) && leb (w .depth) n) ≡ true → WaitFits l n w
+    go true q e = inl (eqb-true (w .lock) 0 q)
+    go false q e =
+        let three = both-true (leb (w .lock) l && ltb 0 (w .depth)) (leb (w .depth) n) e in
+        let two = both-true (leb (w .lock) l) (ltb 0 (w .depth)) (three .0) in
+        inr (leb-true (w .lock) l (two .0), ltb-true 0 (w .depth) (two .1), leb-true (w .depth) n (three .1))
+
+wait-ok : (l n : ℕ) (w : Waiting) → WaitFits l n w → waitOk l n w ≡ true
+wait-ok l n w (inl q) = rw (eq-eqb (w .lock) 0 q)
+wait-ok l n w (inr f) = rw (le-leb (w .lock) l (f .0), lt-ltb 0 (w .depth) (f .1), le-leb (w .depth) n (f .2)) (or-true (eqb (w .lock) 0))
+
 -- ---- a cell
 
 -- its positions are at most n
@@ -143,6 +162,7 @@ pub record Range (m : Limits) (s : State) : Type 0 where
   pub events : s .events ≤ m .events
   pub hold : (l : ℕ) → l < 8 → HoldFits (s .counts .threads) (s .events) (getD (s .holds) l noHold)
   pub locked : (t : ℕ) → t < 8 → getD (s .locked) t 0 ≤ s .events
+  pub wait : (t : ℕ) → t < 8 → WaitFits (s .counts .locks) (s .events) (getD (s .waits) t noWait)
   pub cell : (i : ℕ) → i < 128 → CellFits (s .events) (getD (s .cells) i blank)
   pub reads : (i : ℕ) → i < 128 → QueueFits (s .events) (s .reads) i (getD (s .cells) i blank .reads)
   pub stores : (i : ℕ) → i < 128 → QueueFits (s .events) (s .stores) i (getD (s .cells) i blank .stores)
@@ -158,11 +178,12 @@ module _ (m : Limits) (s : State) where
   A2 = allowed m (s .counts) && leb (s .events) (m .events)
 
   pub range : inRange m s ≡ true → Range m s
-  unfolding inRange holdsOk cellsOk queuesOk
+  unfolding inRange holdsOk waitsOk cellsOk queuesOk
   range e =
-      let six = both-true (A2 && every 8 (holdsIn s) && every 128 (cellsIn s) && every 128 Q) (every 128 O) e in
-      let five = both-true (A2 && every 8 (holdsIn s) && every 128 (cellsIn s)) (every 128 Q) (six .0) in
-      let four = both-true (A2 && every 8 (holdsIn s)) (every 128 (cellsIn s)) (five .0) in
+      let seven = both-true (A2 && every 8 (holdsIn s) && every 8 (waitsIn s) && every 128 (cellsIn s) && every 128 Q) (every 128 O) e in
+      let six = both-true (A2 && every 8 (holdsIn s) && every 8 (waitsIn s) && every 128 (cellsIn s)) (every 128 Q) (seven .0) in
+      let five = both-true (A2 && every 8 (holdsIn s) && every 8 (waitsIn s)) (every 128 (cellsIn s)) (six .0) in
+      let four = both-true (A2 && every 8 (holdsIn s)) (every 8 (waitsIn s)) (five .0) in
       let three = both-true A2 (every 8 (holdsIn s)) (four .0) in
       let two = both-true (allowed m (s .counts)) (leb (s .events) (m .events)) (three .0) in
       record {
@@ -170,18 +191,20 @@ module _ (m : Limits) (s : State) where
         events = leb-true (s .events) (m .events) (two .1);
         hold = λ l h. hold-fits (s .counts .threads) (s .events) (getD (s .holds) l noHold) (getD (s .locked) l 0) (every-at 8 (holdsIn s) (three .1) l h) .0;
         locked = λ t h. hold-fits (s .counts .threads) (s .events) (getD (s .holds) t noHold) (getD (s .locked) t 0) (every-at 8 (holdsIn s) (three .1) t h) .1;
-        cell = λ i h. cell-fits (s .events) (getD (s .cells) i blank) (every-at 128 (cellsIn s) (four .1) i h);
-        reads = λ i h. queue-fits (s .events) (s .reads) i (getD (s .cells) i blank .reads) (every-at 128 Q (five .1) i h);
-        stores = λ i h. queue-fits (s .events) (s .stores) i (getD (s .cells) i blank .stores) (every-at 128 O (six .1) i h);
+        wait = λ t h. wait-fits (s .counts .locks) (s .events) (getD (s .waits) t noWait) (every-at 8 (waitsIn s) (four .1) t h);
+        cell = λ i h. cell-fits (s .events) (getD (s .cells) i blank) (every-at 128 (cellsIn s) (five .1) i h);
+        reads = λ i h. queue-fits (s .events) (s .reads) i (getD (s .cells) i blank .reads) (every-at 128 Q (six .1) i h);
+        stores = λ i h. queue-fits (s .events) (s .stores) i (getD (s .cells) i blank .stores) (every-at 128 O (seven .1) i h);
       }
 
   pub in-range : Range m s → inRange m s ≡ true
-  unfolding inRange holdsOk cellsOk queuesOk
+  unfolding inRange holdsOk waitsOk cellsOk queuesOk
   in-range r =
       rw (
         r .counts,
         le-leb (s .events) (m .events) (r .events),
         every-all 8 (holdsIn s) (λ i h. hold-ok (s .counts .threads) (s .events) (getD (s .holds) i noHold) (getD (s .locked) i 0) (r .hold i h) (r .locked i h)),
+        every-all 8 (waitsIn s) (λ t h. wait-ok (s .counts .locks) (s .events) (getD (s .waits) t noWait) (r .wait t h)),
         every-all 128 (cellsIn s) (λ i h. cell-ok (s .events) (getD (s .cells) i blank) (r .cell i h)),
         every-all 128 Q (λ i h. queue-ok (s .events) (s .reads) i (getD (s .cells) i blank .reads) (r .reads i h)),
         every-all 128 O (λ i h. queue-ok (s .events) (s .stores) i (getD (s .cells) i blank .stores) (r .stores i h)),
@@ -200,18 +223,37 @@ room m h u e =
     let d = declares m h e in
     record { threads = omega (arith, d .threads, u .threads); variables = omega (arith, d .variables, u .variables); locks = omega (arith, d .locks, u .locks) }
 
+-- what is declared of an event
+place-declared : (h : Counts) (e : Event) → declared h e ≡ true → place (e .kind) < cond (onLock e) (h .locks) (h .variables)
+unfolding declared
+place-declared h e d =
+    let r = cond (onLock e) (h .locks) (h .variables) in
+    let p = both-true (ltb (e .thread) (h .threads)) (ltb (subject e) (h .threads) && ltb (place (e .kind)) r) d .1 in
+    ltb-true (place (e .kind)) r (both-true (ltb (subject e) (h .threads)) (ltb (place (e .kind)) r) p .1)
+
+pub thread-declared : (h : Counts) (e : Event) → declared h e ≡ true → e .thread < h .threads
+unfolding declared
+thread-declared h e d =
+    ltb-true (e .thread) (h .threads)
+    (both-true (ltb (e .thread) (h .threads)) (ltb (subject e) (h .threads) && ltb (place (e .kind)) (cond (onLock e) (h .locks) (h .variables))) d .0)
+
+lock-declared : (h : Counts) (e : Event) → declared h e ≡ true → T (among lockLetters (letter (e .kind))) → lockOf (e .kind) < h .locks
+unfolding onLock is lockOf
+lock-declared h e d b = go (among lockLetters (letter (e .kind))) b (place-declared h e d)
+  where
+    go : (x : Bool) → T x → place (e .kind) < cond x (h .locks) (h .variables) → cond x (place (e .kind)) 0 < h .locks
+    go true b q = q
+    go false b q = absurd b
+
 -- the places of a declared event lie in the arrays
 pub within : (h : Counts) (e : Event) → Room h → declared h e ≡ true → Within (e .thread) (e .kind)
-unfolding declared onLock is varOf lockOf
-within h e r d =
-    let p = both-true (ltb (e .thread) (h .threads)) (ltb (place (e .kind)) (cond (among (K ∷ N ∷ []) (letter (e .kind))) (h .locks) (h .variables))) d in
-    let t = ltb-true (e .thread) (h .threads) (p .0) in
-    let q = ltb-true (place (e .kind)) (cond (among (K ∷ N ∷ []) (letter (e .kind))) (h .locks) (h .variables)) (p .1) in
-    record {
-      thread = up t (r .threads);
-      variable = var (among (K ∷ N ∷ []) (letter (e .kind))) (place (e .kind)) q;
-      lock = lock (among (K ∷ N ∷ []) (letter (e .kind))) (place (e .kind)) q;
-    }
+unfolding onLock is varOf lockOf
+within h e r d = record {
+  thread = up (thread-declared h e d) (r .threads);
+  subject = up (subject-bound h e d) (r .threads);
+  variable = var (among lockLetters (letter (e .kind))) (place (e .kind)) (place-declared h e d);
+  lock = lock (among lockLetters (letter (e .kind))) (place (e .kind)) (place-declared h e d);
+}
   where
     up : {x y z : ℕ} → x < y → y ≤ z → x < z
     up p q = omega arith
@@ -224,17 +266,13 @@ within h e r d =
     lock true x q = up q (r .locks)
     lock false x q = lit< tt
 
-pub thread-declared : (h : Counts) (e : Event) → declared h e ≡ true → e .thread < h .threads
-unfolding declared
-thread-declared h e d = ltb-true (e .thread) (h .threads) (both-true (ltb (e .thread) (h .threads)) (ltb (place (e .kind)) (cond (onLock e) (h .locks) (h .variables))) d .0)
-
 past : {A : Type 0} (l : List A) (i : ℕ) (d : A) → length l ≤ i → getD l i d ≡ d
 past [] i d h = refl
 past (x ∷ l) zero d h = absurd (not-suc-le-zero h)
 past (x ∷ l) (suc i) d h = past l i d (omega arith)
 
 pub bounded : (m : Limits) (s : State) → Shape s → Range m s → Bounded s
-bounded m s h r = record { source = λ t v. source t v (ltb t 8) (ltb v 16) refl refl; locked = λ t. locked t (ltb t 8) refl; holder = λ l. holder l (ltb l 8) refl }
+bounded m s h r = record { source = λ t v. source t v (ltb t 8) (ltb v 16) refl refl; locked = λ t. locked t (ltb t 8) refl; holder = λ l. holder l (ltb l 8) refl; waits = λ t. waits t (ltb t 8) refl }
   where
     number : (t v : ℕ) → t < 8 → v < 16 → 16 * t + v < 128
     number t v g k = omega arith
@@ -251,6 +289,10 @@ bounded m s h r = record { source = λ t v. source t v (ltb t 8) (ltb v 16) refl
     holder : (l : ℕ) (x : Bool) → ltb l 8 ≡ x → getD (s .holds) l noHold .holder ≤ s .counts .threads
     holder l true p = r .hold l (ltb-true l 8 p) .holder
     holder l false p = let q = ltb-false l 8 p in let z = h .holds in rw (past (s .holds) l noHold (omega arith)) zero-le
+
+    waits : (t : ℕ) (x : Bool) → ltb t 8 ≡ x → WaitFits (s .counts .locks) (s .events) (getD (s .waits) t noWait)
+    waits t true p = r .wait t (ltb-true t 8 p)
+    waits t false p = let q = ltb-false t 8 p in let z = h .waits in rw (past (s .waits) t noWait (omega arith)) (inl refl)
 
 -- ---- an accepted event keeps the range
 
@@ -291,9 +333,10 @@ queue-kept f ss cs a x m n c k lc ls ha room after px old i hi = rw (set-at cs a
 hold-more : (t n : ℕ) (a : Hold) → HoldFits t n a → HoldFits t (suc n) a
 hold-more t n a f = record { holder = f .holder; depth = le-step (f .depth); none = f .none; some = f .some }
 
-hold-kept : (h n : ℕ) (a : Hold) (t : ℕ) (k : ℕ) → t < h → HoldFits h n a → HoldFits h (suc n) (holdAfter a t k)
+-- a C takes a number from 1 to n
+hold-kept : (h n : ℕ) (a : Hold) (w : Waiting) (t k : ℕ) → t < h → HoldFits h n a → (T (among (C ∷ []) k) → (0 < w .depth) × (w .depth ≤ n)) → HoldFits h (suc n) (holdAfter a w t k)
 unfolding holdAfter
-hold-kept h n a t k l f = go (among (K ∷ []) k) (among (N ∷ []) k) (leb (depthOf a t) 1) refl (up (depth-under a t) (f .depth))
+hold-kept h n a w t k l f b = go (among (K ∷ []) k) (among (N ∷ []) k) (among (Y ∷ []) k) (among (C ∷ []) k) (leb (depthOf a t) 1) refl (up (depth-under a t) (f .depth)) b
   where
     lost : {d : ℕ} → 1 < d → d - 1 ≡ 0 → ⊥
     lost h e = omega arith
@@ -304,15 +347,51 @@ hold-kept h n a t k l f = go (among (K ∷ []) k) (among (N ∷ []) k) (leb (dep
     up : {x y z : ℕ} → x ≤ y → y ≤ z → x ≤ z
     up p q = omega arith
 
-    go : (x y z : Bool) → leb (depthOf a t) 1 ≡ z → depthOf a t ≤ n
-        → HoldFits h (suc n) (cond x (record { holder = t + 1; depth = depthOf a t + 1 }) (cond y (cond z noHold (record { holder = a .holder; depth = depthOf a t - 1 })) a))
-    go true y z p d = record { holder = omega arith; depth = omega arith; none = λ e. absurd (up t e); some = λ e. absurd (up (depthOf a t) e) }
+    -- t holds it d times
+    holds : (d : ℕ) → 0 < d → d ≤ suc n → HoldFits h (suc n) (record { holder = t + 1; depth = d })
+    holds d p q = record { holder = omega arith; depth = q; none = λ e. absurd (more t e); some = λ e. absurd (some d p e) }
       where
-        up : (x : ℕ) → x + 1 ≡ 0 → ⊥
-        up x e = omega arith
-    go false true true p d = record { holder = zero-le; depth = zero-le; none = λ e. refl; some = λ e. refl }
-    go false true false p d = record { holder = f .holder; depth = omega arith; none = λ e. absurd (held (depthOf a t) (depth-under a t) (leb-false (depthOf a t) 1 p) e); some = λ e. absurd (lost (leb-false (depthOf a t) 1 p) e) }
-    go false false z p d = hold-more h n a f
+        more : (x : ℕ) → x + 1 ≡ 0 → ⊥
+        more x e = omega arith
+
+        some : (x : ℕ) → 0 < x → x ≡ 0 → ⊥
+        some x h e = omega arith
+
+    nobody : HoldFits h (suc n) noHold
+    nobody = record { holder = zero-le; depth = zero-le; none = λ e. refl; some = λ e. refl }
+
+    go : (x y v c z : Bool) → leb (depthOf a t) 1 ≡ z → depthOf a t ≤ n → (T c → (0 < w .depth) × (w .depth ≤ n))
+        → HoldFits h (suc n)
+        (cond x (record { holder = t + 1; depth = depthOf a t + 1 })
+        (cond y (cond z noHold (record { holder = a .holder; depth = depthOf a t - 1 })) (cond v noHold (cond c (record { holder = t + 1; depth = w .depth }) a))))
+    go true y v c z p d b = holds (depthOf a t + 1) (omega arith) (omega arith)
+    go false true v c true p d b = nobody
+    go false true v c false p d b = record { holder = f .holder; depth = omega arith; none = λ e. absurd (held (depthOf a t) (depth-under a t) (leb-false (depthOf a t) 1 p) e); some = λ e. absurd (lost (leb-false (depthOf a t) 1 p) e) }
+    go false false true c z p d b = nobody
+    go false false false true z p d b = holds (w .depth) (b tt .0) (le-step (b tt .1))
+    go false false false false z p d b = hold-more h n a f
+
+wait-more : (l n : ℕ) (w : Waiting) → WaitFits l n w → WaitFits l (suc n) w
+wait-more l n w (inl q) = inl q
+wait-more l n w (inr f) = inr (f .0, f .1, le-step (f .2))
+
+-- a Y is on one of l locks, which t holds
+wait-kept : (l n : ℕ) (w : Waiting) (a : Hold) (i t k : ℕ) → WaitFits l n w → a .depth ≤ n → (T (among (Y ∷ []) k) → (i < l) × (0 < depthOf a t)) → WaitFits l (suc n) (waitAfter w a i t k)
+unfolding waitAfter
+wait-kept l n w a i t k f d b = go (among (Y ∷ []) k) (among (F ∷ []) k) (among (C ∷ []) k) b f
+  where
+    next : (x : ℕ) → x < l → x + 1 ≤ l
+    next x h = omega arith
+
+    up : {x y : ℕ} → x ≤ y → y ≤ n → x ≤ suc n
+    up p q = omega arith
+
+    go : (x y z : Bool) → (T x → (i < l) × (0 < depthOf a t)) → WaitFits l n w
+        → WaitFits l (suc n) (cond x (record { lock = i + 1; depth = depthOf a t; notified = false }) (cond y (record { lock = w .lock; depth = w .depth; notified = true }) (cond z noWait w)))
+    go true y z b f = inr (next i (b tt .0), b tt .1, up (depth-under a t) d)
+    go false true z b f = wait-more l n w f
+    go false false true b f = inl refl
+    go false false false b f = wait-more l n w f
 
 cell-more : (n : ℕ) (c : Cell) → CellFits n c → CellFits (suc n) c
 cell-more n c f = record { source = le-step (f .source); written = le-step (f .written); loaded = le-step (f .loaded); used = le-step (f .used); assigned = le-step (f .assigned) }
@@ -342,12 +421,16 @@ unfolding stepState
 kept m s e u h r below d p = record {
   counts = r .counts;
   events = let z = leb-false (m .events) (s .events) below in omega arith;
-  hold = λ l k. rw (add-one (s .events), set-at (s .holds) (lockOf (e .kind)) (holdAfter (getD (s .holds) (lockOf (e .kind)) noHold) t (letter (e .kind))) noHold in-holds l)
+  hold = λ l k. rw (add-one (s .events), set-at (s .holds) (lockOf (e .kind)) (holdAfter before waited t (letter (e .kind))) noHold in-holds l)
       (either (HoldFits (s .counts .threads) (suc (s .events))) (eqb (lockOf (e .kind)) l)
-      (hold-kept (s .counts .threads) (s .events) (getD (s .holds) (lockOf (e .kind)) noHold) t (letter (e .kind)) (thread-declared (s .counts) e d) (r .hold (lockOf (e .kind)) (w .lock)))
+      (hold-kept (s .counts .threads) (s .events) before waited t (letter (e .kind)) (thread-declared (s .counts) e d) (r .hold (lockOf (e .kind)) (w .lock)) back)
       (hold-more (s .counts .threads) (s .events) (getD (s .holds) l noHold) (r .hold l k)));
+  wait = λ v k. rw (add-one (s .events), set-at (s .waits) (subject e) (waitAfter waited before (lockOf (e .kind)) t (letter (e .kind))) noWait in-waits v)
+      (either (WaitFits (s .counts .locks) (suc (s .events))) (eqb (subject e) v)
+      (wait-kept (s .counts .locks) (s .events) waited before (lockOf (e .kind)) t (letter (e .kind)) (r .wait (subject e) (w .subject)) (r .hold (lockOf (e .kind)) (w .lock) .depth) given-up)
+      (wait-more (s .counts .locks) (s .events) (getD (s .waits) v noWait) (r .wait v k)));
   locked = λ v k. rw (add-one (s .events), set-at (s .locked) t (lockedAfter (getD (s .locked) t 0) (letter (e .kind)) (suc (s .events))) 0 in-locked v)
-      (either (λ (z : ℕ). z ≤ suc (s .events)) (eqb t v) (unfold lockedAfter in position (among (K ∷ []) (letter (e .kind)))) (le-step (r .locked v k)));
+      (either (λ (z : ℕ). z ≤ suc (s .events)) (eqb t v) (unfold lockedAfter in position (among (K ∷ C ∷ []) (letter (e .kind)))) (le-step (r .locked v k)));
   cell = λ j k. rw (add-one (s .events), set-at (s .cells) i (nextCell (suc (s .events)) (first (readsAt s t v)) (letter (e .kind)) (value (e .kind)) (cellAt s t v)) blank in-cells j)
       (either (CellFits (suc (s .events))) (eqb i j)
       (cell-kept (s .events) (first (readsAt s t v)) (letter (e .kind)) (value (e .kind)) (cellAt s t v) front (rw own (r .cell i num)))
@@ -372,6 +455,33 @@ kept m s e u h r below d p = record {
     w : Within (e .thread) (e .kind)
     w = within (s .counts) e (room m (s .counts) u (r .counts)) d
 
+    before : Hold
+    before = getD (s .holds) (lockOf (e .kind)) noHold
+
+    waited : Waiting
+    waited = getD (s .waits) (subject e) noWait
+
+    -- what C takes again, by 30
+    back : T (among (C ∷ []) (letter (e .kind))) → (0 < waited .depth) × (waited .depth ≤ s .events)
+    back b = go (r .wait (subject e) (w .subject))
+      where
+        there : (waited .lock ≡ lockOf (e .kind) + 1) × (0 < waited .depth)
+        there = waits-there s e p (each-among (among (F ∷ C ∷ [])) (C ∷ []) (letter (e .kind)) tt b)
+
+        lost : (x y : ℕ) → x ≡ 0 → x ≡ y + 1 → ⊥
+        lost x y p q = omega arith
+
+        go : WaitFits (s .counts .locks) (s .events) waited → (0 < waited .depth) × (waited .depth ≤ s .events)
+        go (inl q) = absurd (lost (waited .lock) (lockOf (e .kind)) q (there .0))
+        go (inr f) = (f .1, f .2)
+
+    -- what Y remembers, by 12
+    given-up : T (among (Y ∷ []) (letter (e .kind))) → (lockOf (e .kind) < s .counts .locks) × (0 < depthOf before t)
+    given-up b = (
+      lock-declared (s .counts) e d (each-among (among lockLetters) (Y ∷ []) (letter (e .kind)) tt b),
+      unlock-own s e p (each-among (among (N ∷ Y ∷ [])) (Y ∷ []) (letter (e .kind)) tt b),
+    )
+
     num : i < 128
     num = let x = w .thread in let y = w .variable in omega arith
 
@@ -383,6 +493,9 @@ kept m s e u h r below d p = record {
 
     in-holds : lockOf (e .kind) < length (s .holds)
     in-holds = let x = w .lock in let y = h .holds in omega arith
+
+    in-waits : subject e < length (s .waits)
+    in-waits = let x = w .subject in let y = h .waits in omega arith
 
     in-locked : t < length (s .locked)
     in-locked = let x = w .thread in let y = h .locked in omega arith
@@ -407,6 +520,7 @@ range-full m s u e =
       events = omega (arith, r .events, u .events);
       hold = r .hold;
       locked = r .locked;
+      wait = r .wait;
       cell = r .cell;
       reads = r .reads;
       stores = r .stores;

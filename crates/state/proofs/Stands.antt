@@ -1,13 +1,14 @@
 -- The state after an accepted list of events: its words are the list's, and it is in range.
 use Prim.Native.Nat.{ℕ, zero, suc, _+_, _*_, zero-le}
 use mathlib.Core.Path.{_≡_, refl, sym, ap, _∙_}
-use mathlib.Core.Bool.{true, false, _&&_}
+use mathlib.Core.Logic.{inl}
+use mathlib.Core.Bool.{true, false, _&&_, and-false}
 use mathlib.Core.List.{List, [], _∷_}
 use lib.Dec.{T, eqb, ltb, leb}
 use lib.ListN.{length, getD, replicate, length-replicate}
 use Rattle.state.specs.Computed.Places.{Shape}
 use Rattle.state.specs.declared.State.{State}
-use Rattle.state.specs.State.{noSlot, noHold, noMain, blank, around, queued, cellAt, readsAt, storesAt, depthOf, wordsIn, start}
+use Rattle.state.specs.State.{noSlot, noHold, noWait, noMain, blank, around, queued, cellAt, readsAt, storesAt, depthOf, rememberedOf, notifiedOf, wordsIn, start}
 use Rattle.state.specs.Step.{stepState, stateAfter}
 use Rattle.state.proofs.Kept.{Range, room, within, bounded, kept}
 use Rattle.state.proofs.LeafLaws.{cond-same}
@@ -15,7 +16,7 @@ use Rattle.state.proofs.StepWords.{step-shape, step-words}
 use Rattle.rules.specs.declared.Event.{Event}
 use Rattle.rules.specs.declared.Counts.{Counts}
 use Rattle.rules.specs.Limits.{Limits, UpToFull, allowed, declared}
-use Rattle.rules.specs.Words.{latest, valueIn, letterIn, lastAt, count, inOrder, reads, stores, copy, fresh, pending, announced, lastLock, lastWrite, usable, depth, main, afterLoad, afterAssign, loadedRead, usedRead, lastAssign}
+use Rattle.rules.specs.Words.{latest, valueIn, letterIn, lastAt, count, inOrder, reads, stores, copy, fresh, pending, announced, lastLock, lastWrite, usable, grip, depth, remembered, notified, main, afterLoad, afterAssign, loadedRead, usedRead, lastAssign}
 use Rattle.rules.specs.Rules.{Words, wordsOf, judge, verdict, Accepted}
 use Rattle.rules.proofs.Next.{next}
 use Rattle.rules.proofs.Laws.{Passed, passed, accepted-last, accepted-before}
@@ -40,12 +41,22 @@ start-locked : (h : Counts) (t : ℕ) → getD (start h .locked) t 0 ≡ 0
 unfolding start
 start-locked h t = same-all 8 t 0
 
+start-wait : (h : Counts) (t : ℕ) → getD (start h .waits) t noWait ≡ noWait
+unfolding start
+start-wait h t = same-all 8 t noWait
+
+start-remembered : (h : Counts) (t l : ℕ) → rememberedOf (getD (start h .waits) t noWait) l ≡ 0
+start-remembered h t l = rw (start-wait h t) (unfold rememberedOf in cond-same (eqb 0 (l + 1)) 0)
+
+start-notified : (h : Counts) (t l : ℕ) → notifiedOf (getD (start h .waits) t noWait) l ≡ false
+start-notified h t l = rw (start-wait h t) (unfold notifiedOf in and-false (eqb 0 (l + 1)))
+
 start-memory : (h : Counts) (v : ℕ) → getD (start h .memory) v noMain ≡ noMain
 unfolding start
 start-memory h v = same-all 16 v noMain
 
 pub start-words : (h : Counts) → wordsIn (start h) ≡ wordsOf []
-unfolding start wordsIn wordsOf readsAt storesAt queued around latest valueIn letterIn lastAt count inOrder reads stores copy fresh pending announced lastLock lastWrite usable depth main afterLoad afterAssign loadedRead usedRead lastAssign
+unfolding start wordsIn wordsOf readsAt storesAt queued around latest valueIn letterIn lastAt count inOrder reads stores copy fresh pending announced lastLock lastWrite usable grip depth remembered notified main afterLoad afterAssign loadedRead usedRead lastAssign
 start-words h = λ i. record {
   events = 0;
   copy = λ t v. start-cell h t v i .copy;
@@ -58,6 +69,8 @@ start-words h = λ i. record {
   lastWrite = λ t v. start-cell h t v i .written;
   lastLock = λ t. start-locked h t i;
   depth = λ t l. start-depth h t l i;
+  remembered = λ t l. start-remembered h t l i;
+  notified = λ t l. start-notified h t l i;
   main = λ v. start-memory h v i .value;
   afterLoad = λ t v. start-cell h t v i .«after_load»;
   afterAssign = λ t v. start-cell h t v i .«after_assign»;
@@ -75,6 +88,7 @@ start-shape h = record {
   locked = length-replicate {A = ℕ} 8 0;
   holds = length-replicate 8 noHold;
   memory = length-replicate 16 noMain;
+  waits = length-replicate 8 noWait;
 }
 
 pub start-range : (m : Limits) (h : Counts) → allowed m h ≡ true → Range m (start h)
@@ -84,6 +98,7 @@ start-range m h a = record {
   events = zero-le;
   hold = λ l k. rw (same-all 8 l noHold) (record { holder = zero-le; depth = zero-le; none = λ e. refl; some = λ e. refl });
   locked = λ t k. rw (same-all {A = ℕ} 8 t 0) zero-le;
+  wait = λ t k. rw (same-all 8 t noWait) (inl refl);
   cell = λ i k. rw (same-all 128 i blank) (record { source = zero-le; written = zero-le; loaded = zero-le; used = zero-le; assigned = zero-le });
   reads = λ i k. rw (same-all 128 i blank) (zero-le, tt);
   stores = λ i k. rw (same-all 128 i blank) (zero-le, tt);

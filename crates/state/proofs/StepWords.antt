@@ -1,10 +1,10 @@
 -- The words of the state after an accepted event are `next` of the words before it.
-use Prim.Native.Nat.{ℕ, zero, suc, pred, max, _+_, _-_, _*_, _%_, _≤_, _<_}
+use Prim.Native.Nat.{ℕ, suc, pred, max, _+_, _-_, _*_, _%_, _≤_, _<_}
 use native.Mathlib.Omega.{arith}
 use native.Mathlib.Nat.{not-suc-le-zero}
 use native.Mathlib.Numerals.{add-one, sub-one}
 use mathlib.Core.Path.{_≡_, refl, sym, ap, _∙_, subst}
-use mathlib.Core.Logic.{_≢_}
+use mathlib.Core.Logic.{_≢_, _⊎_, inl, inr}
 use mathlib.Core.Bool.{Bool, true, false, not, cond, _&&_, _||_, and-true, and-false}
 use mathlib.Core.List.{List, [], _∷_, _++_}
 use lib.Dec.{T, eqb, ltb, leb}
@@ -15,23 +15,25 @@ use borrow.Author.Tests.{lt-ltb, le-ltb, ltb-true, ltb-false, eqb-true, eqb-fals
 use Rattle.state.specs.declared.Ring.{Ring}
 use Rattle.state.specs.declared.Cell.{Cell}
 use Rattle.state.specs.declared.Hold.{Hold}
+use Rattle.state.specs.declared.Waiting.{Waiting}
 use Rattle.rules.specs.declared.Main.{Main}
 use Rattle.state.specs.declared.State.{State}
-use Rattle.state.specs.State.{noSlot, noHold, noMain, blank, around, queued, cellAt, readsAt, storesAt, depthOf, wordsIn}
+use Rattle.state.specs.State.{noSlot, noHold, noWait, noMain, blank, around, queued, cellAt, readsAt, storesAt, depthOf, rememberedOf, notifiedOf, wordsIn}
 use Rattle.state.specs.Computed.Places.{Shape}
-use Rattle.state.specs.Step.{pushed, popped, nextCell, readAfter, storeAfter, holdAfter, mainAfter, lockedAfter, varOf, lockOf, Within, behind, stepState}
-use Rattle.state.proofs.Letters.{All, by-letters, disjoint, none-of}
-use Rattle.state.proofs.LeafLaws.{both-true}
+use Rattle.state.specs.Step.{pushed, popped, nextCell, readAfter, storeAfter, holdAfter, waitAfter, mainAfter, lockedAfter, varOf, lockOf, Within, behind, stepState}
+use Rattle.state.proofs.Letters.{disjoint, none-of}
+use Rattle.state.proofs.LeafLaws.{cond-same, both-true}
 use Rattle.state.proofs.Rings.{queued-length, queued-after, queued-apart}
 use Rattle.rules.specs.declared.Event.{Event}
 use Rattle.rules.specs.declared.Slot.{Slot}
 use Rattle.rules.specs.declared.Kind.{Kind}
-use Rattle.rules.specs.Events.{A, B, K, L, N, P, R, S, U, W, letter, place, value, among, is, of, on, locks, unlocks}
+use Rattle.rules.specs.Events.{A, B, C, F, K, L, N, P, R, S, U, W, Y, letter, place, value, among, is, of, on, subject, lockLetters, locks}
 use Rattle.rules.specs.Limits.{most}
-use Rattle.rules.specs.Words.{first, accesses, by, locksBy, acquires, releases}
-use Rattle.rules.specs.Rules.{loc, judge, some}
-use Rattle.rules.proofs.Laws.{or-false-left, or-false-right, lock-free, unlock-held, read-room, store-room, prescient-room}
-use Rattle.rules.proofs.Next.{others, next}
+use Rattle.rules.specs.Words.{first, accesses, by, locksBy, gripAfter, tells}
+use Rattle.rules.specs.Rules.{loc, waits, judge, some}
+use Rattle.rules.proofs.Laws.{is-true, or-false-left, allOf, each-among, some-none, lock-free, unlock-held, barred, not-waiting, notify-waits, resume-waits, read-room, store-room, prescient-room}
+use Rattle.rules.proofs.Held.{own-subject}
+use Rattle.rules.proofs.Next.{others, gripIn, next}
 
 pub step-shape : (s : State) (e : Event) → Shape s → Shape (stepState s e)
 unfolding stepState
@@ -42,6 +44,7 @@ step-shape s e h = record {
   locked = simp length-set (h .locked);
   holds = simp length-set (h .holds);
   memory = simp length-set (h .memory);
+  waits = simp length-set (h .waits);
 }
 
 -- ---- tests
@@ -54,34 +57,50 @@ set-at l i a d h j = go (eqb i j) refl
     go false q = getD-set-other l i j a d (λ e. eqb-false i j q (sym e))
 
 -- the place of an event on a variable, and of one on a lock
-var-is : (ks : List ℕ) → T (disjoint ks (K ∷ N ∷ [])) → (k : Kind) → T (among ks (letter k)) → place k ≡ varOf k
+var-is : (ks : List ℕ) → T (disjoint ks lockLetters) → (k : Kind) → T (among ks (letter k)) → place k ≡ varOf k
 unfolding varOf
-var-is ks a k h = rw (none-of ks (K ∷ N ∷ []) a (letter k) h) refl
+var-is ks a k h = rw (none-of ks lockLetters a (letter k) h) refl
 
-lock-is : (ks : List ℕ) → All (λ n. among (K ∷ N ∷ []) n ≡ true) ks → (k : Kind) → T (among ks (letter k)) → place k ≡ lockOf k
+lock-is : (ks : List ℕ) → T (allOf (among lockLetters) ks) → (k : Kind) → T (among ks (letter k)) → place k ≡ lockOf k
 unfolding lockOf
-lock-is ks a k h = rw (by-letters (λ n. among (K ∷ N ∷ []) n ≡ true) ks a (letter k) h) refl
+lock-is ks a k h = rw (is-true {b = among lockLetters (letter k)} (each-among (among lockLetters) ks (letter k) a h)) refl
+
+-- the subject of an event that is no F
+subject-own : (ks : List ℕ) → T (disjoint ks (F ∷ [])) → (e : Event) → T (among ks (letter (e .kind))) → subject e ≡ e .thread
+unfolding is
+subject-own ks d e h = own-subject e (none-of ks (F ∷ []) d (letter (e .kind)) h)
+
+-- one of two letters
+either : {X : Type 0} (a b : Bool) → T (a || (b || false)) → (T (a || false) → X) → (T (b || false) → X) → X
+either true b h f g = f tt
+either false true h f g = g tt
+either false false h f g = absurd h
+
+-- two tests that are the same where b holds
+where-held : (b : Bool) {x y : Bool} → (T b → x ≡ y) → (b && x) ≡ (b && y)
+where-held true q = q tt
+where-held false q = refl
 
 -- a test on letters, with the event's variable, or its lock, for its place
-at-place : (ks : List ℕ) (f : Kind → ℕ) (t v : ℕ) (e : Event) → (T (among ks (letter (e .kind))) → place (e .kind) ≡ f (e .kind))
-    → (among ks (letter (e .kind)) && (eqb (e .thread) t && eqb (place (e .kind)) v)) ≡ (among ks (letter (e .kind)) && (eqb (e .thread) t && eqb (f (e .kind)) v))
-at-place ks f t v e = go (among ks (letter (e .kind)))
-  where
-    go : (b : Bool) → (T b → place (e .kind) ≡ f (e .kind)) → (b && (eqb (e .thread) t && eqb (place (e .kind)) v)) ≡ (b && (eqb (e .thread) t && eqb (f (e .kind)) v))
-    go true q = rw (q tt) refl
-    go false q = refl
-
-by-at : (ks : List ℕ) → T (disjoint ks (K ∷ N ∷ [])) → (t v : ℕ) (e : Event)
+by-at : (ks : List ℕ) → T (disjoint ks lockLetters) → (t v : ℕ) (e : Event)
     → by ks t v e ≡ (among ks (letter (e .kind)) && (eqb (e .thread) t && eqb (varOf (e .kind)) v))
 unfolding by is of on
-by-at ks a t v e = at-place ks varOf t v e (var-is ks a (e .kind))
+by-at ks a t v e = where-held (among ks (letter (e .kind))) (λ h. ap (λ (z : ℕ). eqb (e .thread) t && eqb z v) (var-is ks a (e .kind) h))
 
--- what T locks and unlocks
-lock-at : (t l : ℕ) (e : Event)
-    → (acquires t l e ≡ (among (K ∷ []) (letter (e .kind)) && (eqb (e .thread) t && eqb (lockOf (e .kind)) l)))
-    × (releases t l e ≡ (among (N ∷ []) (letter (e .kind)) && (eqb (e .thread) t && eqb (lockOf (e .kind)) l)))
-unfolding acquires releases locks unlocks is of on
-lock-at t l e = (at-place (K ∷ []) lockOf t l e (lock-is (K ∷ []) (refl, tt) (e .kind)), at-place (N ∷ []) lockOf t l e (lock-is (N ∷ []) (refl, tt) (e .kind)))
+lock-at : (ks : List ℕ) → T (allOf (among lockLetters) ks) → (t l : ℕ) (e : Event)
+    → by ks t l e ≡ (among ks (letter (e .kind)) && (eqb (e .thread) t && eqb (lockOf (e .kind)) l))
+unfolding by is of on
+lock-at ks a t l e = where-held (among ks (letter (e .kind))) (λ h. ap (λ (z : ℕ). eqb (e .thread) t && eqb z l) (lock-is ks a (e .kind) h))
+
+-- and with its subject for its thread, where it is no F
+subject-at : (ks : List ℕ) → T (allOf (among lockLetters) ks) → T (disjoint ks (F ∷ [])) → (t l : ℕ) (e : Event)
+    → by ks t l e ≡ (among ks (letter (e .kind)) && (eqb (subject e) t && eqb (lockOf (e .kind)) l))
+subject-at ks a d t l e =
+    lock-at ks a t l e ∙ where-held (among ks (letter (e .kind))) (λ h. ap (λ (z : ℕ). eqb z t && eqb (lockOf (e .kind)) l) (sym (subject-own ks d e h)))
+
+tells-at : (t l : ℕ) (e : Event) → tells t l e ≡ (among (Y ∷ F ∷ C ∷ []) (letter (e .kind)) && (eqb (subject e) t && eqb (lockOf (e .kind)) l))
+unfolding tells is on
+tells-at t l e = where-held (among (Y ∷ F ∷ C ∷ []) (letter (e .kind))) (λ h. ap (λ (z : ℕ). eqb (subject e) t && eqb z l) (lock-is (Y ∷ F ∷ C ∷ []) tt (e .kind) h))
 
 -- ---- one cell changed
 
@@ -215,13 +234,19 @@ pub depth-other : (h d u : ℕ) → eqb h (u + 1) ≡ false → depthOf (record 
 unfolding depthOf
 depth-other h d u q = rw (q, and-false (ltb u 8)) refl
 
--- after K, where nobody else holds the lock; after N, where t holds it; after any other event
-hold-depth : (a : Hold) (t u k : ℕ) → t < 8
-    → (T (among (K ∷ []) k) → eqb t u ≡ false → depthOf a u ≡ 0) → (T (among (N ∷ []) k) → 0 < depthOf a t)
-    → depthOf (holdAfter a t k) u
-    ≡ cond (among (K ∷ []) k && eqb t u) (suc (depthOf a u)) (cond (among (N ∷ []) k && eqb t u) (pred (depthOf a u)) (depthOf a u))
+-- who holds a lock is alone
+alone : (a : Hold) (t u : ℕ) → 0 < depthOf a t → eqb t u ≡ false → eqb (a .holder) (u + 1) ≡ false
+alone a t u h q = ap (λ (z : ℕ). eqb z (u + 1)) (holder-is a t h .1) ∙ holder-eqb t u ∙ q
+
+-- after K and C, where nobody else holds the lock; after N and Y, where t holds it; after any other event. g is what u remembers of it
+hold-depth : (a : Hold) (w : Waiting) (t u k g : ℕ) → t < 8
+    → (T (among (K ∷ C ∷ []) k) → eqb t u ≡ false → depthOf a u ≡ 0) → (T (among (N ∷ Y ∷ []) k) → 0 < depthOf a t)
+    → (T (among (C ∷ []) k) → eqb t u ≡ true → (0 < g) × (w .depth ≡ g))
+    → depthOf (holdAfter a w t k) u
+    ≡ cond (among (K ∷ []) k && eqb t u) (suc (depthOf a u))
+    (cond (among (N ∷ []) k && eqb t u) (pred (depthOf a u)) (cond (among (Y ∷ []) k && eqb t u) 0 (cond (among (C ∷ []) k && eqb t u && ltb 0 g) g (depthOf a u))))
 unfolding holdAfter
-hold-depth a t u k l free own = go (among (K ∷ []) k) (among (N ∷ []) k) (eqb t u) refl free own
+hold-depth a w t u k g l free own back = go (eqb K k) (eqb N k) (eqb Y k) (eqb C k) (eqb t u) refl free own back
   where
     -- T's own depth after N
     less : (b : Bool) → leb (depthOf a t) 1 ≡ b → 0 < depthOf a t
@@ -233,24 +258,104 @@ hold-depth a t u k l free own = go (among (K ∷ []) k) (among (N ∷ []) k) (eq
     less false q h = depth-own (a .holder) (depthOf a t - 1) t l (holder-is a t h .1) ∙ sub-one (depthOf a t)
 
     -- another's after N
-    rest : (b : Bool) → eqb t u ≡ false → 0 < depthOf a t → depthOf (cond b noHold (record { holder = a .holder; depth = depthOf a t - 1 })) u ≡ depthOf a u
-    rest b q h =
-        let own = holder-is a t h .1 in
-        let mine : eqb (a .holder) (u + 1) ≡ false = ap (λ (z : ℕ). eqb z (u + 1)) own ∙ holder-eqb t u ∙ q in
-        gone b mine ∙ sym (depth-other (a .holder) (a .depth) u mine)
-      where
-        gone : (b : Bool) → eqb (a .holder) (u + 1) ≡ false → depthOf (cond b noHold (record { holder = a .holder; depth = depthOf a t - 1 })) u ≡ 0
-        gone true m = depth-other 0 0 u (nobody u)
-        gone false m = depth-other (a .holder) (depthOf a t - 1) u m
+    rest : (b : Bool) → eqb t u ≡ false → 0 < depthOf a t → depthOf (cond b noHold (record { holder = a .holder; depth = depthOf a t - 1 })) u ≡ 0
+    rest true q h = depth-other 0 0 u (nobody u)
+    rest false q h = depth-other (a .holder) (depthOf a t - 1) u (alone a t u h q)
 
-    go : (m n y : Bool) → eqb t u ≡ y → (T m → y ≡ false → depthOf a u ≡ 0) → (T n → 0 < depthOf a t)
-        → depthOf (cond m (record { holder = t + 1; depth = depthOf a t + 1 }) (cond n (cond (leb (depthOf a t) 1) noHold (record { holder = a .holder; depth = depthOf a t - 1 })) a)) u
-        ≡ cond (m && y) (suc (depthOf a u)) (cond (n && y) (pred (depthOf a u)) (depthOf a u))
-    go true n true q f o = rw (← (eqb-true t u q)) (depth-own (t + 1) (depthOf a t + 1) t l refl ∙ add-one (depthOf a t))
-    go true n false q f o = depth-other (t + 1) (depthOf a t + 1) u (holder-eqb t u ∙ q) ∙ sym (f tt refl) ∙ rw (and-false n) refl
-    go false true true q f o = rw (← (eqb-true t u q)) (less (leb (depthOf a t) 1) refl (o tt))
-    go false true false q f o = rest (leb (depthOf a t) 1) q (o tt)
-    go false false y q f o = refl
+    none : 0 < depthOf a t → eqb t u ≡ false → 0 ≡ depthOf a u
+    none h q = sym (depth-other (a .holder) (a .depth) u (alone a t u h q))
+
+    go : (m n y c z : Bool) → eqb t u ≡ z → (T (m || (c || false)) → z ≡ false → depthOf a u ≡ 0) → (T (n || (y || false)) → 0 < depthOf a t)
+        → (T (c || false) → z ≡ true → (0 < g) × (w .depth ≡ g))
+        → depthOf
+        (cond (m || false) (record { holder = t + 1; depth = depthOf a t + 1 })
+        (cond (n || false) (cond (leb (depthOf a t) 1) noHold (record { holder = a .holder; depth = depthOf a t - 1 }))
+        (cond (y || false) noHold (cond (c || false) (record { holder = t + 1; depth = w .depth }) a)))) u
+        ≡ cond ((m || false) && z) (suc (depthOf a u))
+        (cond ((n || false) && z) (pred (depthOf a u)) (cond ((y || false) && z) 0 (cond ((c || false) && z && ltb 0 g) g (depthOf a u))))
+    go true n y c true q f o b = rw (← (eqb-true t u q)) (depth-own (t + 1) (depthOf a t + 1) t l refl ∙ add-one (depthOf a t))
+    go true n y c false q f o b =
+        depth-other (t + 1) (depthOf a t + 1) u (holder-eqb t u ∙ q) ∙ sym (f tt refl) ∙ rw (and-false (n || false), and-false (y || false), and-false (c || false)) refl
+    go false true y c true q f o b = rw (← (eqb-true t u q)) (less (leb (depthOf a t) 1) refl (o tt))
+    go false true y c false q f o b = rest (leb (depthOf a t) 1) q (o tt) ∙ none (o tt) q ∙ rw (and-false (y || false), and-false (c || false)) refl
+    go false false true c true q f o b = depth-other 0 0 u (nobody u)
+    go false false true c false q f o b = depth-other 0 0 u (nobody u) ∙ none (o tt) q ∙ rw (and-false (c || false)) refl
+    go false false false true true q f o b =
+        rw (lt-ltb 0 g (b tt refl .0)) (depth-own (t + 1) (w .depth) u (subst (λ (z : ℕ). z < 8) (eqb-true t u q) l) (ap (λ (z : ℕ). z + 1) (eqb-true t u q)) ∙ b tt refl .1)
+    go false false false true false q f o b = depth-other (t + 1) (w .depth) u (holder-eqb t u ∙ q) ∙ sym (f tt refl)
+    go false false false false z q f o b = refl
+
+-- ---- a waiting changed
+
+-- what a thread remembers of the lock that it waits on, and of others
+remembered-own : (w : Waiting) (l : ℕ) → w .lock ≡ l + 1 → rememberedOf w l ≡ w .depth
+unfolding rememberedOf
+remembered-own w l q = rw (eq-eqb (w .lock) (l + 1) q) refl
+
+remembered-other : (w : Waiting) (l : ℕ) → eqb (w .lock) (l + 1) ≡ false → rememberedOf w l ≡ 0
+unfolding rememberedOf
+remembered-other w l q = rw q refl
+
+notified-other : (w : Waiting) (l : ℕ) → eqb (w .lock) (l + 1) ≡ false → notifiedOf w l ≡ false
+unfolding notifiedOf
+notified-other w l q = rw q refl
+
+-- a thread that remembers something of a lock waits on it
+waiting-is : (w : Waiting) (l : ℕ) → 0 < rememberedOf w l → (w .lock ≡ l + 1) × (0 < w .depth)
+unfolding rememberedOf
+waiting-is w l h = go (eqb (w .lock) (l + 1)) refl h
+  where
+    go : (x : Bool) → eqb (w .lock) (l + 1) ≡ x → 0 < cond x (w .depth) 0 → (w .lock ≡ l + 1) × (0 < w .depth)
+    go true q h = (eqb-true (w .lock) (l + 1) q, h)
+    go false q h = absurd (not-suc-le-zero h)
+
+-- one that waits on no lock does not wait on lock i, nor does one that waits on another
+nowhere : (w : Waiting) (i : ℕ) → w .lock ≡ 0 → eqb (w .lock) (i + 1) ≡ false
+nowhere w i q = ap (λ (z : ℕ). eqb z (i + 1)) q ∙ nobody i
+
+elsewhere : (w : Waiting) (l i : ℕ) → w .lock ≡ l + 1 → eqb l i ≡ false → eqb (w .lock) (i + 1) ≡ false
+elsewhere w l i p q = ap (λ (z : ℕ). eqb z (i + 1)) p ∙ holder-eqb l i ∙ q
+
+-- after Y, where the subject waits on no lock; after F and C, where it waits on l; after any other event. n is what t holds of lock i
+module _ (w : Waiting) (a : Hold) (l t k i : ℕ) (idle : T (among (Y ∷ []) k) → w .lock ≡ 0) (there : T (among (F ∷ C ∷ []) k) → w .lock ≡ l + 1) where
+  wait-remembered : (n : ℕ) → (T (among (Y ∷ []) k) → eqb l i ≡ true → depthOf a t ≡ n)
+      → rememberedOf (waitAfter w a l t k) i ≡ cond (among (Y ∷ []) k && eqb l i) n (cond (among (C ∷ []) k && eqb l i) 0 (rememberedOf w i))
+  unfolding waitAfter
+  wait-remembered n same = go (eqb Y k) (eqb F k) (eqb C k) (eqb l i) refl idle there same (none-of (F ∷ []) (C ∷ []) tt k)
+    where
+      go : (y f c z : Bool) → eqb l i ≡ z → (T (y || false) → w .lock ≡ 0) → (T (f || (c || false)) → w .lock ≡ l + 1) → (T (y || false) → z ≡ true → depthOf a t ≡ n)
+          → (T (f || false) → (c || false) ≡ false)
+          → rememberedOf
+          (cond (y || false) (record { lock = l + 1; depth = depthOf a t; notified = false })
+          (cond (f || false) (record { lock = w .lock; depth = w .depth; notified = true }) (cond (c || false) noWait w))) i
+          ≡ cond ((y || false) && z) n (cond ((c || false) && z) 0 (rememberedOf w i))
+      go true f c true q j h s d = remembered-own (record { lock = l + 1; depth = depthOf a t; notified = false }) i (ap (λ (x : ℕ). x + 1) (eqb-true l i q)) ∙ s tt refl
+      go true f c false q j h s d =
+          remembered-other (record { lock = l + 1; depth = depthOf a t; notified = false }) i (holder-eqb l i ∙ q)
+          ∙ sym (remembered-other w i (nowhere w i (j tt))) ∙ rw (and-false (c || false)) refl
+      go false true c z q j h s d = rw (d tt) (unfold rememberedOf in refl)
+      go false false true true q j h s d = remembered-other noWait i (nobody i)
+      go false false true false q j h s d = remembered-other noWait i (nobody i) ∙ sym (remembered-other w i (elsewhere w l i (h tt) q))
+      go false false false z q j h s d = refl
+
+  wait-notified : notifiedOf (waitAfter w a l t k) i ≡ cond (among (Y ∷ F ∷ C ∷ []) k && eqb l i) (among (F ∷ []) k) (notifiedOf w i)
+  unfolding waitAfter
+  wait-notified = go (eqb Y k) (eqb F k) (eqb C k) (eqb l i) refl idle there (none-of (Y ∷ []) (F ∷ []) tt k)
+    where
+      go : (y f c z : Bool) → eqb l i ≡ z → (T (y || false) → w .lock ≡ 0) → (T (f || (c || false)) → w .lock ≡ l + 1) → (T (y || false) → (f || false) ≡ false)
+          → notifiedOf
+          (cond (y || false) (record { lock = l + 1; depth = depthOf a t; notified = false })
+          (cond (f || false) (record { lock = w .lock; depth = w .depth; notified = true }) (cond (c || false) noWait w))) i
+          ≡ cond ((y || (f || (c || false))) && z) (f || false) (notifiedOf w i)
+      go true f c true q j h d = unfold notifiedOf in (and-false (eqb (l + 1) (i + 1)) ∙ sym (d tt))
+      go true f c false q j h d = unfold notifiedOf in and-false (eqb (l + 1) (i + 1)) ∙ sym (notified-other w i (nowhere w i (j tt)))
+      go false true c true q j h d = unfold notifiedOf in rw (h tt, holder-eqb l i, q) refl
+      go false true c false q j h d =
+          let z : eqb (w .lock) (i + 1) ≡ false = elsewhere w l i (h tt) q in
+          notified-other (record { lock = w .lock; depth = w .depth; notified = true }) i z ∙ sym (notified-other w i z)
+      go false false true true q j h d = notified-other noWait i (nobody i)
+      go false false true false q j h d = notified-other noWait i (nobody i) ∙ sym (notified-other w i (elsewhere w l i (h tt) q))
+      go false false false z q j h d = refl
 
 -- ---- what an accepted event tells of the state
 
@@ -269,112 +374,196 @@ unfolding wordsIn storesAt is
 store-few s e p h =
     subst (λ (v : ℕ). cellAt s (e .thread) v .stores .len < 8) (var-is (S ∷ P ∷ []) tt (e .kind) h)
     (few (s .stores) (16 * e .thread + loc e) (cellAt s (e .thread) (loc e) .stores)
-    (either (eqb S (letter (e .kind))) (eqb P (letter (e .kind))) (leb most (length (queued (s .stores) (16 * e .thread + loc e) (cellAt s (e .thread) (loc e) .stores)))) h
-    (λ b. store-room (s .counts) (wordsIn s) e p b) (λ b. prescient-room (s .counts) (wordsIn s) e p b)))
-  where
-    either : (a b c : Bool) → T (a || (b || false)) → (T (a || false) → c ≡ false) → (T (b || false) → c ≡ false) → c ≡ false
-    either true b c h f g = f tt
-    either false true c h f g = g tt
-    either false false c h f g = absurd h
+    (either (eqb S (letter (e .kind))) (eqb P (letter (e .kind))) h (store-room (s .counts) (wordsIn s) e p) (prescient-room (s .counts) (wordsIn s) e p)))
 
 -- ---- the words
+
+-- a thread that waits does so on one of l locks, and remembers a number from 1 to n
+abbrev pub WaitFits : ℕ → ℕ → Waiting → Type 0
+WaitFits l n w = (w .lock ≡ 0) ⊎ ((w .lock ≤ l) × (0 < w .depth) × (w .depth ≤ n))
 
 -- the numbers of a state that the words compare
 pub record Bounded (s : State) : Type 0 where
   pub source : (t v : ℕ) → cellAt s t v .source ≤ s .events
   pub locked : (t : ℕ) → getD (s .locked) t 0 ≤ s .events
   pub holder : (l : ℕ) → getD (s .holds) l noHold .holder ≤ s .counts .threads
+  pub waits : (t : ℕ) → WaitFits (s .counts .locks) (s .events) (getD (s .waits) t noWait)
 
-none-but : (n : ℕ) (f : ℕ → Bool) → some n f ≡ false → (u : ℕ) → u < n → f u ≡ false
-unfolding some
-none-but zero f q u h = absurd (not-suc-le-zero h)
-none-but (suc n) f q u h = go (eqb u n) refl (λ k. none-but n f (or-false-right (f n) (some n f) q) u k)
-  where
-    below : (u ≡ n → ⊥) → u < n
-    below d = omega arith
+-- what an accepted event tells of its lock, and of the waiting of its subject
+module _ (s : State) (e : Event) (p : judge (s .counts) (wordsIn s) e ≡ 0) where
+  -- T holds a lock that it unlocks
+  pub unlock-own : T (among (N ∷ Y ∷ []) (letter (e .kind))) → 0 < depthOf (getD (s .holds) (lockOf (e .kind)) noHold) (e .thread)
+  unlock-own b = subst (λ (l : ℕ). 0 < depthOf (getD (s .holds) l noHold) (e .thread)) (lock-is (N ∷ Y ∷ []) tt (e .kind) b)
+      (ltb-true 0 (depthOf (getD (s .holds) (loc e) noHold) (e .thread)) (unfold wordsIn is in unlock-held (s .counts) (wordsIn s) e p (each-among (among (N ∷ Y ∷ F ∷ [])) (N ∷ Y ∷ []) (letter (e .kind)) tt b)))
 
-    go : (x : Bool) → eqb u n ≡ x → (u < n → f u ≡ false) → f u ≡ false
-    go true e r = rw (eqb-true u n e) (or-false-left (f n) (some n f) q)
-    go false e r = r (below (eqb-false u n e))
+  -- nobody but T holds a lock that T takes
+  free : Bounded s → T (among (K ∷ C ∷ []) (letter (e .kind))) → (u : ℕ) → eqb (e .thread) u ≡ false → depthOf (getD (s .holds) (lockOf (e .kind)) noHold) u ≡ 0
+  free r h u d = subst (λ (l : ℕ). depthOf (getD (s .holds) l noHold) u ≡ 0) (lock-is (K ∷ C ∷ []) tt (e .kind) h) (go (ltb u (s .counts .threads)) refl)
+    where
+      a : Hold
+      a = getD (s .holds) (loc e) noHold
 
--- nobody but T holds a lock that T takes
-free : (s : State) (e : Event) → Bounded s → judge (s .counts) (wordsIn s) e ≡ 0 → T (among (K ∷ []) (letter (e .kind)))
-    → (u : ℕ) → eqb (e .thread) u ≡ false → depthOf (getD (s .holds) (lockOf (e .kind)) noHold) u ≡ 0
-free s e r p h u d = subst (λ (l : ℕ). depthOf (getD (s .holds) l noHold) u ≡ 0) (lock-is (K ∷ []) (refl, tt) (e .kind) h) (go (ltb u (s .counts .threads)) refl)
-  where
-    a : Hold
-    a = getD (s .holds) (loc e) noHold
+      taken : some (s .counts .threads) (λ t. not (eqb t (e .thread)) && ltb 0 (depthOf (getD (s .holds) (loc e) noHold) t)) ≡ false
+      taken = unfold wordsIn locks is in lock-free (s .counts) (wordsIn s) e p h
 
-    taken : some (s .counts .threads) (λ t. not (eqb t (e .thread)) && ltb 0 (depthOf (getD (s .holds) (loc e) noHold) t)) ≡ false
-    taken = unfold wordsIn is in lock-free (s .counts) (wordsIn s) e p h
+      turn : eqb u (e .thread) ≡ false
+      turn = ne-eqb u (e .thread) (λ q. eqb-false (e .thread) u d (sym q))
 
-    turn : eqb u (e .thread) ≡ false
-    turn = ne-eqb u (e .thread) (λ q. eqb-false (e .thread) u d (sym q))
+      none : (n : ℕ) → ltb 0 n ≡ false → n ≡ 0
+      none n q = let x = ltb-false 0 n q in omega arith
 
-    none : (n : ℕ) → ltb 0 n ≡ false → n ≡ 0
-    none n q = let x = ltb-false 0 n q in omega arith
+      past : s .counts .threads ≤ u → a .holder ≢ u + 1
+      past h q = let x = r .holder (loc e) in omega arith
 
-    past : s .counts .threads ≤ u → a .holder ≢ u + 1
-    past h q = let x = r .holder (loc e) in omega arith
+      go : (b : Bool) → ltb u (s .counts .threads) ≡ b → depthOf a u ≡ 0
+      go true q =
+          let z = some-none (s .counts .threads) (λ t. not (eqb t (e .thread)) && ltb 0 (depthOf (getD (s .holds) (loc e) noHold) t)) taken u (ltb-true u (s .counts .threads) q) in
+          none (depthOf a u) (rw turn at z)
+      go false q = depth-other (a .holder) (a .depth) u (ne-eqb (a .holder) (u + 1) (past (ltb-false u (s .counts .threads) q)))
 
-    go : (b : Bool) → ltb u (s .counts .threads) ≡ b → depthOf a u ≡ 0
-    go true q =
-        let z = none-but (s .counts .threads) (λ t. not (eqb t (e .thread)) && ltb 0 (depthOf (getD (s .holds) (loc e) noHold) t)) taken u (ltb-true u (s .counts .threads) q) in
-        none (depthOf a u) (rw turn at z)
-    go false q = depth-other (a .holder) (a .depth) u (ne-eqb (a .holder) (u + 1) (past (ltb-false u (s .counts .threads) q)))
+  -- by 29 a thread that starts to wait waits on no lock
+  idle : Bounded s → T (among (Y ∷ []) (letter (e .kind))) → getD (s .waits) (subject e) noWait .lock ≡ 0
+  idle r h = subst (λ (t : ℕ). getD (s .waits) t noWait .lock ≡ 0) (sym (subject-own (Y ∷ []) tt e h)) (go (r .waits (e .thread)))
+    where
+      w : Waiting
+      w = getD (s .waits) (e .thread) noWait
 
-depth-after : (s : State) (e : Event) → Shape s → Within (e .thread) (e .kind) → Bounded s → judge (s .counts) (wordsIn s) e ≡ 0 → (u m : ℕ)
-    → depthOf (getD (stepState s e .holds) m noHold) u
-    ≡ cond (acquires u m e) (suc (depthOf (getD (s .holds) m noHold) u)) (cond (releases u m e) (pred (depthOf (getD (s .holds) m noHold) u)) (depthOf (getD (s .holds) m noHold) u))
-depth-after s e h w r p u m =
-    rw (lock-at u m e .0, lock-at u m e .1) (ap (λ (z : Hold). depthOf z u) put ∙ go (eqb l m) refl)
-  where
-    t : ℕ
-    t = e .thread
+      none : some (s .counts .locks) (λ l. ltb 0 (rememberedOf (getD (s .waits) (e .thread) noWait) l)) ≡ false
+      none = unfold wordsIn waits is in not-waiting (s .counts) (wordsIn s) e p (each-among (among barred) (Y ∷ []) (letter (e .kind)) tt h)
 
-    k : ℕ
-    k = letter (e .kind)
+      below : (n m : ℕ) → (n ≡ 0 → ⊥) → n ≤ m → (n - 1 < m) × (n ≡ n - 1 + 1)
+      below n m d h = (omega arith, omega arith)
 
-    l : ℕ
-    l = lockOf (e .kind)
+      lost : (n : ℕ) → 0 < n → ltb 0 n ≡ false → ⊥
+      lost n h q = let x = ltb-false 0 n q in omega arith
 
-    inside : lockOf (e .kind) < length (s .holds)
-    inside = let x = w .lock in let y = h .holds in omega arith
+      some-lock : (w .lock ≤ s .counts .locks) × (0 < w .depth) × (w .depth ≤ s .events) → (b : Bool) → eqb (w .lock) 0 ≡ b → w .lock ≡ 0
+      some-lock f true q = eqb-true (w .lock) 0 q
+      some-lock f false q =
+          let x = below (w .lock) (s .counts .locks) (eqb-false (w .lock) 0 q) (f .0) in
+          let z = some-none (s .counts .locks) (λ l. ltb 0 (rememberedOf (getD (s .waits) (e .thread) noWait) l)) none (w .lock - 1) (x .0) in
+          absurd (lost (w .depth) (f .1) (rw (remembered-own w (w .lock - 1) (x .1)) at z))
 
-    own : T (among (N ∷ []) (letter (e .kind))) → 0 < depthOf (getD (s .holds) (lockOf (e .kind)) noHold) (e .thread)
-    own b = subst (λ (l : ℕ). 0 < depthOf (getD (s .holds) l noHold) (e .thread)) (lock-is (N ∷ []) (refl, tt) (e .kind) b)
-        (ltb-true 0 (depthOf (getD (s .holds) (loc e) noHold) (e .thread)) (not-false _ (unfold wordsIn is in unlock-held (s .counts) (wordsIn s) e p b)))
+      go : WaitFits (s .counts .locks) (s .events) w → w .lock ≡ 0
+      go (inl q) = q
+      go (inr f) = some-lock f (eqb (w .lock) 0) refl
 
-    put : getD (stepState s e .holds) m noHold ≡ cond (eqb l m) (holdAfter (getD (s .holds) l noHold) t k) (getD (s .holds) m noHold)
-    put = unfold stepState in set-at (s .holds) l (holdAfter (getD (s .holds) l noHold) t k) noHold inside m
+  -- by 30 a thread that is notified, or comes back, waits on the lock
+  pub waits-there : T (among (F ∷ C ∷ []) (letter (e .kind))) → (getD (s .waits) (subject e) noWait .lock ≡ lockOf (e .kind) + 1) × (0 < getD (s .waits) (subject e) noWait .depth)
+  unfolding wordsIn is
+  waits-there b = rw (← (lock-is (F ∷ C ∷ []) tt (e .kind) b)) (waiting-is (getD (s .waits) (subject e) noWait) (loc e) (either (eqb F (letter (e .kind))) (eqb C (letter (e .kind))) b notify resume))
+    where
+      notify : T (among (F ∷ []) (letter (e .kind))) → 0 < rememberedOf (getD (s .waits) (subject e) noWait) (loc e)
+      notify h = ltb-true 0 _ (not-false _ (or-false-left _ _ (notify-waits (s .counts) (wordsIn s) e p h)))
 
-    D : ℕ
-    D = depthOf (getD (s .holds) m noHold) u
+      resume : T (among (C ∷ []) (letter (e .kind))) → 0 < rememberedOf (getD (s .waits) (subject e) noWait) (loc e)
+      resume h = rw (subject-own (C ∷ []) tt e h)
+          (ltb-true 0 _ (both-true _ _ (resume-waits (s .counts) (wordsIn s) e p h) .0))
 
-    off : (x y z : Bool) → D ≡ cond (x && (z && false)) (suc D) (cond (y && (z && false)) (pred D) D)
-    off x y z = rw (and-false z, and-false x, and-false y) refl
+-- the words of locks after an accepted event
+module _ (s : State) (e : Event) (h : Shape s) (w : Within (e .thread) (e .kind)) (r : Bounded s) (p : judge (s .counts) (wordsIn s) e ≡ 0) (u i : ℕ) where
+  abbrev t : ℕ
+  t = e .thread
 
-    go : (x : Bool) → eqb l m ≡ x
-        → depthOf (cond x (holdAfter (getD (s .holds) l noHold) t k) (getD (s .holds) m noHold)) u
-        ≡ cond (among (K ∷ []) k && (eqb t u && x)) (suc D) (cond (among (N ∷ []) k && (eqb t u && x)) (pred D) D)
-    go true q = rw (and-true (eqb t u), ← (eqb-true l m q)) (hold-depth (getD (s .holds) l noHold) t u k (w .thread) (λ b d. free s e r p b u d) own)
-    go false q = off (among (K ∷ []) k) (among (N ∷ []) k) (eqb t u)
+  abbrev k : ℕ
+  k = letter (e .kind)
+
+  abbrev l : ℕ
+  l = lockOf (e .kind)
+
+  abbrev before : Hold
+  before = getD (s .holds) (lockOf (e .kind)) noHold
+
+  abbrev waited : Waiting
+  waited = getD (s .waits) (subject e) noWait
+
+  depth-after : depthOf (getD (stepState s e .holds) i noHold) u ≡ gripAfter u i e (gripIn (wordsIn s) u i) .held
+  unfolding gripAfter wordsIn
+  depth-after =
+      rw (lock-at (K ∷ []) tt u i e, lock-at (N ∷ []) tt u i e, lock-at (Y ∷ []) tt u i e, lock-at (C ∷ []) tt u i e) (ap (λ (z : Hold). depthOf z u) put ∙ go (eqb l i) refl)
+    where
+      inside : lockOf (e .kind) < length (s .holds)
+      inside = let x = w .lock in let y = h .holds in omega arith
+
+      put : getD (stepState s e .holds) i noHold ≡ cond (eqb l i) (holdAfter before waited t k) (getD (s .holds) i noHold)
+      put = unfold stepState in set-at (s .holds) l (holdAfter before waited t k) noHold inside i
+
+      D : ℕ
+      D = depthOf (getD (s .holds) i noHold) u
+
+      G : ℕ
+      G = rememberedOf (getD (s .waits) u noWait) i
+
+      back : T (among (C ∷ []) (letter (e .kind))) → eqb t u ≡ true → (0 < rememberedOf (getD (s .waits) u noWait) l) × (waited .depth ≡ rememberedOf (getD (s .waits) u noWait) l)
+      back b q =
+          let z = waits-there s e p (each-among (among (F ∷ C ∷ [])) (C ∷ []) (letter (e .kind)) tt b) in
+          let same : subject e ≡ u = subject-own (C ∷ []) tt e b ∙ eqb-true t u q in
+          rw (← same, remembered-own waited l (z .0)) (z .1, refl)
+
+      off : (m n y c x : Bool) → D ≡ cond (m && (x && false)) (suc D) (cond (n && (x && false)) (pred D) (cond (y && (x && false)) 0 (cond (c && (x && false) && ltb 0 G) G D)))
+      off m n y c x = rw (and-false x, and-false m, and-false n, and-false y, and-false c) refl
+
+      go : (x : Bool) → eqb l i ≡ x
+          → depthOf (cond x (holdAfter before waited t k) (getD (s .holds) i noHold)) u
+          ≡ cond (among (K ∷ []) k && (eqb t u && x)) (suc D)
+          (cond (among (N ∷ []) k && (eqb t u && x)) (pred D) (cond (among (Y ∷ []) k && (eqb t u && x)) 0 (cond (among (C ∷ []) k && (eqb t u && x) && ltb 0 G) G D)))
+      go true q = rw (and-true (eqb t u), ← (eqb-true l i q)) (hold-depth before waited t u k (rememberedOf (getD (s .waits) u noWait) l) (w .thread) (λ b d. free s e p r b u d) (unlock-own s e p) back)
+      go false q = off (among (K ∷ []) k) (among (N ∷ []) k) (among (Y ∷ []) k) (among (C ∷ []) k) (eqb t u)
+
+  wait-put : getD (stepState s e .waits) u noWait ≡ cond (eqb (subject e) u) (waitAfter waited before l t k) (getD (s .waits) u noWait)
+  wait-put = unfold stepState in set-at (s .waits) (subject e) (waitAfter waited before l t k) noWait (inside (w .subject) (h .waits)) u
+    where
+      inside : {x y : ℕ} → x < 8 → y ≡ 8 → x < y
+      inside p q = omega arith
+
+  remembered-after : rememberedOf (getD (stepState s e .waits) u noWait) i ≡ gripAfter u i e (gripIn (wordsIn s) u i) .remembered
+  unfolding gripAfter wordsIn
+  remembered-after = rw (subject-at (Y ∷ []) tt tt u i e, subject-at (C ∷ []) tt tt u i e) (ap (λ (z : Waiting). rememberedOf z i) wait-put ∙ go (eqb (subject e) u) refl)
+    where
+      D : ℕ
+      D = depthOf (getD (s .holds) i noHold) u
+
+      G : ℕ
+      G = rememberedOf (getD (s .waits) u noWait) i
+
+      same : subject e ≡ u → T (among (Y ∷ []) (letter (e .kind))) → eqb l i ≡ true → depthOf before t ≡ depthOf (getD (s .holds) i noHold) u
+      same q b d = rw (← q, ← (eqb-true l i d), subject-own (Y ∷ []) tt e b) refl
+
+      go : (x : Bool) → eqb (subject e) u ≡ x
+          → rememberedOf (cond x (waitAfter waited before l t k) (getD (s .waits) u noWait)) i
+          ≡ cond (among (Y ∷ []) k && (x && eqb l i)) D (cond (among (C ∷ []) k && (x && eqb l i)) 0 G)
+      go true q =
+          wait-remembered waited before l t k i (idle s e p r) (λ b. waits-there s e p b .0) D (same (eqb-true (subject e) u q))
+          ∙ ap (λ (z : ℕ). cond (among (Y ∷ []) k && eqb l i) D (cond (among (C ∷ []) k && eqb l i) 0 (rememberedOf (getD (s .waits) z noWait) i))) (eqb-true (subject e) u q)
+      go false q = rw (and-false (among (Y ∷ []) k), and-false (among (C ∷ []) k)) refl
+
+  notified-after : notifiedOf (getD (stepState s e .waits) u noWait) i ≡ cond (tells u i e) (is (F ∷ []) e) (notifiedOf (getD (s .waits) u noWait) i)
+  unfolding is
+  notified-after = rw (tells-at u i e) (ap (λ (z : Waiting). notifiedOf z i) wait-put ∙ go (eqb (subject e) u) refl)
+    where
+      go : (x : Bool) → eqb (subject e) u ≡ x
+          → notifiedOf (cond x (waitAfter waited before l t k) (getD (s .waits) u noWait)) i
+          ≡ cond (among (Y ∷ F ∷ C ∷ []) k && (x && eqb l i)) (among (F ∷ []) k) (notifiedOf (getD (s .waits) u noWait) i)
+      go true q =
+          wait-notified waited before l t k i (idle s e p r) (λ b. waits-there s e p b .0)
+          ∙ ap (λ (z : ℕ). cond (among (Y ∷ F ∷ C ∷ []) k && eqb l i) (among (F ∷ []) k) (notifiedOf (getD (s .waits) z noWait) i)) (eqb-true (subject e) u q)
+      go false q = rw (and-false (among (Y ∷ F ∷ C ∷ []) k)) refl
 
 -- ---- the other words
 
 locked-after : (s : State) (e : Event) → Shape s → Within (e .thread) (e .kind) → (t : ℕ)
     → getD (stepState s e .locked) t 0 ≡ cond (locksBy t e) (s .events + 1) (getD (s .locked) t 0)
 unfolding stepState lockedAfter locksBy locks is of
-locked-after s e h w t = set-at (s .locked) (e .thread) (cond (among (K ∷ []) (letter (e .kind))) (s .events + 1) (getD (s .locked) (e .thread) 0)) 0 inside t ∙ go (eqb (e .thread) t) refl
+locked-after s e h w t = set-at (s .locked) (e .thread) (cond (among (K ∷ C ∷ []) (letter (e .kind))) (s .events + 1) (getD (s .locked) (e .thread) 0)) 0 inside t ∙ go (eqb (e .thread) t) refl
   where
     inside : e .thread < length (s .locked)
     inside = let x = w .thread in let y = h .locked in omega arith
 
     go : (x : Bool) → eqb (e .thread) t ≡ x
-        → cond x (cond (among (K ∷ []) (letter (e .kind))) (s .events + 1) (getD (s .locked) (e .thread) 0)) (getD (s .locked) t 0)
-        ≡ cond (among (K ∷ []) (letter (e .kind)) && x) (s .events + 1) (getD (s .locked) t 0)
-    go true q = rw (and-true (among (K ∷ []) (letter (e .kind))), eqb-true (e .thread) t q) refl
-    go false q = rw (and-false (among (K ∷ []) (letter (e .kind)))) refl
+        → cond x (cond (among (K ∷ C ∷ []) (letter (e .kind))) (s .events + 1) (getD (s .locked) (e .thread) 0)) (getD (s .locked) t 0)
+        ≡ cond (among (K ∷ C ∷ []) (letter (e .kind)) && x) (s .events + 1) (getD (s .locked) t 0)
+    go true q = rw (and-true (among (K ∷ C ∷ []) (letter (e .kind))), eqb-true (e .thread) t q) refl
+    go false q = rw (and-false (among (K ∷ C ∷ []) (letter (e .kind)))) refl
 
 main-after : (s : State) (e : Event) → Shape s → Within (e .thread) (e .kind) → (v : ℕ)
     → getD (stepState s e .memory) v noMain .value ≡ cond (is (W ∷ []) e && on v e) (value (e .kind)) (getD (s .memory) v noMain .value)
@@ -452,18 +641,12 @@ usable-after s e h w r t v =
     after = nextCell p (first (readsAt s t v)) k (value (e .kind)) c
 
     -- a lock keeps the source, which is no later than the events so far
-    low : (b m n : Bool) → T (not m) → T (not n) → cond b (cond m p (cond n (max (c .source) f) (c .source))) (c .source) ≤ s .events
-    low true false false x y = r .source t v
-    low false m n x y = r .source t v
-    low true true n x y = absurd x
-    low true false true x y = absurd y
+    low : (b m n : Bool) → m ≡ false → n ≡ false → cond b (cond m p (cond n (max (c .source) f) (c .source))) (c .source) ≤ s .events
+    low b m n x y = rw (x, y, cond-same b (c .source)) (r .source t v)
 
     source-of : (b : Bool) → cond b after c .source ≡ cond b (cond (among (A ∷ B ∷ []) k) p (cond (among (L ∷ []) k) (max (c .source) f) (c .source))) (c .source)
     source-of true = unfold nextCell in refl
     source-of false = refl
-
-    no-letter : (ks : List ℕ) → among ks K ≡ false → T (among (K ∷ []) k) → T (not (among ks k))
-    no-letter ks z = by-letters (λ n. T (not (among ks n))) (K ∷ []) (rw z tt, tt) k
 
     -- since the thread's last lock
     kept : (m n b : Bool) → ltb lk (cond b (cond m p (cond n (max (c .source) f) (c .source))) (c .source)) ≡ (m && b || n && b && ltb lk f || ltb lk (c .source))
@@ -482,9 +665,9 @@ usable-after s e h w r t v =
         → ltb (cond m p lk) (cond same after c .source)
         ≡ (not m && (among (A ∷ B ∷ []) k && same || among (L ∷ []) k && same && ltb lk f || ltb lk (c .source)))
     go true q =
-        let b : T (among (K ∷ []) k) = unfold locksBy locks is in subst T (sym (both-true (among (K ∷ []) k) (of t e) q .0)) tt in
+        let b : T (among (K ∷ C ∷ []) k) = unfold locksBy locks is in subst T (sym (both-true (among (K ∷ C ∷ []) k) (of t e) q .0)) tt in
         rw (source-of same) (le-ltb p (cond same (cond (among (A ∷ B ∷ []) k) p (cond (among (L ∷ []) k) (max (c .source) f) (c .source))) (c .source))
-        (up (low same (among (A ∷ B ∷ []) k) (among (L ∷ []) k) (no-letter (A ∷ B ∷ []) refl b) (no-letter (L ∷ []) refl b))))
+        (up (low same (among (A ∷ B ∷ []) k) (among (L ∷ []) k) (none-of (K ∷ C ∷ []) (A ∷ B ∷ []) tt k b) (none-of (K ∷ C ∷ []) (L ∷ []) tt k b))))
       where
         up : {x : ℕ} → x ≤ s .events → x ≤ p
         up h = omega arith
@@ -505,6 +688,8 @@ step-words s e h w r p = λ i. record {
   lastWrite = λ t v. (plain (λ c. c .written) (W ∷ []) at tt (λ t v. unfold nextCell in refl) t v ∙ ap (λ (z : ℕ). cond (by (W ∷ []) t v e) z (cellAt s t v .written)) (add-one (s .events))) i;
   lastLock = λ t. (locked-after s e h w t ∙ ap (λ (z : ℕ). cond (locksBy t e) z (getD (s .locked) t 0)) (add-one (s .events))) i;
   depth = λ t m. depth-after s e h w r p t m i;
+  remembered = λ t m. remembered-after s e h w r p t m i;
+  notified = λ t m. notified-after s e h w r p t m i;
   main = λ v. main-after s e h w v i;
   afterLoad = λ t v. plain (λ c. c .«after_load») accesses (is (L ∷ []) e) tt (λ t v. unfold nextCell is in refl) t v i;
   afterAssign = λ t v. plain (λ c. c .«after_assign») accesses (is (A ∷ []) e) tt (λ t v. unfold nextCell is in refl) t v i;
@@ -541,13 +726,13 @@ step-words s e h w r p = λ i. record {
     field f false false y c d q = refl
 
     -- a field that events with these letters set, to what the cell and its queues have
-    varied : {X : Type 0} (f : Cell → X) (ks : List ℕ) (y : ℕ → ℕ → X) → T (disjoint ks (K ∷ N ∷ []))
+    varied : {X : Type 0} (f : Cell → X) (ks : List ℕ) (y : ℕ → ℕ → X) → T (disjoint ks lockLetters)
         → ((t v : ℕ) → f (after t v) ≡ cond (among ks k) (y t v) (f (cellAt s t v))) → (t v : ℕ)
         → f (cellAt (stepState s e) t v) ≡ cond (by ks t v e) (y t v) (f (cellAt s t v))
     varied f ks y n q t v =
         rw (cell-after s e h w t v, by-at ks n t v e) (field f (among ks k) (eqb a t && eqb b v) (y t v) (cellAt s t v) (after t v) (q t v))
 
-    plain : {X : Type 0} (f : Cell → X) (ks : List ℕ) (y : X) → T (disjoint ks (K ∷ N ∷ []))
+    plain : {X : Type 0} (f : Cell → X) (ks : List ℕ) (y : X) → T (disjoint ks lockLetters)
         → ((t v : ℕ) → f (after t v) ≡ cond (among ks k) y (f (cellAt s t v))) → (t v : ℕ)
         → f (cellAt (stepState s e) t v) ≡ cond (by ks t v e) y (f (cellAt s t v))
     plain f ks y n q t v = varied f ks (λ t v. y) n q t v

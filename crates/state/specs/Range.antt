@@ -1,16 +1,18 @@
 -- 8. The state handed in has a number out of range: declared counts as in the head; events so far at most 2,000 (200 in the short course); at most 8
 -- outstanding reads and 8 outstanding stores for each thread and variable; a position or lock depth above the events so far; a
--- holder undeclared; a holder without depth or depth without holder. The whole record is looked at, undeclared places included.
+-- holder undeclared; a holder without depth or depth without holder. Document 02 (i): a waiting thread's lock undeclared, or its remembered number 0 or
+-- above the events so far. The whole record is looked at, undeclared places included.
 use Prim.Native.Nat.{ℕ, zero, suc, _+_, _*_, _%_}
 use mathlib.Core.Bool.{Bool, true, not, _&&_, _||_}
 use mathlib.Core.List.{List}
-use lib.Dec.{eqb, leb}
+use lib.Dec.{eqb, ltb, leb}
 use lib.ListN.{getD}
 use Rattle.state.specs.declared.Ring.{Ring}
 use Rattle.state.specs.declared.Cell.{Cell}
 use Rattle.state.specs.declared.Hold.{Hold}
+use Rattle.state.specs.declared.Waiting.{Waiting}
 use Rattle.state.specs.declared.State.{State}
-use Rattle.state.specs.State.{noSlot, noHold, blank}
+use Rattle.state.specs.State.{noSlot, noHold, noWait, blank}
 use Rattle.rules.specs.declared.Slot.{Slot}
 use Rattle.rules.specs.Limits.{Limits, most, allowed}
 
@@ -28,6 +30,16 @@ holdsIn s i = holdOk (s .counts .threads) (s .events) (getD (s .holds) i noHold)
 
 unfoldable pub holdsOk : State → Bool
 holdsOk s = every 8 (holdsIn s)
+
+-- the waiting of a thread, of l locks after n events; nothing is asked of one that does not wait
+abbrev pub waitOk : ℕ → ℕ → Waiting → Bool
+waitOk l n w = eqb (w .lock) 0 || leb (w .lock) l && ltb 0 (w .depth) && leb (w .depth) n
+
+abbrev pub waitsIn : State → ℕ → Bool
+waitsIn s t = waitOk (s .counts .locks) (s .events) (getD (s .waits) t noWait)
+
+unfoldable pub waitsOk : State → Bool
+waitsOk s = every 8 (waitsIn s)
 
 abbrev pub cellOk : ℕ → Cell → Bool
 cellOk n c = leb (c .source) n && leb (c .written) n && leb (c .loaded) n && leb (c .used) n && leb (c .assigned) n
@@ -62,5 +74,5 @@ queuesOk n cs ss f = every 128 (queuesIn n cs ss f)
 
 unfoldable pub inRange : Limits → State → Bool
 inRange m s =
-    allowed m (s .counts) && leb (s .events) (m .events) && holdsOk s && cellsOk s
+    allowed m (s .counts) && leb (s .events) (m .events) && holdsOk s && waitsOk s && cellsOk s
     && queuesOk (s .events) (s .cells) (s .reads) (λ c. c .reads) && queuesOk (s .events) (s .cells) (s .stores) (λ c. c .stores)

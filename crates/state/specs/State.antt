@@ -1,6 +1,6 @@
 -- What a state's fields say of the words.
 use Prim.Native.Nat.{ℕ, zero, suc, _+_, _*_, _%_}
-use mathlib.Core.Bool.{false, cond, _&&_}
+use mathlib.Core.Bool.{Bool, false, cond, _&&_}
 use mathlib.Core.List.{List, [], _∷_}
 use lib.Dec.{ltb, eqb}
 use lib.IntN.{pos}
@@ -8,6 +8,7 @@ use lib.ListN.{getD, replicate}
 use Rattle.state.specs.declared.Ring.{Ring}
 use Rattle.state.specs.declared.Cell.{Cell}
 use Rattle.state.specs.declared.Hold.{Hold}
+use Rattle.state.specs.declared.Waiting.{Waiting}
 use Rattle.rules.specs.declared.Main.{Main}
 use Rattle.state.specs.declared.State.{State}
 use Rattle.rules.specs.declared.Slot.{Slot}
@@ -22,6 +23,10 @@ noMain = record { value = pos 0 }
 
 abbrev pub noHold : Hold
 noHold = record { holder = 0; depth = 0 }
+
+-- a thread that does not wait
+abbrev pub noWait : Waiting
+noWait = record { lock = 0; depth = 0; notified = false }
 
 abbrev pub noRing : Ring
 noRing = record { first = 0; len = 0 }
@@ -67,6 +72,14 @@ storesAt s t v = queued (s .stores) (16 * t + v) (cellAt s t v .stores)
 unfoldable pub depthOf : Hold → ℕ → ℕ
 depthOf a t = cond (ltb t 8 && eqb (a .holder) (t + 1)) (a .depth) 0
 
+-- the number that a thread remembers of lock l: that of its waiting, where it waits on l
+unfoldable pub rememberedOf : Waiting → ℕ → ℕ
+rememberedOf w l = cond (eqb (w .lock) (l + 1)) (w .depth) 0
+
+-- whether it is notified on l
+unfoldable pub notifiedOf : Waiting → ℕ → Bool
+notifiedOf w l = eqb (w .lock) (l + 1) && w .notified
+
 -- the words that a state's contents give
 unfoldable pub wordsIn : State → Words
 wordsIn s = record {
@@ -81,6 +94,8 @@ wordsIn s = record {
   lastWrite = λ t v. cellAt s t v .written;
   lastLock = λ t. getD (s .locked) t 0;
   depth = λ t l. depthOf (getD (s .holds) l noHold) t;
+  remembered = λ t l. rememberedOf (getD (s .waits) t noWait) l;
+  notified = λ t l. notifiedOf (getD (s .waits) t noWait) l;
   main = λ v. getD (s .memory) v noMain .value;
   afterLoad = λ t v. cellAt s t v .«after_load»;
   afterAssign = λ t v. cellAt s t v .«after_assign»;
@@ -100,4 +115,5 @@ start h = record {
   locked = replicate 8 0;
   holds = replicate 8 noHold;
   memory = replicate 16 noMain;
+  waits = replicate 8 noWait;
 }

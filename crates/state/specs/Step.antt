@@ -1,6 +1,6 @@
 -- The state after an accepted event, part by part. `proofs/StepWords.antt` proves that its words are those after the event.
 use Prim.Native.Nat.{ℕ, max, _+_, _-_, _*_, _%_, _<_}
-use mathlib.Core.Bool.{cond}
+use mathlib.Core.Bool.{true, false, cond}
 use mathlib.Core.List.{List, [], _∷_}
 use lib.Dec.{ltb, leb}
 use lib.IntN.{ℤ}
@@ -8,14 +8,15 @@ use lib.ListN.{getD, set}
 use Rattle.state.specs.declared.Ring.{Ring}
 use Rattle.state.specs.declared.Cell.{Cell}
 use Rattle.state.specs.declared.Hold.{Hold}
+use Rattle.state.specs.declared.Waiting.{Waiting}
 use Rattle.rules.specs.declared.Main.{Main}
 use Rattle.state.specs.declared.State.{State}
-use Rattle.state.specs.State.{noSlot, noHold, noMain, cellAt, readsAt, depthOf, start}
+use Rattle.state.specs.State.{noSlot, noHold, noMain, noWait, cellAt, readsAt, depthOf, start}
 use Rattle.rules.specs.declared.Event.{Event}
 use Rattle.rules.specs.declared.Slot.{Slot}
 use Rattle.rules.specs.declared.Counts.{Counts}
 use Rattle.rules.specs.declared.Kind.{Kind}
-use Rattle.rules.specs.Events.{A, B, K, L, N, P, R, S, U, W, letter, place, value, among}
+use Rattle.rules.specs.Events.{A, B, C, F, K, L, N, P, R, S, U, W, Y, letter, place, value, among, lockLetters, subjectOf, subject}
 use Rattle.rules.specs.Words.{first, accesses}
 
 -- one more at the end of a queue; a full one has no place for it
@@ -52,11 +53,21 @@ readAfter r k x p = cond (among (R ∷ []) k) (record { value = x; position = p 
 unfoldable pub storeAfter : Slot → ℕ → ℤ → ℕ → ℕ → Slot
 storeAfter r k x a p = cond (among (S ∷ P ∷ []) k) (record { value = x; position = cond (among (S ∷ []) k) a p }) r
 
--- a lock after an event on it by t; the last unlock leaves it without a holder
-unfoldable pub holdAfter : Hold → ℕ → ℕ → Hold
-holdAfter a t k =
+-- a lock after an event on it by t, whose subject waits as w says; the last unlock leaves it without a holder. "Y .. gives up every hold on the lock", "C ..
+-- takes all the holds again".
+unfoldable pub holdAfter : Hold → Waiting → ℕ → ℕ → Hold
+holdAfter a w t k =
     cond (among (K ∷ []) k) (record { holder = t + 1; depth = depthOf a t + 1 })
-    (cond (among (N ∷ []) k) (cond (leb (depthOf a t) 1) noHold (record { holder = a .holder; depth = depthOf a t - 1 })) a)
+    (cond (among (N ∷ []) k) (cond (leb (depthOf a t) 1) noHold (record { holder = a .holder; depth = depthOf a t - 1 }))
+    (cond (among (Y ∷ []) k) noHold
+    (cond (among (C ∷ []) k) (record { holder = t + 1; depth = w .depth }) a)))
+
+-- the waiting of an event's subject: a Y by t on lock l remembers the number of its holds, an F notifies, a C ends it
+unfoldable pub waitAfter : Waiting → Hold → ℕ → ℕ → ℕ → Waiting
+waitAfter w a l t k =
+    cond (among (Y ∷ []) k) (record { lock = l + 1; depth = depthOf a t; notified = false })
+    (cond (among (F ∷ []) k) (record { lock = w .lock; depth = w .depth; notified = true })
+    (cond (among (C ∷ []) k) noWait w))
 
 -- a variable of main memory
 unfoldable pub mainAfter : Main → ℕ → ℤ → Main
@@ -64,18 +75,19 @@ mainAfter m k x = cond (among (W ∷ []) k) (record { value = x }) m
 
 -- the position of the thread's last lock
 unfoldable pub lockedAfter : ℕ → ℕ → ℕ → ℕ
-lockedAfter q k p = cond (among (K ∷ []) k) p q
+lockedAfter q k p = cond (among (K ∷ C ∷ []) k) p q
 
 -- the variable of an event, and its lock; 0 where it has none
 unfoldable pub varOf : Kind → ℕ
-varOf k = cond (among (K ∷ N ∷ []) (letter k)) 0 (place k)
+varOf k = cond (among lockLetters (letter k)) 0 (place k)
 
 unfoldable pub lockOf : Kind → ℕ
-lockOf k = cond (among (K ∷ N ∷ []) (letter k)) (place k) 0
+lockOf k = cond (among lockLetters (letter k)) (place k) 0
 
--- the thread, variable and lock of an event have their places in the arrays
+-- the thread, subject, variable and lock of an event have their places in the arrays
 pub record Within (t : ℕ) (k : Kind) : Type 0 where
   pub thread : t < 8
+  pub subject : subjectOf (letter k) t (value k) < 8
   pub variable : varOf k < 16
   pub lock : lockOf k < 8
 
@@ -91,6 +103,9 @@ stepState s e =
     let x = value (e .kind) in
     let v = varOf (e .kind) in
     let l = lockOf (e .kind) in
+    let u = subject e in
+    let a = getD (s .holds) l noHold in
+    let w = getD (s .waits) u noWait in
     let p = s .events + 1 in
     let i = 16 * t + v in
     let c = cellAt s t v in
@@ -103,8 +118,9 @@ stepState s e =
       reads = set (s .reads) rb (readAfter (getD (s .reads) rb noSlot) k x p);
       stores = set (s .stores) sb (storeAfter (getD (s .stores) sb noSlot) k x (c .assigned) p);
       locked = set (s .locked) t (lockedAfter (getD (s .locked) t 0) k p);
-      holds = set (s .holds) l (holdAfter (getD (s .holds) l noHold) t k);
+      holds = set (s .holds) l (holdAfter a w t k);
       memory = set (s .memory) v (mainAfter (getD (s .memory) v noMain) k x);
+      waits = set (s .waits) u (waitAfter w a l t k);
     }
 
 -- the state after these events, the latest first

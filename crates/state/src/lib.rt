@@ -6,7 +6,7 @@ ghost use Prim.Native.Nat.{_<_};
 ghost use lib.ListN.{length};
 ghost use Rattle.rules.specs.Limits.{limitsOf};
 ghost use Rattle.state.specs.State.{start};
-ghost use Rattle.state.specs.Range.{holdOk, holdsOk, cellOk, cellsOk, slotOk, queuesOk, inRange};
+ghost use Rattle.state.specs.Range.{holdOk, holdsOk, waitOk, waitsOk, cellOk, cellsOk, slotOk, queuesOk, inRange};
 ghost use Rattle.state.specs.Computed.Places.{cellPlace, slotPlace, ringOf, Shape};
 use rules::Counts;
 use rules::Course;
@@ -50,6 +50,14 @@ pub struct Hold {
     pub depth: u32,
 }
 
+// Which lock a thread waits on: its number plus 1, or 0 where it does not wait; how many holds it gave up; and whether it is notified.
+#[repr(C)]
+pub struct Waiting {
+    pub lock: usize,
+    pub depth: u32,
+    pub notified: bool,
+}
+
 #[repr(C)]
 pub struct State {
     // The declared threads, variables and locks.
@@ -65,6 +73,8 @@ pub struct State {
     pub locked: [usize; 8],
     pub holds: [Hold; 8],
     pub memory: [Main; 16],
+    // The waiting of each thread.
+    pub waits: [Waiting; 8],
 }
 
 // The state before the first event, for these declared counts.
@@ -96,6 +106,11 @@ pub fn initial(h: Counts) -> State
         depth: 0,
     };
     let main = Main { value: 0 };
+    let idle = Waiting {
+        lock: 0,
+        depth: 0,
+        notified: false,
+    };
     State {
         counts: h,
         events: 0,
@@ -105,6 +120,7 @@ pub fn initial(h: Counts) -> State
         locked: [0; 8],
         holds: [hold; 8],
         memory: [main; 16],
+        waits: [idle; 8],
     }
 }
 
@@ -162,6 +178,27 @@ fn holds_ok(s: State) -> bool
         let a = s.holds[i];
         ok = hold_ok(h.threads, n, a, s.locked[i]) & ok;
         i += 1;
+    }
+    ok
+}
+
+fn wait_ok(locks: usize, n: u32, w: Waiting) -> bool
+    ensures { λ r. ⌜ r ≡ waitOk locks n w ⌝ }
+{
+    (w.lock == 0) | ((w.lock <= locks) & (0 < w.depth) & (w.depth <= n))
+}
+
+fn waits_ok(s: State) -> bool
+    ensures { λ r. ⌜ r ≡ waitsOk s ⌝ }
+{
+    let n = s.events;
+    let h = s.counts;
+    let mut ok = true;
+    let mut t: usize = 0;
+    while t < 8 {
+        let w = s.waits[t];
+        ok = wait_ok(h.locks, n, w) & ok;
+        t += 1;
     }
     ok
 }
@@ -233,8 +270,9 @@ fn sized(
     locked: [usize; 8],
     holds: [Hold; 8],
     memory: [Main; 16],
+    waits: [Waiting; 8],
 ) -> bool
-    ensures { λ r. ⌜ (r ≡ true) × (length cells ≡ 128) × (length reads ≡ 1024) × (length stores ≡ 1024) × (length locked ≡ 8) × (length holds ≡ 8) × (length memory ≡ 16) ⌝ }
+    ensures { λ r. ⌜ (r ≡ true) × (length cells ≡ 128) × (length reads ≡ 1024) × (length stores ≡ 1024) × (length locked ≡ 8) × (length holds ≡ 8) × (length memory ≡ 16) × (length waits ≡ 8) ⌝ }
 {
     true
 }
@@ -250,10 +288,12 @@ pub fn in_range(course: Course, s: State) -> bool
     let locked = s.locked;
     let holds = s.holds;
     let memory = s.memory;
-    sized(cells, reads, stores, locked, holds, memory)
+    let waits = s.waits;
+    sized(cells, reads, stores, locked, holds, memory, waits)
         & rules::is_allowed(course, h)
         & (s.events <= rules::most_events(course))
         & holds_ok(s)
+        & waits_ok(s)
         & cells_ok(s)
         & queues_ok(s.events, cells, reads, false)
         & queues_ok(s.events, cells, stores, true)

@@ -1,28 +1,28 @@
 -- An event that is written as its line is read back as it was.
 use mathlib.Core.Path.{_≡_, refl, sym, ap, _∙_}
-use mathlib.Core.Bool.{Bool, true, false, false≢true}
+use mathlib.Core.Bool.{Bool, true, false}
 use mathlib.Core.List.{List, [], _∷_, _++_, append-assoc, append-nil}
 use mathlib.Core.Option.{some}
-use Prim.Native.Nat.{ℕ, _≤_, _<_, _+_}
+use Prim.Native.Nat.{ℕ, _≤_, _<_}
 use native.Mathlib.Omega.{arith}
+use lib.Dec.{eqb}
 use lib.IntN.{ℤ, pos}
 use mir.Val.{SFits}
 use Rattle.rules.specs.declared.Counts.{Counts}
 use Rattle.rules.specs.declared.Event.{Event}
-use Rattle.rules.specs.declared.Kind.{Kind}
-use Rattle.rules.specs.declared.Kind.the-variants as kind
-use Rattle.rules.specs.Events.{letter, place, value, isLetter, isLockLetter, kindOf, eventWith}
-use Rattle.rules.specs.Limits.{full, valueWidth, allowed, declared}
-use Rattle.rules.proofs.Bounds.{declared-bounds}
-use Rattle.rules.proofs.Letters.{kind-back}
+use Rattle.rules.specs.Events.{F, letter, place, capped, value, threadOf, isLetter, isLockLetter, kindOf, eventWith, subject}
+use Rattle.rules.specs.Limits.{full, valueWidth, allowed}
+use Rattle.rules.proofs.Bounds.{allowed-bounds, declared-bounds, subject-bound}
+use Rattle.rules.proofs.Letters.{capped-low, capped-twice}
 use Rattle.lines.specs.Lines.{splitOn}
 use Rattle.lines.specs.Lines as lines
 use Rattle.decimal.specs.Decimal.{cap}
 use Rattle.decimal.specs.Text.{naturalText, integerText, rowText, wordRow, wordValue}
+use Rattle.records.proofs.RecordLaws.{holds, kind-back}
 use Rattle.events.specs.Events.{fromFields, lineOf, eventIn, eventOf}
 use Rattle.events.proofs.LineLaws.{not-end, not-space}
 use Rattle.writer.specs.Text.{eventLine, Declared}
-use Rattle.writer.proofs.WriteLaws.{event-text}
+use Rattle.writer.proofs.WriteLaws.{bare, event-text}
 use Rattle.writer.proofs.NumberText.{natural-back, integer-back}
 use Rattle.writer.proofs.FieldText.{Free, free-nil, free-cons, spaced, AllFree, none, more, split-spaced, free-spaced, texts, row-spaced, natural-free, integer-free, texts-free}
 
@@ -62,78 +62,63 @@ value-line-free k t v x h =
 
 -- ---- an event's line by its letter
 
-pub letter-is : (k : Kind) → isLetter (letter k) ≡ true
-unfolding isLetter
-letter-is (kind.Use v x) = refl
-letter-is (kind.Assign v x) = refl
-letter-is (kind.Load v x) = refl
-letter-is (kind.Store v x) = refl
-letter-is (kind.Read v x) = refl
-letter-is (kind.Write v x) = refl
-letter-is (kind.Lock l) = refl
-letter-is (kind.Unlock l) = refl
-letter-is (kind.PrescientStore v x) = refl
-letter-is (kind.PrescientAssign v x) = refl
-
--- a lock event has no value
-lock-value : (k : Kind) → isLockLetter (letter k) ≡ true → pos 0 ≡ value k
-unfolding isLockLetter
-lock-value (kind.Use v x) q = absurd (false≢true q)
-lock-value (kind.Assign v x) q = absurd (false≢true q)
-lock-value (kind.Load v x) q = absurd (false≢true q)
-lock-value (kind.Store v x) q = absurd (false≢true q)
-lock-value (kind.Read v x) q = absurd (false≢true q)
-lock-value (kind.Write v x) q = absurd (false≢true q)
-lock-value (kind.Lock l) q = refl
-lock-value (kind.Unlock l) q = refl
-lock-value (kind.PrescientStore v x) q = absurd (false≢true q)
-lock-value (kind.PrescientAssign v x) q = absurd (false≢true q)
-
 -- the fields of a line with this letter
 module _ (n k t v : ℕ) (ht : t ≤ cap) (hv : v ≤ cap) (l : isLetter k ≡ true) where
-  lock-back : isLockLetter k ≡ true → eventOf valueWidth n (wordRow (k ∷ []) (t ∷ v ∷ [])) ≡ eventWith n t (kindOf k v (pos 0))
+  lock-back : isLockLetter k ≡ true → eqb k F ≡ false → eventOf valueWidth n (wordRow (k ∷ []) (t ∷ v ∷ [])) ≡ eventWith n t (kindOf k v (pos 0))
   unfolding eventOf lineOf texts lines.letter
-  lock-back q = ap (λ (fs : List (List ℕ)). eventIn n (fromFields valueWidth fs)) (row-fields k (t ∷ v ∷ []) (not-space k l)) ∙ rw (l, natural-back t ht, q, natural-back v hv)
+  lock-back q r = ap (λ (fs : List (List ℕ)). eventIn n (fromFields valueWidth fs)) (row-fields k (t ∷ v ∷ []) (not-space k l)) ∙ rw (l, natural-back t ht, q, r, natural-back v hv)
+
+  notify-back : (u : ℕ) → u ≤ cap → isLockLetter k ≡ true → eqb k F ≡ true → eventOf valueWidth n (wordValue (k ∷ []) (t ∷ v ∷ []) (pos u)) ≡ eventWith n t (kindOf k v (pos (capped u)))
+  unfolding eventOf lineOf lines.letter integerText
+  notify-back u hu q r =
+      ap (λ (fs : List (List ℕ)). eventIn n (fromFields valueWidth fs)) (value-fields k t v (pos u) (not-space k l)) ∙ rw (l, natural-back t ht, q, r, natural-back v hv, natural-back u hu)
 
   value-back : (x : ℤ) → SFits valueWidth x → isLockLetter k ≡ false → eventOf valueWidth n (wordValue (k ∷ []) (t ∷ v ∷ []) x) ≡ eventWith n t (kindOf k v x)
   unfolding eventOf lineOf lines.letter
   value-back x f q =
       ap (λ (fs : List (List ℕ)). eventIn n (fromFields valueWidth fs)) (value-fields k t v x (not-space k l)) ∙ rw (l, natural-back t ht, q, natural-back v hv, integer-back x f)
 
-event-back : (e : Event) → e .thread ≤ cap → place (e .kind) ≤ cap → SFits valueWidth (value (e .kind)) → eventOf valueWidth (e .line) (eventLine e) ≡ some e
-event-back e ht hv f = by (isLockLetter k) refl
+event-back : (e : Event) → e .thread < 255 → subject e < 255 → place (e .kind) < 255 → SFits valueWidth (value (e .kind)) → eventOf valueWidth (e .line) (eventLine e) ≡ some e
+event-back e ht hs hv f = by (isLockLetter k) refl (eqb k F) refl
   where
     k : ℕ
     k = letter (e .kind)
 
-    made : (x : ℤ) → x ≡ value (e .kind) → eventWith (e .line) (e .thread) (kindOf k (place (e .kind)) x) ≡ some e
-    made x q = ap (eventWith (e .line) (e .thread)) (ap (kindOf k (place (e .kind))) q ∙ kind-back (e .kind))
+    p : ℕ
+    p = place (e .kind)
 
-    by : (b : Bool) → isLockLetter k ≡ b → eventOf valueWidth (e .line) (eventLine e) ≡ some e
-    by true q =
-        ap (eventOf valueWidth (e .line)) (event-text e true q) ∙ lock-back (e .line) k (e .thread) (place (e .kind)) ht hv (letter-is (e .kind)) q
-        ∙ made (pos 0) (lock-value (e .kind) q)
-    by false q =
-        ap (eventOf valueWidth (e .line)) (event-text e false q) ∙ value-back (e .line) k (e .thread) (place (e .kind)) ht hv (letter-is (e .kind)) (value (e .kind)) f q
-        ∙ made (value (e .kind)) refl
+    x : ℤ
+    x = value (e .kind)
 
--- what is declared is below the cap
-declared-capped : (h : Counts) (e : Event) → allowed full h ≡ true → declared h e ≡ true → (e .thread ≤ cap) × (place (e .kind) ≤ cap)
-declared-capped h e a d = let b = declared-bounds h e a d in (omega arith, omega arith)
+    made : (y : ℤ) → y ≡ x → eventWith (e .line) (e .thread) (kindOf k p y) ≡ some e
+    made y q = ap (eventWith (e .line) (e .thread)) (ap (kindOf k p) q ∙ kind-back (e .kind) (e .thread) hs hv)
+
+    by : (b : Bool) → isLockLetter k ≡ b → (c : Bool) → eqb k F ≡ c → eventOf valueWidth (e .line) (eventLine e) ≡ some e
+    by true q true r =
+        let u = capped (threadOf x) in
+        let z : pos u ≡ x = rw (q, r) at (holds (e .kind) .values) in
+        ap (eventOf valueWidth (e .line)) (event-text e false (rw (q, r)) ∙ ap (wordValue (k ∷ []) (e .thread ∷ p ∷ [])) (sym z))
+        ∙ notify-back (e .line) k (e .thread) p (omega arith) (omega arith) (holds (e .kind) .lettered) u (omega (arith, capped-low (threadOf x))) q r ∙ made (pos (capped u)) (ap pos (capped-twice (threadOf x)) ∙ z)
+    by true q false r =
+        ap (eventOf valueWidth (e .line)) (event-text e true (rw (q, r))) ∙ lock-back (e .line) k (e .thread) p (omega arith) (omega arith) (holds (e .kind) .lettered) q r
+        ∙ made (pos 0) (rw (q, r) at (holds (e .kind) .values))
+    by false q c r =
+        ap (eventOf valueWidth (e .line)) (event-text e false (rw q)) ∙ value-back (e .line) k (e .thread) p (omega arith) (omega arith) (holds (e .kind) .lettered) x f q ∙ made x refl
 
 -- Writing an event as its line and reading it back gives the event, for every declared event whose value is in range.
 pub written-read : (h : Counts) (n : ℕ) (e : Event) → allowed full h ≡ true → Declared h n e → eventOf valueWidth n (eventLine e) ≡ some e
 written-read h n e a d =
-    let b = declared-capped h e a (d .known) in
-    ap (λ (i : ℕ). eventOf valueWidth i (eventLine e)) (sym (d .at)) ∙ event-back e (b .0) (b .1) (d .fits)
+    let b = declared-bounds h e a (d .known) in
+    ap (λ (i : ℕ). eventOf valueWidth i (eventLine e)) (sym (d .at))
+    ∙ event-back e (omega (arith, b)) (omega (arith, subject-bound h e (d .known), allowed-bounds h a)) (omega (arith, b)) (d .fits)
 
 -- an event's line holds no end of a line
 pub event-free : (e : Event) → Free 10 (eventLine e)
-event-free e = by (isLockLetter (letter (e .kind))) refl
+event-free e = by (bare (letter (e .kind))) refl
   where
     n : letter (e .kind) ≡ 10 → ⊥
-    n = not-end (letter (e .kind)) (letter-is (e .kind))
+    n = not-end (letter (e .kind)) (holds (e .kind) .lettered)
 
-    by : (b : Bool) → isLockLetter (letter (e .kind)) ≡ b → Free 10 (eventLine e)
+    by : (b : Bool) → bare (letter (e .kind)) ≡ b → Free 10 (eventLine e)
     by true q = rw (event-text e true q) (row-free (letter (e .kind)) (e .thread ∷ place (e .kind) ∷ []) n)
     by false q = rw (event-text e false q) (value-line-free (letter (e .kind)) (e .thread) (place (e .kind)) (value (e .kind)) n)

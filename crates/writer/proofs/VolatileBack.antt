@@ -9,19 +9,20 @@ use borrow.Author.Tests.{lt-ltb, le-leb, ne-eqb}
 use lib.ListN.{length, getD, set, replicate, length-append}
 use lib.Seq.{set-at}
 use Rattle.rules.specs.declared.Event.{Event}
-use Rattle.rules.specs.Events.{letter, isLetter, isLockLetter}
+use Rattle.rules.specs.Events.{letter, isLetter}
 use Rattle.rules.specs.Limits.{full, noVolatiles}
 use Rattle.lines.specs.Lines.{splitOn}
 use Rattle.lines.specs.Lines as lines
 use Rattle.lines.proofs.PartLaws.{lt-or-le}
 use Rattle.decimal.specs.Text.{wordRow, wordValue}
+use Rattle.records.proofs.RecordLaws.{holds}
 use Rattle.trace.specs.Trace.{flagLine, volatilesFrom, volatilesOf, beginsWithV}
 use Rattle.trace.proofs.VolatileLaws.{Flags}
 use Rattle.writer.specs.Text.{numbersFrom, volatileRow, eventLine, eventsText}
-use Rattle.writer.proofs.WriteLaws.{event-text}
+use Rattle.writer.proofs.WriteLaws.{bare, event-text}
 use Rattle.writer.proofs.NumberText.{natural-back}
 use Rattle.writer.proofs.FieldText.{texts}
-use Rattle.writer.proofs.EventBack.{row-fields, letter-is}
+use Rattle.writer.proofs.EventBack.{row-fields}
 
 -- The flags `ds` are read, and of `bs` the numbers are still to come; none of them is for a variable that is not declared.
 flags-back : (v low : ℕ) (ds bs : List Bool) → v ≤ full .variables → low ≤ length ds → ((i : ℕ) → v ≤ length ds + i → getD bs i false ≡ false)
@@ -65,9 +66,9 @@ flags-none-back g n q = numbers-none 0 g q ∙ ap (λ (k : ℕ). replicate k fal
 -- the first byte of an event's line is its letter, and V is none
 first-letter : (e : Event) (u : List ℕ) → getD (eventLine e ++ u) 0 0 ≡ letter (e .kind)
 unfolding wordRow wordValue
-first-letter e u = by (isLockLetter (letter (e .kind))) refl
+first-letter e u = by (bare (letter (e .kind))) refl
   where
-    by : (b : Bool) → isLockLetter (letter (e .kind)) ≡ b → getD (eventLine e ++ u) 0 0 ≡ letter (e .kind)
+    by : (b : Bool) → bare (letter (e .kind)) ≡ b → getD (eventLine e ++ u) 0 0 ≡ letter (e .kind)
     by true q = rw (event-text e true q)
     by false q = rw (event-text e false q)
 
@@ -80,4 +81,4 @@ unfolding eventsText
 events-begin [] = refl
 events-begin (e ∷ es) =
     let f = ap (λ (t : List ℕ). getD t 0 0) (append-assoc (eventLine e) (10 ∷ []) (eventsText es)) ∙ first-letter e (10 ∷ eventsText es) in
-    ne-eqb _ 86 (λ q. not-v (letter (e .kind)) (letter-is (e .kind)) (sym f ∙ q))
+    ne-eqb _ 86 (λ q. not-v (letter (e .kind)) (holds (e .kind) .lettered) (sym f ∙ q))

@@ -2,13 +2,13 @@
 use Prim.Native.Nat.{ℕ, suc, _+_, _-_}
 use mathlib.Core.Path.{_≡_}
 use mathlib.Core.List.{List, [], _∷_, _++_}
-use mathlib.Core.Bool.{Bool, true, _&&_, cond}
-use lib.Dec.{ltb}
+use mathlib.Core.Bool.{Bool, true, not, _&&_, cond}
+use lib.Dec.{eqb, ltb}
 use lib.ListN.{length, take, replicate}
 use mir.Val.{SFits}
 use Rattle.rules.specs.declared.Counts.{Counts}
 use Rattle.rules.specs.declared.Event.{Event}
-use Rattle.rules.specs.Events.{letter, place, value, onLock}
+use Rattle.rules.specs.Events.{F, letter, place, value, onLock}
 use Rattle.rules.specs.Limits.{full, valueWidth, declared}
 use Rattle.rules.specs.Rules.{accepted, said}
 use Rattle.decimal.specs.Text.{wordRow, wordValue, ended}
@@ -44,10 +44,10 @@ volatilesText (n ∷ ns) = ended (volatileRow (n ∷ ns))
 abbrev pub volatileLine : Counts → List ℕ
 volatileLine c = volatilesText (numbersFrom 0 (c .volatiles))
 
--- `K t l` and `N t l`; the others are letter, thread, variable, value
+-- `K t l`, `N t l`, `Y t l` and `C t l`; the others are letter, thread, variable, value, and `F t l u` has its thread, held at 255, in the place of a value
 unfoldable pub eventLine : Event → List ℕ
 eventLine e =
-    cond (onLock e)
+    cond (onLock e && not (eqb (letter (e .kind)) F))
     (wordRow (letter (e .kind) ∷ []) (e .thread ∷ place (e .kind) ∷ []))
     (wordValue (letter (e .kind) ∷ []) (e .thread ∷ place (e .kind) ∷ []) (value (e .kind)))
 

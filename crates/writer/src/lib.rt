@@ -61,7 +61,7 @@ pub fn write_event(out: &mut [u8], e: Event) -> usize
     let k = rules::letter_of(kind);
     let word = [k];
     let ns = [e.thread, rules::place_of(kind)];
-    if rules::is_lock_letter(k) {
+    if rules::is_lock_letter(k) & (k != b'F') {
         decimal::write_row_line(out, &word, &ns)
     } else {
         decimal::write_value_line(out, &word, &ns, rules::value_of(kind))

@@ -60,6 +60,14 @@ pub struct Hold {
 }
 
 #[repr(C)]
+#[derive(Clone, Copy, Debug, PartialEq, Eq)]
+pub struct Wait {
+    pub lock: usize,
+    pub depth: u32,
+    pub notified: bool,
+}
+
+#[repr(C)]
 #[derive(Debug, PartialEq, Eq)]
 pub struct State {
     pub counts: Counts,
@@ -70,10 +78,11 @@ pub struct State {
     pub locked: [usize; 8],
     pub holds: [Hold; 8],
     pub memory: [Value; 16],
+    pub waits: [Wait; 8],
 }
 
 /// Bytes of a state, its padding included.
-pub const STATE_BYTES: usize = 41_328;
+pub const STATE_BYTES: usize = 41_456;
 const _: () = assert!(offset_of!(Counts, volatiles) == 24 && size_of::<Counts>() == 40 && size_of::<Ring>() == 2);
 const _: () = assert!(offset_of!(Cell, written) == 24 && offset_of!(Cell, loaded) == 32 && offset_of!(Cell, used) == 40);
 const _: () = assert!(offset_of!(Cell, assigned) == 48 && offset_of!(Cell, reads) == 56 && offset_of!(Cell, stores) == 58);
@@ -81,15 +90,18 @@ const _: () = assert!(offset_of!(Cell, fresh) == 60 && offset_of!(Cell, pending)
 const _: () = assert!(offset_of!(Cell, after_assign) == 63 && size_of::<Cell>() == 64);
 const _: () = assert!(offset_of!(Slot, position) == 8 && size_of::<Slot>() == 16);
 const _: () = assert!(offset_of!(Hold, depth) == 8 && size_of::<Hold>() == 16);
+const _: () = assert!(offset_of!(Wait, depth) == 8 && offset_of!(Wait, notified) == 12 && size_of::<Wait>() == 16);
 const _: () = assert!(offset_of!(State, events) == 40 && offset_of!(State, cells) == 48 && offset_of!(State, reads) == 8_240);
 const _: () = assert!(offset_of!(State, stores) == 24_624 && offset_of!(State, locked) == 41_008);
 const _: () = assert!(offset_of!(State, holds) == 41_072 && offset_of!(State, memory) == 41_200);
+const _: () = assert!(offset_of!(State, waits) == 41_328);
 const _: () = assert!(size_of::<State>() == STATE_BYTES);
 
-/// The bytes of a state's padding: behind the events and each hold.
+/// The bytes of a state's padding: behind the events, each hold and each wait.
 fn padding() -> impl Iterator<Item = Range<usize>> {
     let holds = (0..8).map(|i| offset_of!(State, holds) + 16 * i).map(|hold| hold + 12..hold + 16);
-    [44..48].into_iter().chain(holds)
+    let waits = (0..8).map(|i| offset_of!(State, waits) + 16 * i).map(|wait| wait + 13..wait + 16);
+    [44..48].into_iter().chain(holds).chain(waits)
 }
 
 #[repr(C)]

@@ -55,7 +55,7 @@ fn all_steps(course: Course, times: usize, seed: u64) -> Tally {
         Course::Short => (40, 210),
     };
     part("steps along long traces", long, &mut |tally, rng| steps::walk(tally, rng, course, most, 2, 40));
-    part("steps from states in range", 3_000, &mut |tally, rng| steps::in_range(tally, rng, course, course, 40));
+    part("steps from states in range", 4_000, &mut |tally, rng| steps::in_range(tally, rng, course, course, 40));
     if course == Course::Short {
         let full = Course::Full;
         part("steps from states in range of the full course", 300, &mut |tally, rng| {

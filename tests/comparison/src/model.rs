@@ -1,7 +1,7 @@
-//! What documents 01 and 02 (a), (d), (e), (f) and (g) say of one step from a state that a caller hands in, over the fields of
+//! What documents 01 and 02 (a), (d), (e), (f), (g) and (i) say of one step from a state that a caller hands in, over the fields of
 //! `include/dabzhoni.h`, by the limits of a course.
 
-use crate::c_api::{Cell, Ring, Slot, State};
+use crate::c_api::{Cell, Hold, Ring, Slot, State, Wait};
 use marker_a::rules::{self, ROWS};
 use marker_a::Kind;
 use papers::{by_a, Course, Event};
@@ -38,6 +38,36 @@ pub fn out_of_range(course: Course, s: &State) -> bool {
         || s.holds.iter().any(|a| a.depth > s.events)
         // "a holder undeclared; a holder without depth or depth without holder"
         || s.holds.iter().any(|a| a.holder > counts.threads || (a.holder == 0) != (a.depth == 0))
+        // "a waiting thread's lock undeclared, or its remembered number 0 or above the events so far"
+        || s.waits.iter().any(|w| w.lock != 0 && (w.lock > counts.locks || w.depth == 0 || w.depth > s.events))
+}
+
+/// The parts of 29 and 30 that a declared event meets: its thread waits; the thread that it is about, which F notifies or C is of, does not wait
+/// at all; waits on another lock; is notified already, or not yet.
+pub fn wait_parts(s: &State, e: &Event) -> [bool; 5] {
+    let told = if e.letter == b'F' { e.value as usize } else { e.thread };
+    let wait = s.waits[told];
+    let about = matches!(e.letter, b'F' | b'C');
+    let here = about && wait.lock == e.place + 1;
+    [
+        s.waits[e.thread].lock != 0,
+        about && wait.lock == 0,
+        about && wait.lock != 0 && !here,
+        here && wait.notified,
+        here && !wait.notified,
+    ]
+}
+
+/// Whether the declared event breaks 29 or 30.
+fn breaks_waiting(number: u32, s: &State, e: &Event) -> bool {
+    let [waits, none, elsewhere, notified, unheard] = wait_parts(s, e);
+    match (number, e.letter) {
+        (29, b'C' | b'R' | b'W') => false,
+        (29, _) => waits,
+        (30, b'F') => none || elsewhere || notified,
+        (30, b'C') => none || elsewhere || unheard,
+        _ => false,
+    }
 }
 
 /// The volatile variables.
@@ -97,8 +127,10 @@ fn breaks_volatile(number: u32, s: &State, e: &Event) -> bool {
 
 /// Whether the declared event breaks the rule of this number, "read from its own contents".
 fn breaks(number: u32, s: &State, e: &Event) -> bool {
-    if (26..=28).contains(&number) {
-        return breaks_volatile(number, s, e);
+    match number {
+        26..=28 => return breaks_volatile(number, s, e),
+        29 | 30 => return breaks_waiting(number, s, e),
+        _ => {}
     }
     let (t, p) = (e.thread, e.place);
     let own = |v: usize| &s.cells[cell(t, v)];
@@ -106,12 +138,12 @@ fn breaks(number: u32, s: &State, e: &Event) -> bool {
     if e.is_lock() {
         let a = s.holds[p];
         return match (e.letter, number) {
-            (b'K', 11) => a.holder != 0 && a.holder != t + 1,
-            (b'K', 13) => variables.any(|v| own(v).pending),
-            (b'N', 12) => a.holder != t + 1,
-            (b'N', 15) => variables.any(|v| own(v).fresh),
+            (b'K' | b'C', 11) => a.holder != 0 && a.holder != t + 1,
+            (b'K' | b'C', 13) => variables.any(|v| own(v).pending),
+            (b'N' | b'Y' | b'F', 12) => a.holder != t + 1,
+            (b'N' | b'Y', 15) => variables.any(|v| own(v).fresh),
             // with an assign owed, the latest outstanding store is taken for the early one
-            (b'N', 16) => variables.any(|v| own(v).stores.len > u8::from(own(v).pending)),
+            (b'N' | b'Y', 16) => variables.any(|v| own(v).stores.len > u8::from(own(v).pending)),
             _ => unreachable!("no rule of this row"),
         };
     }
@@ -145,11 +177,12 @@ fn breaks(number: u32, s: &State, e: &Event) -> bool {
 /// alone; the first is the answer.
 pub fn broken(course: Course, s: &State, e: &Event) -> Vec<u32> {
     let places = if e.is_lock() { s.counts.locks } else { s.counts.variables };
+    let notified = e.letter != b'F' || usize::try_from(e.value).is_ok_and(|u| u < s.counts.threads);
     if out_of_range(course, s) {
         vec![8]
     } else if s.events >= course.events() {
         vec![course.over()]
-    } else if e.thread >= s.counts.threads || e.place >= places {
+    } else if e.thread >= s.counts.threads || e.place >= places || !notified {
         vec![5]
     } else {
         let kind = by_a::event(e).kind;
@@ -170,14 +203,26 @@ pub fn take(s: &mut State, e: &Event) {
 }
 
 fn take_lock(s: &mut State, e: &Event, now: usize) {
-    let a = &mut s.holds[e.place];
-    if e.letter == b'K' {
-        s.locked[e.thread] = now;
-        a.holder = e.thread + 1;
-        a.depth += 1;
-    } else {
-        a.depth -= 1;
-        a.holder = if a.depth == 0 { 0 } else { a.holder };
+    let (t, a) = (e.thread, &mut s.holds[e.place]);
+    match e.letter {
+        b'K' => *a = Hold { holder: t + 1, depth: a.depth + 1 },
+        b'N' => {
+            a.depth -= 1;
+            a.holder = if a.depth == 0 { 0 } else { a.holder };
+        }
+        b'Y' => {
+            s.waits[t] = Wait { lock: e.place + 1, depth: a.depth, notified: false };
+            *a = Hold { holder: 0, depth: 0 };
+        }
+        b'F' => s.waits[e.value as usize].notified = true,
+        // in a state that no events reach the lock may be held already; what the wait remembers is what is held then
+        _ => {
+            *a = Hold { holder: t + 1, depth: s.waits[t].depth };
+            s.waits[t] = Wait { lock: 0, depth: 0, notified: false };
+        }
+    }
+    if matches!(e.letter, b'K' | b'C') {
+        s.locked[t] = now;
     }
 }
 
@@ -262,9 +307,15 @@ fn position_of_store(es: &[marker_a::Event], place: usize) -> usize {
     }
 }
 
+/// What a thread waits for, from the list: lock and 1, the holds that its Y gave up, whether it is notified; zeros where it does not wait.
+fn wait_of(s: &State, es: &[marker_a::Event], t: u32) -> (usize, usize, bool) {
+    let lock = (0..s.counts.locks as u32).find(|&l| rules::waits_on(es, t, l));
+    lock.map_or((0, 0, false), |l| (l as usize + 1, rules::remembered(es, t, l), rules::notified(es, t, l)))
+}
+
 /// The words of marker A over a list of accepted events, against the state's fields. The first that differs.
 pub fn differs(s: &State, es: &[marker_a::Event]) -> Option<String> {
-    use Kind::{K, N, W};
+    use Kind::{C, K, W};
     let said = |right: bool, what: &str| (!right).then(|| what.to_string());
     let last = |kind, t: u32, v: Option<u32>| {
         let found = es.iter().rposition(|e| e.kind == kind && e.thread == t && v.is_none_or(|v| e.target == v));
@@ -278,7 +329,11 @@ pub fn differs(s: &State, es: &[marker_a::Event]) -> Option<String> {
     };
     let mut wrong = said(s.events as usize == es.len(), "events");
     for t in 0..s.counts.threads as u32 {
-        wrong = wrong.or_else(|| said(s.locked[t as usize] == last(K, t, None), "last lock"));
+        let locked = last(K, t, None).max(last(C, t, None));
+        wrong = wrong.or_else(|| said(s.locked[t as usize] == locked, "last lock")).or_else(|| {
+            let wait = s.waits[t as usize];
+            said((wait.lock, wait.depth as usize, wait.notified) == wait_of(s, es, t), "wait")
+        });
         for v in 0..s.counts.variables as u32 {
             let i = cell(t as usize, v as usize);
             let c = &s.cells[i];
@@ -297,10 +352,9 @@ pub fn differs(s: &State, es: &[marker_a::Event]) -> Option<String> {
                 });
         }
         for l in 0..s.counts.locks as u32 {
-            let count = |kind| es.iter().filter(|e| e.kind == kind && e.thread == t && e.target == l).count();
             let a = s.holds[l as usize];
             let depth = if a.holder == t as usize + 1 { a.depth as usize } else { 0 };
-            wrong = wrong.or_else(|| said(depth == count(K) - count(N), "depth"));
+            wrong = wrong.or_else(|| said(depth == rules::depth(es, t, l), "depth"));
         }
     }
     for v in 0..s.counts.variables {

@@ -1,10 +1,10 @@
 //! Single steps of the proved marker: from states that events reach, against marker A; from other states in range, and from states
 //! out of range, against the model.
 
-use crate::c_api::{Cell, Counts, Hold, Kept, Reply, Ring, Slot, State};
+use crate::c_api::{Cell, Counts, Hold, Kept, Reply, Ring, Slot, State, Wait};
 use crate::model;
 use marker_a::paper;
-use papers::generate::{self, one_bit_off, some_volatiles, Rng, DOUBLES, LETTERS, OF_64_BITS, PAIRS};
+use papers::generate::{self, on_lock, one_bit_off, some_volatiles, Rng, DOUBLES, LETTERS, OF_64_BITS, PAIRS, WAITING};
 use papers::shrink::shrink;
 use papers::{by_a, Course, Event, Value};
 use std::collections::BTreeMap;
@@ -23,14 +23,15 @@ pub struct Tally {
     pub alike: [usize; 2],
     /// from states in range: how often a letter had an answer, and broke a later rule of its row too; 0 stands for none
     pub answers: BTreeMap<(u8, u32, u32), usize>,
-    /// the same for each part of 16 at N
-    pub unlocks: [usize; UNLOCKS.len()],
+    /// the same for each part of 16 at N, and at Y
+    pub unlocks: [[usize; UNLOCKS.len()]; 2],
     /// and for 18 at a letter where the values have the same low 32 bits
     pub halves: BTreeMap<u8, usize>,
     /// for each part of 27 that held alone, at a letter, of its own variable or of another
     pub parts: BTreeMap<(u8, usize, bool), usize>,
-    /// and for each of `VOLATILES`
+    /// and for each of `VOLATILES` and of `WAITS`
     pub volatiles: [usize; VOLATILES.len()],
+    pub waits: Vec<usize>,
 }
 
 impl Tally {
@@ -163,7 +164,7 @@ fn due(s: &State, letter: u8, thread: usize, place: usize) -> Option<Value> {
 fn any_event(rng: &mut Rng, s: &State) -> Event {
     // 27 and what is accepted beside it more often, where a variable is volatile
     let letter = if s.counts.volatiles.contains(&true) && rng.chance(40) { rng.pick(b"UUWWS") } else { rng.pick(LETTERS) };
-    let lock = matches!(letter, b'K' | b'N');
+    let lock = on_lock(letter);
     let Counts { threads, variables, locks, .. } = s.counts;
     let mut number = |n: usize, usual: usize| match rng.below(40) {
         0 => usual,
@@ -178,7 +179,57 @@ fn any_event(rng: &mut Rng, s: &State) -> Event {
         1..=4 => one_bit_off(rng, due),
         _ => due,
     };
-    Event { letter, thread, place, value }
+    let e = Event { letter, thread, place, value };
+    if WAITING.contains(&letter) {
+        timely(rng, s, e)
+    } else {
+        e
+    }
+}
+
+/// A Y, F or C that some state accepts, in most cases: of a thread that holds the lock, for one that waits on it, of one that waits on it.
+fn timely(rng: &mut Rng, s: &State, e: Event) -> Event {
+    let Counts { threads, locks, .. } = s.counts;
+    let value = match rng.below(20) {
+        // not declared: negative, too large, with the low 32 bits of a declared one
+        0 => rng.pick(&[-1, Value::MIN, threads as Value, 8, 255, Value::MAX]),
+        1 => Value::from(rng.pick(&[1i32, -1])) << 32 | rng.below(threads.clamp(1, 8)) as Value,
+        _ if e.letter == b'F' => rng.below(threads.clamp(1, 8)) as Value,
+        _ => e.value,
+    };
+    let e = Event { value, ..e };
+    let holds: Vec<(usize, usize)> =
+        (0..locks.min(8)).filter(|&l| s.holds[l].holder != 0).map(|l| (s.holds[l].holder - 1, l)).collect();
+    let waits: Vec<(usize, usize)> =
+        (0..threads.min(8)).filter(|&t| s.waits[t].lock != 0).map(|t| (t, s.waits[t].lock - 1)).collect();
+    if rng.chance(25) {
+        return e;
+    }
+    match e.letter {
+        b'Y' if !holds.is_empty() => {
+            let (thread, place) = rng.pick(&holds);
+            Event { thread, place, ..e }
+        }
+        b'C' if !waits.is_empty() => {
+            let (thread, place) = rng.pick(&waits);
+            Event { thread, place, ..e }
+        }
+        b'F' if !waits.is_empty() => {
+            let (told, place) = rng.pick(&waits);
+            let holder = holds.iter().find(|hold| hold.1 == place).map_or(e.thread, |hold| hold.0);
+            let e = Event { value: told as Value, ..e };
+            match rng.below(8) {
+                // of another lock that its thread holds; of another's lock
+                0 | 1 if !holds.is_empty() => {
+                    let (thread, place) = rng.pick(&holds);
+                    Event { thread, place, ..e }
+                }
+                2 | 3 => Event { place, ..e },
+                _ => Event { thread: holder, place, ..e },
+            }
+        }
+        _ => e,
+    }
 }
 
 /// Counts of a course, and about so many accepted events, some of them over its limit.
@@ -192,7 +243,8 @@ fn trace(rng: &mut Rng, course: Course, length: usize) -> (papers::Counts, Vec<E
             if rng.chance(50) {
                 counts.volatiles = some_volatiles(rng, variables);
             }
-            generate::long_with(rng, counts, OF_64_BITS, length, 0, false)
+            let waiting = threads > 1 && counts.locks > 0 && rng.chance(50);
+            generate::long_with(rng, counts, OF_64_BITS, length, 0, false, waiting)
         }
     };
     (counts, events)
@@ -333,11 +385,20 @@ pub fn state_in_range(rng: &mut Rng, course: Course) -> Kept {
     for x in s.memory.iter_mut() {
         *x = value(rng);
     }
+    // in half of the states no thread waits, in a quarter few do; of one that does not, depth and notified may be anything
+    let waiting = if n > 0 && counts.locks > 0 { rng.pick(&[0, 0, 20, 60]) } else { 0 };
+    for wait in s.waits.iter_mut() {
+        *wait = if rng.chance(waiting) {
+            Wait { lock: rng.between(1, counts.locks), depth: position(rng, n).max(1) as u32, notified: rng.chance(50) }
+        } else {
+            Wait { lock: 0, depth: rng.next() as u32, notified: rng.chance(50) }
+        };
+    }
     s
 }
 
-/// A part of 16 at N: its name, the answer, and what holds of the thread's variables, of each whether an assign is owed and how many stores
-/// are outstanding.
+/// A part of 16 at N and at Y: its name, the answer, and what holds of the thread's variables, of each whether an assign is owed and how many
+/// stores are outstanding.
 type Unlock = (&'static str, u32, fn(&[(bool, u8)]) -> bool);
 const UNLOCKS: [Unlock; 4] = [
     ("one store and its assign owed", 0, |cells| cells.contains(&(true, 1))),
@@ -354,10 +415,11 @@ fn alone(cells: &[(bool, u8)], so: (bool, u8)) -> bool {
     cells.contains(&so) && cells.iter().all(|&c| c == so || c.1 == 0 || c == (true, 1))
 }
 
-/// Counts the parts of 16 that an N with this answer meets.
-fn count_unlock(tally: &mut Tally, s: &State, t: usize, answer: u32) {
-    let cells: Vec<(bool, u8)> = s.cells[16 * t..][..s.counts.variables].iter().map(|c| (c.pending, c.stores.len)).collect();
-    for ((_, number, holds), times) in UNLOCKS.iter().zip(&mut tally.unlocks) {
+/// Counts the parts of 16 that an N or Y with this answer meets.
+fn count_unlock(tally: &mut Tally, s: &State, e: &Event, answer: u32) {
+    let cells: Vec<(bool, u8)> =
+        s.cells[16 * e.thread..][..s.counts.variables].iter().map(|c| (c.pending, c.stores.len)).collect();
+    for ((_, number, holds), times) in UNLOCKS.iter().zip(&mut tally.unlocks[usize::from(e.letter == b'Y')]) {
         *times += usize::from(*number == answer && holds(&cells));
     }
 }
@@ -379,6 +441,74 @@ const VOLATILES: [Volatile; 13] = [
     ("after a load and an assign", b'S', 26, |s, e| own(s, e).after_load && own(s, e).after_assign),
     ("owed", b'B', 28, |s, e| own(s, e).pending),
 ];
+
+/// What must occur of waiting: its name, the letter, the answer, and what holds of the state and the event.
+type Waits = (&'static str, u8, u32, fn(&State, &Event) -> bool);
+const WAITS: [Waits; 37] = [
+    ("a negative thread", b'F', 5, |_, e| e.value < 0),
+    ("a thread that is not declared", b'F', 5, |s, e| e.value >= s.counts.threads as Value),
+    ("a thread with the low 32 bits of a declared one", b'F', 5, |s, e| (e.value as u32 as usize) < s.counts.threads),
+    ("on the lock it waits on", b'K', 29, |s, e| s.waits[e.thread].lock == e.place + 1),
+    ("on another lock", b'K', 29, |s, e| s.waits[e.thread].lock != e.place + 1),
+    ("held", b'K', 29, |s, e| s.holds[e.place].holder == e.thread + 1),
+    ("held", b'N', 29, |s, e| s.holds[e.place].holder == e.thread + 1),
+    ("held, on the lock it waits on", b'Y', 29, |s, e| {
+        s.holds[e.place].holder == e.thread + 1 && s.waits[e.thread].lock == e.place + 1
+    }),
+    ("held, on another lock", b'Y', 29, |s, e| s.holds[e.place].holder == e.thread + 1 && s.waits[e.thread].lock != e.place + 1),
+    ("held, for one that may be notified", b'F', 29, |s, e| {
+        s.holds[e.place].holder == e.thread + 1 && model::wait_parts(s, e)[4]
+    }),
+    ("notified", b'A', 29, |s, e| s.waits[e.thread].notified),
+    ("not notified", b'A', 29, |s, e| !s.waits[e.thread].notified),
+    ("notified", b'B', 29, |s, e| s.waits[e.thread].notified && own(s, e).pending),
+    ("of a waiting thread", b'R', 0, |s, e| s.waits[e.thread].lock != 0),
+    ("of a waiting thread", b'W', 0, |s, e| s.waits[e.thread].lock != 0),
+    ("for itself, held", b'F', 30, |s, e| e.value == e.thread as Value && s.holds[e.place].holder == e.thread + 1),
+    ("for one that does not wait", b'F', 30, |s, e| model::wait_parts(s, e)[1] && s.holds[e.place].holder == e.thread + 1),
+    ("for one that waits on another lock", b'F', 30, |s, e| {
+        model::wait_parts(s, e)[2] && s.holds[e.place].holder == e.thread + 1
+    }),
+    ("for one that waits on another lock, notified", b'F', 30, |s, e| {
+        model::wait_parts(s, e)[2] && s.waits[e.value as usize].notified
+    }),
+    ("for one that is notified", b'F', 30, |s, e| model::wait_parts(s, e)[3] && s.holds[e.place].holder == e.thread + 1),
+    ("for one that does not wait, its flag set", b'F', 30, |s, e| {
+        model::wait_parts(s, e)[1] && s.waits[e.value as usize].notified
+    }),
+    ("the lock free", b'F', 12, |s, e| s.holds[e.place].holder == 0),
+    ("the lock another's", b'F', 12, |s, e| s.holds[e.place].holder != 0),
+    ("accepted, others wait", b'F', 0, |s, _| s.waits.iter().filter(|w| w.lock != 0).count() > 1),
+    ("of one that does not wait, the lock free", b'C', 30, |s, e| model::wait_parts(s, e)[1] && s.holds[e.place].holder == 0),
+    ("of one that does not wait, its flag set", b'C', 30, |s, e| model::wait_parts(s, e)[1] && s.waits[e.thread].notified),
+    ("of one that waits on another lock, notified", b'C', 30, |s, e| {
+        model::wait_parts(s, e)[2] && s.waits[e.thread].notified && s.holds[e.place].holder == 0
+    }),
+    ("of one that waits on another lock, not notified", b'C', 30, |s, e| {
+        model::wait_parts(s, e)[2] && !s.waits[e.thread].notified
+    }),
+    ("of one that is not notified", b'C', 30, |s, e| model::wait_parts(s, e)[4] && s.holds[e.place].holder == 0),
+    ("the lock free", b'C', 0, |s, e| s.holds[e.place].holder == 0),
+    ("the lock its own, of another depth", b'C', 0, |s, e| {
+        s.holds[e.place].holder == e.thread + 1 && s.holds[e.place].depth != s.waits[e.thread].depth
+    }),
+    ("as many holds as events", b'C', 0, |s, e| s.waits[e.thread].depth == s.events),
+    ("of one that is notified", b'C', 11, |s, e| s.waits[e.thread].notified),
+    ("of one that is notified", b'C', 13, |s, e| s.waits[e.thread].notified),
+    ("several holds", b'Y', 0, |s, e| s.holds[e.place].depth > 1),
+    ("another lock held", b'Y', 0, |s, e| s.holds.iter().enumerate().any(|(l, a)| l != e.place && a.holder == e.thread + 1)),
+    ("another depth and flag in its wait", b'Y', 0, |s, e| {
+        s.waits[e.thread].notified && s.waits[e.thread].depth != s.holds[e.place].depth
+    }),
+];
+
+/// Counts what an event on or beside waiting threads with this answer meets. It is declared but for the thread that an F notifies.
+fn count_waits(tally: &mut Tally, s: &State, e: &Event, answer: u32) {
+    tally.waits.resize(WAITS.len(), 0);
+    for ((_, letter, number, holds), times) in WAITS.iter().zip(&mut tally.waits) {
+        *times += usize::from((*letter, *number) == (e.letter, answer) && holds(s, e));
+    }
+}
 
 /// The cell of an event on a variable.
 fn own<'a>(s: &'a State, e: &Event) -> &'a Cell {
@@ -422,14 +552,18 @@ fn against_model(tally: &mut Tally, course: Course, before: &Kept, e: &Event) {
     for later in [0].iter().chain(broken.iter().skip(1)) {
         *tally.answers.entry((e.letter, number, *later)).or_insert(0) += 1;
     }
-    if e.letter == b'N' && matches!(number, 0 | 16) {
-        count_unlock(tally, before, e.thread, number);
+    if matches!((e.letter, number), (b'N' | b'Y', 0 | 16)) {
+        count_unlock(tally, before, e, number);
     }
     if number == 18 && due(before, e.letter, e.thread, e.place).is_some_and(|x| x as u32 == e.value as u32) {
         *tally.halves.entry(e.letter).or_insert(0) += 1;
     }
     if ![5, 8, course.over()].contains(&number) && model::is_volatile(before, e) {
         count_volatile(tally, before, e, number);
+    }
+    let places = if e.is_lock() { before.counts.locks } else { before.counts.variables };
+    if ![8, course.over()].contains(&number) && e.thread < before.counts.threads && e.place < places {
+        count_waits(tally, before, e, number);
     }
     tally.over[1] += usize::from(number == course.over());
     let line = if number == 8 { 0 } else { before.events as usize + before.counts.first_line() };
@@ -451,7 +585,8 @@ fn against_model(tally: &mut Tally, course: Course, before: &Kept, e: &Event) {
         }
         Ok(())
     });
-    let shown = |report| format!("{report}; {:?}, {} events, {:?}", before.counts, before.events, before.holds);
+    let shown =
+        |report| format!("{report}; {:?}, {} events, {:?}, {:?}", before.counts, before.events, before.holds, before.waits);
     tally.count(reply, said.map_err(shown));
 }
 
@@ -466,7 +601,7 @@ pub fn in_range(tally: &mut Tally, rng: &mut Rng, course: Course, of: Course, ea
 }
 
 /// Refusals, and two of them at once, that no event of a paper meets: only a step from a state that no events reach.
-const IN_NO_PAPER: [(u8, u32, u32); 14] = [
+const IN_NO_PAPER: [(u8, u32, u32); 21] = [
     (b'L', 15, 0),
     (b'L', 16, 0),
     (b'L', 13, 16),
@@ -481,23 +616,33 @@ const IN_NO_PAPER: [(u8, u32, u32); 14] = [
     (b'P', 28, 13),
     (b'B', 26, 18),
     (b'B', 28, 18),
+    (b'L', 29, 15),
+    (b'S', 29, 19),
+    (b'P', 29, 19),
+    (b'N', 29, 15),
+    (b'N', 29, 16),
+    (b'Y', 29, 15),
+    (b'Y', 29, 16),
 ];
 
-/// Each refusal of each row, each two that one event can break, each part of 16 at N, and 18 of values with the same low 32 bits at each
-/// letter occurred in the steps from states in range, each part of 27 alone, of its own variable and of another, and each of `VOLATILES`; and
-/// the course's limit of events, there and along traces, and in the short course steps that were held to the full one. Prints how often those
-/// with 15, 16, 23 or 26 to 28, these parts and the limits did.
+/// Each refusal of each row, each two that one event can break, each part of 16 at N and at Y, and 18 of values with the same low 32 bits at
+/// each letter occurred in the steps from states in range, each part of 27 alone, of its own variable and of another, and each of `VOLATILES`
+/// and of `WAITS`; and the course's limit of events, there and along traces, and in the short course steps that were held to the full one.
+/// Prints how often those with 15, 16, 23 or 26 to 30, these parts and the limits did.
 pub fn every_answer(tally: &mut Tally, course: Course) {
+    tally.waits.resize(WAITS.len(), 0);
     let pairs = PAIRS.map(|(letter, number)| (letter, number, 0));
     let mut all = Vec::new();
     for (letter, number, later) in pairs.into_iter().chain(DOUBLES).chain([(b'U', 26, 27)]).chain(IN_NO_PAPER) {
         let times = tally.answers.get(&(letter, number, later)).copied().unwrap_or(0);
         let beside = if later == 0 { String::new() } else { format!(" beside {later}") };
-        let shown = [15, 16, 23, 26, 27, 28].iter().any(|n| [number, later].contains(n));
+        let shown = [15, 16, 23, 26, 27, 28, 29, 30].iter().any(|n| [number, later].contains(n)) || WAITING.contains(&letter);
         all.push((number, format!("{number}{beside} at {}", letter as char), times, shown));
     }
-    for ((name, number, _), times) in UNLOCKS.iter().zip(tally.unlocks) {
-        all.push((*number, format!("{number} at N, {name}"), times, true));
+    for (letter, unlocks) in ['N', 'Y'].into_iter().zip(tally.unlocks) {
+        for ((name, number, _), times) in UNLOCKS.iter().zip(unlocks) {
+            all.push((*number, format!("{number} at {letter}, {name}"), times, true));
+        }
     }
     for letter in "ULSRWB".bytes() {
         let times = tally.halves.get(&letter).copied().unwrap_or(0);
@@ -510,6 +655,9 @@ pub fn every_answer(tally: &mut Tally, course: Course) {
     }
     for ((name, letter, number, _), times) in VOLATILES.iter().zip(tally.volatiles) {
         all.push((*number, format!("{number} at a volatile {}, {name}", *letter as char), times, true));
+    }
+    for ((name, letter, number, _), times) in WAITS.iter().zip(tally.waits.clone()) {
+        all.push((*number, format!("{number} at {}, {name}", *letter as char), times, true));
     }
     let over = course.over();
     all.push((over, format!("{over} along a trace"), tally.over[0], true));
@@ -528,7 +676,7 @@ pub fn every_answer(tally: &mut Tally, course: Course) {
 
 /// The numbers of refusal 8: how many places each has, and what puts the one at a place out of range and no other number.
 type Spoil = fn(&mut State, usize, &mut Rng, Course);
-const SPOILS: [(&str, usize, Spoil); 21] = [
+const SPOILS: [(&str, usize, Spoil); 24] = [
     ("no thread", 1, |s, _, _, _| {
         s.counts.threads = 0;
         s.holds = [Hold { holder: 0, depth: 0 }; 8];
@@ -559,7 +707,19 @@ const SPOILS: [(&str, usize, Spoil); 21] = [
     ("holder", 8, |s, i, r, _| s.holds[i] = Hold { holder: s.counts.threads + r.pick(&[1, 2, 8, 1 << 40]), depth: 1 }),
     ("holder without depth", 8, |s, i, r, _| s.holds[i] = Hold { holder: r.between(1, s.counts.threads), depth: 0 }),
     ("depth without holder", 8, |s, i, r, _| s.holds[i] = Hold { holder: 0, depth: r.pick(&[1, s.events]) }),
+    ("lock of a wait", 8, |s, i, r, _| {
+        let lock = r.pick(&[s.counts.locks + 1, s.counts.locks + 2, 256, 1 << 32, 1 << 32 | 1, usize::MAX]);
+        s.waits[i] = Wait { lock, depth: 1, notified: r.chance(50) };
+    }),
+    ("no depth of a wait", 8, |s, i, r, _| spoil_wait(s, i, 0, r)),
+    ("depth of a wait", 8, |s, i, r, _| spoil_wait(s, i, r.pick(&[s.events + 1, 2_001, u32::MAX]), r)),
 ];
+
+/// A wait on a declared lock with this depth.
+fn spoil_wait(s: &mut State, i: usize, depth: u32, rng: &mut Rng) {
+    s.counts.locks = s.counts.locks.max(1);
+    s.waits[i] = Wait { lock: rng.between(1, s.counts.locks), depth, notified: rng.chance(50) };
+}
 
 /// A position above n; some have the low 32 bits of one up to n.
 fn above(n: u32, rng: &mut Rng) -> usize {
@@ -615,7 +775,7 @@ pub fn out_of_range(tally: &mut Tally, rng: &mut Rng, course: Course) {
             tally.count((8, 0), said);
         }
     }
-    // a letter that is none of the ten: 4 before all others
+    // a letter that is none of the thirteen: 4 before all others
     let (mut bad, mut stray) = (s.clone(), s.clone());
     bad.counts.threads = 9;
     (stray.counts.variables, stray.counts.volatiles[15]) = (1, true);

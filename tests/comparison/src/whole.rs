@@ -162,6 +162,10 @@ struct Orders {
     /// those of papers with volatile variables, and their uses
     volatile: usize,
     volatile_uses: usize,
+    /// those of papers with a C, their C, and their uses
+    waiting: usize,
+    back: usize,
+    waiting_uses: usize,
 }
 
 /// Checks papers.
@@ -172,23 +176,12 @@ pub struct Papers {
     orders: Cell<Orders>,
 }
 
-/// The record of an event, one number in each row: letter * 65536 + thread * 256 + variable or lock, and the value.
+/// The record of an event, one number in each row: letter * 65536 + thread * 256 + variable or lock, and the value, which is the notified thread
+/// for F and 0 for K, N, Y and C.
 type Record = (u32, Value);
 
 fn record(e: &marker_a::Event) -> Record {
-    let letter = match e.kind {
-        Kind::U => b'U',
-        Kind::A => b'A',
-        Kind::L => b'L',
-        Kind::S => b'S',
-        Kind::R => b'R',
-        Kind::W => b'W',
-        Kind::K => b'K',
-        Kind::N => b'N',
-        Kind::P => b'P',
-        Kind::B => b'B',
-    };
-    (u32::from(letter) * 65_536 + e.thread * 256 + e.target, e.value)
+    (u32::from(by_a::letter(e.kind)) * 65_536 + e.thread * 256 + e.target, e.value)
 }
 
 fn entry(thread: u64, first: u64, last: u64) -> u64 {
@@ -309,8 +302,9 @@ impl Papers {
         }
         // in the short course the order is the full one's, for the listing is
         if let (Course::Full, Some(order)) = (course, &wanted.order) {
+            let back = wanted.events.iter().filter(|e| e.kind == Kind::C).count();
             let uses = demand3(bytes, wanted.events, order).map_err(|e| format!("demand 3: {e}\n"))?;
-            self.count(uses, order, has_v_line(bytes));
+            self.count(uses, order, has_v_line(bytes), back);
         }
         lent_too_little(course, &mut lent, bytes)?;
         self.clean.set(true);
@@ -319,14 +313,15 @@ impl Papers {
 
     /// On how many orders demand 3 was asked.
     pub fn orders(&self) -> String {
-        let Orders { number, uses, other, volatile, volatile_uses } = self.orders.get();
+        let Orders { number, uses, other, volatile, volatile_uses, waiting, back, waiting_uses } = self.orders.get();
         format!(
             "demand 3: {number} orders with {uses} uses; {other} orders are not that of the first locks; {volatile} orders with \
-             {volatile_uses} uses are of papers with volatile variables"
+             {volatile_uses} uses are of papers with volatile variables, {waiting} with {back} C and {waiting_uses} uses of papers with \
+             waiting"
         )
     }
 
-    fn count(&self, uses: usize, order: &[u64], volatile: bool) {
+    fn count(&self, uses: usize, order: &[u64], volatile: bool, back: usize) {
         let mut all = self.orders.get();
         all.number += 1;
         all.uses += uses;
@@ -334,6 +329,11 @@ impl Papers {
         if volatile {
             all.volatile += 1;
             all.volatile_uses += uses;
+        }
+        if back > 0 {
+            all.waiting += 1;
+            all.back += back;
+            all.waiting_uses += uses;
         }
         self.orders.set(all);
     }

@@ -1,10 +1,10 @@
-//! A naive marker for the papers of document 01, with requests (a), (d), (e), (f), (g) and (k) of document 02.
+//! A naive marker for the papers of document 01, with requests (a), (d), (e), (f), (g), (i) and (k) of document 02.
 //!
 //! Every word of 01 is computed anew from the list of earlier events.
 //! The quoted sentences are 01's, for 23 those of 02 (a), for 16 at N also those of 02 (d), for the
 //! short course and 25 those of 02 (e), for the `V` line, the lines of events and 26 to 28 those of
-//! 02 (f), and for the width of values those of 02 (g). 02 (k) asks for "the same order" and changes
-//! only a limit of 7, which cannot arise here.
+//! 02 (f), for the width of values those of 02 (g), and for Y, F, C, 29 and 30 those of 02 (i). 02 (k)
+//! asks for "the same order" and changes only a limit of 7, which cannot arise here.
 
 pub mod listing;
 pub mod order;
@@ -66,7 +66,7 @@ const FULL: Limits = Limits { counts: Counts::plain(MAX_THREADS, MAX_VARIABLES, 
 /// "at most 2 threads, 4 variables, 2 locks and 200 events", with 25 "in place of 9 for events".
 const SHORT: Limits = Limits { counts: Counts::plain(2, 4, 2), events: 200, number: 25 };
 
-/// "An event is one of ten kinds", named by its letter.
+/// "An event is one of ten kinds", and of the three of 02 (i), named by its letter.
 #[derive(Clone, Copy, Debug, PartialEq, Eq)]
 pub enum Kind {
     /// Use.
@@ -89,10 +89,24 @@ pub enum Kind {
     P,
     /// The assign that an early store announced.
     B,
+    /// "`Y t l` waits".
+    Y,
+    /// "`F t l u` notifies thread u".
+    F,
+    /// "`C t l` comes back".
+    C,
 }
 
-/// One event. `target` is the lock of a K or N and the variable of every other kind.
-/// "a lock event has no value": the `value` of a K or N is 0 and is never read.
+impl Kind {
+    /// A lock event: its `target` is a lock, and of every other kind it is a variable.
+    pub fn on_lock(self) -> bool {
+        matches!(self, Kind::K | Kind::N | Kind::Y | Kind::F | Kind::C)
+    }
+}
+
+/// One event. `target` is the lock of a K, N, Y, F or C and the variable of every other kind.
+/// "a lock event has no value": the `value` of a K, N, Y or C is 0 and is never read; that of an F is
+/// the notified thread u.
 #[derive(Clone, Copy, Debug, PartialEq, Eq)]
 pub struct Event {
     pub kind: Kind,
@@ -129,7 +143,7 @@ pub struct UsableCopy {
 pub enum Order {
     /// The paper is refused, or has `G -`.
     None,
-    /// The sections in order of their last K.
+    /// The sections in order of their last K or C.
     Sections(Vec<Section>),
     /// 20, 21 or 22, and its line.
     Denied { number: u32, line: usize },

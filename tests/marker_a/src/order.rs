@@ -1,10 +1,12 @@
 //! Rules 20 to 22, sections, and the plain memory of demand 3.
 
-use crate::rules::{held, owed, under};
-use crate::Kind::{A, B, K, N, U};
+use crate::rules::{depth, held, owed, remembered, under, waits};
+use crate::Kind::{A, B, C, K, N, U, Y};
 use crate::{line_of, Counts, Event, Value, MAX_LOCKS, MAX_VARIABLES};
 
-/// A section: its thread, the lines of its first K and last N, and the line of its last K.
+/// A section: its thread, the lines of its first K and last N, and the line of its last K. "For
+/// serial orders [...] Y counts as an unlock of each hold given up and C as a lock of each taken
+/// again": a C may stand for the K, and a Y for the N.
 #[derive(Clone, Copy, Debug, PartialEq, Eq)]
 pub struct Section {
     pub thread: u32,
@@ -21,7 +23,7 @@ pub struct Given {
     pub stated: Value,
 }
 
-/// The places of a section in the list: its first K, and its last N unless it is still
+/// The places of a section in the list: its first K or C, and its last N or Y unless it is still
 /// running at the end of the list.
 struct Span {
     thread: u32,
@@ -34,11 +36,23 @@ fn holds_nothing(es: &[Event], t: u32) -> bool {
     (0..MAX_LOCKS).all(|lock| !held(es, t, lock))
 }
 
+/// A K, or "C as a lock of each taken again". A C that takes none is no lock.
+fn locks(events: &[Event], i: usize) -> bool {
+    let e = &events[i];
+    e.kind == K || (e.kind == C && remembered(&events[..i], e.thread, e.target) > 0)
+}
+
+/// An N, or "Y [...] as an unlock of each hold given up". A Y that gives up none is no unlock.
+fn unlocks(events: &[Event], i: usize) -> bool {
+    let e = &events[i];
+    e.kind == N || (e.kind == Y && depth(&events[..i], e.thread, e.target) > 0)
+}
+
 /// "A section runs from a K by a thread holding nothing to the N after which it holds
 /// nothing."
 fn spans(events: &[Event]) -> Vec<Span> {
     (0..events.len())
-        .filter(|&i| events[i].kind == K && holds_nothing(&events[..i], events[i].thread))
+        .filter(|&i| locks(events, i) && holds_nothing(&events[..i], events[i].thread))
         .map(|start| Span { thread: events[start].thread, start, end: section_end(events, start) })
         .collect()
 }
@@ -46,7 +60,7 @@ fn spans(events: &[Event]) -> Vec<Span> {
 /// "the N after which it holds nothing".
 fn section_end(events: &[Event], start: usize) -> Option<usize> {
     let t = events[start].thread;
-    (start + 1..events.len()).find(|&i| events[i].kind == N && events[i].thread == t && holds_nothing(&events[..=i], t))
+    (start + 1..events.len()).find(|&i| events[i].thread == t && unlocks(events, i) && holds_nothing(&events[..=i], t))
 }
 
 /// The ended sections. "The list is in order of each section's last K, one entry for each
@@ -59,7 +73,7 @@ pub fn sections(counts: Counts, events: &[Event]) -> Vec<Section> {
 
 fn section(counts: Counts, events: &[Event], span: &Span) -> Option<Section> {
     let end = span.end?;
-    let last_lock = (span.start..end).rev().find(|&i| events[i].kind == K && events[i].thread == span.thread)?;
+    let last_lock = (span.start..end).rev().find(|&i| events[i].thread == span.thread && locks(events, i))?;
     let line = |place| line_of(counts, place);
     Some(Section { thread: span.thread, first: line(span.start), last: line(end), last_lock: line(last_lock) })
 }
@@ -90,11 +104,11 @@ fn rule_20(guards: &[u32], events: &[Event], i: usize) -> bool {
 /// "21. K by a thread after an N in the same section."
 fn rule_21(spans: &[Span], events: &[Event], i: usize) -> bool {
     let t = events[i].thread;
-    events[i].kind == K
+    locks(events, i)
         && spans
             .iter()
             .filter(|span| in_span(span, t, i))
-            .any(|span| events[span.start..i].iter().any(|e| e.kind == N && e.thread == t))
+            .any(|span| (span.start..i).any(|before| events[before].thread == t && unlocks(events, before)))
 }
 
 /// An event by T at place `i` is in the section.
@@ -102,9 +116,11 @@ fn in_span(span: &Span, t: u32, i: usize) -> bool {
     span.thread == t && span.start <= i && span.end.is_none_or(|end| i <= end)
 }
 
-/// "22. At the end a lock is held or an assign owed (trailer line)."
+/// "22. At the end a lock is held or an assign owed (trailer line)." "a thread still waiting makes
+/// 22".
 fn rule_22(counts: Counts, events: &[Event]) -> bool {
-    (0..counts.threads).any(|t| !holds_nothing(events, t) || (0..counts.variables).any(|v| owed(events, t, v)))
+    let owes = |t| (0..counts.variables).any(|v| owed(events, t, v));
+    (0..counts.threads).any(|t| !holds_nothing(events, t) || owes(t) || waits(events, counts, t))
 }
 
 /// The plain memory of demand 3. "The sections are run in the order's sequence, each to its

@@ -120,19 +120,20 @@ fn volatiles(line: &[u8], counts: Counts) -> Option<[bool; MAX_VARIABLES as usiz
 }
 
 /// An event line without its byte 10; none where 4 refuses it.
-/// "`K t l` lock and `N t l` unlock. The others are letter, thread, variable, value".
+/// "`K t l` lock and `N t l` unlock. The others are letter, thread, variable, value". "`Y t l` waits,
+/// `F t l u` notifies thread u, `C t l` comes back."
 pub fn event(line: &[u8]) -> Option<Event> {
     let parts = fields(line);
     let kind = kind(parts.first()?)?;
-    let lock_event = matches!(kind, Kind::K | Kind::N);
     match parts[1..] {
-        [t, l] if lock_event => Some(Event { kind, thread: index(t)?, target: index(l)?, value: 0 }),
-        [t, v, x] if !lock_event => Some(Event { kind, thread: index(t)?, target: index(v)?, value: value(x)? }),
+        [t, l, u] if kind == Kind::F => Some(Event { kind, thread: index(t)?, target: index(l)?, value: index(u)?.into() }),
+        [t, l] if kind.on_lock() && kind != Kind::F => Some(Event { kind, thread: index(t)?, target: index(l)?, value: 0 }),
+        [t, v, x] if !kind.on_lock() => Some(Event { kind, thread: index(t)?, target: index(v)?, value: value(x)? }),
         _ => None,
     }
 }
 
-/// The ten letters.
+/// The ten letters of 01 and the three of 02 (i).
 fn kind(field: &[u8]) -> Option<Kind> {
     match field {
         b"U" => Some(Kind::U),
@@ -145,6 +146,9 @@ fn kind(field: &[u8]) -> Option<Kind> {
         b"N" => Some(Kind::N),
         b"P" => Some(Kind::P),
         b"B" => Some(Kind::B),
+        b"Y" => Some(Kind::Y),
+        b"F" => Some(Kind::F),
+        b"C" => Some(Kind::C),
         _ => None,
     }
 }

@@ -1,25 +1,29 @@
-//! The words about earlier events, rules 5, 9 to 19, 23, 25 for events, 26 to 28, and the rows.
+//! The words about earlier events, rules 5, 9 to 19, 23, 25 for events, 26 to 30, and the rows.
 //!
 //! Every function here reads the list of earlier events and keeps nothing.
 //! T is `t`, V is `v`, the list is `es`.
 
-use crate::Kind::{self, A, B, K, L, N, P, R, S, U, W};
+use crate::Kind::{self, A, B, C, F, K, L, N, P, R, S, U, W, Y};
 use crate::{Counts, Event, Limits, Value, FULL, MAX_OUTSTANDING, MAX_VARIABLES, SHORT};
 
 /// "the ten rows of this table are fixed", with "23, dead read, after 19 in the rows of R, A
 /// and P" and "26, wrong neighbour; 27, volatile order; 28, early store or its assign on a
-/// volatile; these lead each row, in that order".
-pub const ROWS: [(Kind, &[u32]); 10] = [
-    (U, &[26, 27, 28, 17, 18]),
-    (A, &[26, 27, 28, 23]),
-    (L, &[26, 27, 28, 10, 13, 15, 16, 18]),
-    (S, &[26, 27, 28, 13, 14, 17, 18, 19]),
-    (R, &[26, 27, 28, 18, 19, 23]),
-    (W, &[26, 27, 28, 10, 18]),
-    (K, &[26, 27, 28, 11, 13]),
-    (N, &[26, 27, 28, 12, 15, 16]),
-    (P, &[26, 27, 28, 13, 19, 23]),
-    (B, &[26, 27, 28, 10, 18]),
+/// volatile; these lead each row, in that order". The three rows of 02 (i): "Y is checked as N is", "F
+/// needs the lock held, else 12", "C is checked as K is"; 29 and 30 are "both ahead of 26".
+pub const ROWS: [(Kind, &[u32]); 13] = [
+    (U, &[29, 30, 26, 27, 28, 17, 18]),
+    (A, &[29, 30, 26, 27, 28, 23]),
+    (L, &[29, 30, 26, 27, 28, 10, 13, 15, 16, 18]),
+    (S, &[29, 30, 26, 27, 28, 13, 14, 17, 18, 19]),
+    (R, &[29, 30, 26, 27, 28, 18, 19, 23]),
+    (W, &[29, 30, 26, 27, 28, 10, 18]),
+    (K, &[29, 30, 26, 27, 28, 11, 13]),
+    (N, &[29, 30, 26, 27, 28, 12, 15, 16]),
+    (P, &[29, 30, 26, 27, 28, 13, 19, 23]),
+    (B, &[29, 30, 26, 27, 28, 10, 18]),
+    (Y, &[29, 30, 26, 27, 28, 12, 15, 16]),
+    (F, &[29, 30, 26, 27, 28, 12]),
+    (C, &[29, 30, 26, 27, 28, 11, 13]),
 ];
 
 /// 0, or the number of the first rule that `e` breaks after the earlier events:
@@ -71,13 +75,16 @@ pub fn breaks(number: u32, es: &[Event], counts: Counts, e: &Event) -> bool {
         26 => rule_26(es, counts, e),
         27 => rule_27(es, counts, e),
         28 => rule_28(counts, e),
+        29 => rule_29(es, counts, e),
+        30 => rule_30(es, e),
         _ => false,
     }
 }
 
 // ---- the words ----
 
-/// Whether `e` is an event of one of these kinds, none of them K or N, by T on V.
+/// Whether `e` is an event of one of these kinds by T on V; where they are kinds of lock events, on
+/// the lock `v`.
 fn is(e: &Event, kinds: &[Kind], t: u32, v: u32) -> bool {
     e.thread == t && e.target == v && kinds.contains(&e.kind)
 }
@@ -148,9 +155,9 @@ pub fn stores_counted_at_unlock(es: &[Event], t: u32, v: u32) -> Vec<usize> {
 }
 
 /// "*Usable*: since T's last K, on whichever lock (or the start), there is an A or B of V,
-/// or an L whose read came after that K."
+/// or an L whose read came after that K." C "spoils copies as K does".
 pub fn usable(es: &[Event], t: u32, v: u32) -> bool {
-    let since = match es.iter().rposition(|e| e.kind == K && e.thread == t) {
+    let since = match es.iter().rposition(|e| matches!(e.kind, K | C) && e.thread == t) {
         Some(last_lock) => last_lock + 1,
         None => 0,
     };
@@ -159,10 +166,52 @@ pub fn usable(es: &[Event], t: u32, v: u32) -> bool {
     assigned || loaded
 }
 
-/// "*Held* by T: more K than N by T on that lock."
+/// "*Held* by T: more K than N by T on that lock." "for what is held, Y counts as an unlock of each
+/// hold given up and C as a lock of each taken again".
 pub fn held(es: &[Event], t: u32, lock: u32) -> bool {
-    let count = |kind| es.iter().filter(|e| e.kind == kind && e.thread == t && e.target == lock).count();
-    count(K) > count(N)
+    depth(es, t, lock) > 0
+}
+
+/// How many holds T has on the lock: as many as there are more K than N.
+pub fn depth(es: &[Event], t: u32, lock: u32) -> usize {
+    let tally = tally(es, t, lock);
+    tally.locks.saturating_sub(tally.unlocks)
+}
+
+/// The holds that T gave up at its Y on the lock and has not taken again; 0 where it does not wait
+/// on it.
+pub fn remembered(es: &[Event], t: u32, lock: u32) -> usize {
+    tally(es, t, lock).given_up
+}
+
+/// T's locks and unlocks of a lock, and the number that its Y remembers until its C.
+#[derive(Default)]
+struct Tally {
+    locks: usize,
+    unlocks: usize,
+    given_up: usize,
+}
+
+/// What T's K, N, Y and C on the lock come to. A Y "gives up every hold on the lock and remembers
+/// their number", a C "takes all the holds again". What a Y gives up hangs on the events before it,
+/// so they are gone through from the first.
+fn tally(es: &[Event], t: u32, lock: u32) -> Tally {
+    let mut tally = Tally::default();
+    for e in es.iter().filter(|e| is(e, &[K, N, Y, C], t, lock)) {
+        match e.kind {
+            K => tally.locks += 1,
+            N => tally.unlocks += 1,
+            Y => {
+                tally.given_up = tally.locks.saturating_sub(tally.unlocks);
+                tally.unlocks += tally.given_up;
+            }
+            _ => {
+                tally.locks += tally.given_up;
+                tally.given_up = 0;
+            }
+        }
+    }
+    tally
 }
 
 /// "*Under* V's guard: T holds the lock that the `G` line names for V."
@@ -173,6 +222,31 @@ pub fn under(es: &[Event], guards: &[u32], t: u32, v: u32) -> bool {
 /// "*Main memory* of V: the value of the latest W on V, by any thread; 0 before one."
 pub fn main_memory(es: &[Event], v: u32) -> Value {
     es.iter().rev().find(|e| e.kind == W && e.target == v).map_or(0, |e| e.value)
+}
+
+// ---- the words about waiting ----
+
+/// "A thread waits from its Y to its C": T's latest Y or C on the lock, if it is a Y; its place.
+fn latest_wait(es: &[Event], t: u32, lock: u32) -> Option<usize> {
+    let place = es.iter().rposition(|e| is(e, &[Y, C], t, lock))?;
+    (es[place].kind == Y).then_some(place)
+}
+
+/// T waits on the lock.
+pub fn waits_on(es: &[Event], t: u32, lock: u32) -> bool {
+    latest_wait(es, t, lock).is_some()
+}
+
+/// T waits, on whichever lock.
+pub fn waits(es: &[Event], counts: Counts, t: u32) -> bool {
+    (0..counts.locks).any(|lock| waits_on(es, t, lock))
+}
+
+/// T waits on the lock and has been notified on it: since its Y there is an F on the lock, by
+/// whichever thread, that notifies T.
+pub fn notified(es: &[Event], t: u32, lock: u32) -> bool {
+    let notifies = |e: &Event| e.kind == F && e.target == lock && e.value == Value::from(t);
+    latest_wait(es, t, lock).is_some_and(|place| es[place..].iter().any(notifies))
 }
 
 // ---- the words about volatile variables ----
@@ -247,13 +321,11 @@ fn rule_9(es: &[Event], limits: Limits) -> bool {
     es.len() >= limits.events
 }
 
-/// "5. Thread, variable or lock not declared."
+/// "5. Thread, variable or lock not declared." The thread that an F notifies is one too.
 fn rule_5(counts: Counts, e: &Event) -> bool {
-    let targets = match e.kind {
-        K | N => counts.locks,
-        _ => counts.variables,
-    };
-    e.thread >= counts.threads || e.target >= targets
+    let targets = if e.kind.on_lock() { counts.locks } else { counts.variables };
+    let notified = e.kind != F || (0..Value::from(counts.threads)).contains(&e.value);
+    e.thread >= counts.threads || e.target >= targets || !notified
 }
 
 /// "10. No partner: L without an outstanding read, W without an outstanding store, B when
@@ -272,16 +344,16 @@ fn rule_11(es: &[Event], counts: Counts, e: &Event) -> bool {
     (0..counts.threads).any(|t| t != e.thread && held(es, t, e.target))
 }
 
-/// "12. Unlock of a lock that T does not hold."
+/// "12. Unlock of a lock that T does not hold." "F needs the lock held, else 12."
 fn rule_12(es: &[Event], e: &Event) -> bool {
     !held(es, e.thread, e.target)
 }
 
 /// "13. An owed assign bars it: K while T owes on some variable; L, S, P on V while T owes
-/// on V."
+/// on V." "C is checked as K is".
 fn rule_13(es: &[Event], counts: Counts, e: &Event) -> bool {
     match e.kind {
-        K => (0..counts.variables).any(|v| owed(es, e.thread, v)),
+        K | C => (0..counts.variables).any(|v| owed(es, e.thread, v)),
         L | S | P => owed(es, e.thread, e.target),
         _ => false,
     }
@@ -292,22 +364,24 @@ fn rule_14(es: &[Event], e: &Event) -> bool {
     !fresh(es, e.thread, e.target)
 }
 
-/// "15. Fresh assign not stored: L on V; N while T has a fresh assign on some variable."
+/// "15. Fresh assign not stored: L on V; N while T has a fresh assign on some variable." "Y is checked
+/// as N is".
 fn rule_15(es: &[Event], counts: Counts, e: &Event) -> bool {
     match e.kind {
         L => fresh(es, e.thread, e.target),
-        N => (0..counts.variables).any(|v| fresh(es, e.thread, v)),
+        N | Y => (0..counts.variables).any(|v| fresh(es, e.thread, v)),
         _ => false,
     }
 }
 
 /// "16. Store not written: L with an outstanding store of T on V, or whose read came before
 /// a write of T on V; N while T has an outstanding store. The syllabus counts an early store
-/// here like the others." "In 16 at N, a store whose assign is owed counts no longer."
+/// here like the others." "In 16 at N, a store whose assign is owed counts no longer." "Y is checked as
+/// N is".
 fn rule_16(es: &[Event], counts: Counts, e: &Event) -> bool {
     match e.kind {
         L => !outstanding_stores(es, e.thread, e.target).is_empty() || read_before_write(es, e.thread, e.target),
-        N => (0..counts.variables).any(|v| !stores_counted_at_unlock(es, e.thread, v).is_empty()),
+        N | Y => (0..counts.variables).any(|v| !stores_counted_at_unlock(es, e.thread, v).is_empty()),
         _ => false,
     }
 }
@@ -335,7 +409,7 @@ fn rule_18(es: &[Event], e: &Event) -> bool {
         W => first(outstanding_stores(es, e.thread, e.target)),
         R => Some(main_memory(es, e.target)),
         B => latest(es, &[P], e.thread, e.target).map(|p| p.value),
-        A | K | N | P => return false,
+        A | P | K | N | Y | F | C => return false,
     };
     expected != Some(e.value)
 }
@@ -367,7 +441,7 @@ fn rule_23(es: &[Event], e: &Event) -> bool {
 /// follow A among that thread's own events on it, R and W left aside, and after L or A nothing
 /// else may come."
 fn rule_26(es: &[Event], counts: Counts, e: &Event) -> bool {
-    if matches!(e.kind, R | W | K | N) || !volatile(counts, e.target) {
+    if matches!(e.kind, R | W) || e.kind.on_lock() || !volatile(counts, e.target) {
         return false;
     }
     let before = own_events(es, e.thread, e.target).last().map(|&place| es[place].kind);
@@ -411,4 +485,18 @@ fn write_out_of_order(es: &[Event], counts: Counts, e: &Event) -> bool {
 /// "28, early store or its assign on a volatile".
 fn rule_28(counts: Counts, e: &Event) -> bool {
     matches!(e.kind, P | B) && volatile(counts, e.target)
+}
+
+/// "29, event other than C, R or W of a waiting thread".
+fn rule_29(es: &[Event], counts: Counts, e: &Event) -> bool {
+    !matches!(e.kind, C | R | W) && waits(es, counts, e.thread)
+}
+
+/// "30, F for a thread not waiting on that lock or already notified, C by one not notified on it".
+fn rule_30(es: &[Event], e: &Event) -> bool {
+    match e.kind {
+        F => !u32::try_from(e.value).is_ok_and(|u| waits_on(es, u, e.target) && !notified(es, u, e.target)),
+        C => !notified(es, e.thread, e.target),
+        _ => false,
+    }
 }

@@ -12,7 +12,7 @@ pub struct Counts {
     pub volatiles: [bool; VARIABLES],
 }
 
-/// An event: its letter, thread, variable (or lock) and value. A lock event has no value: 0 stands there.
+/// An event: its letter, thread, variable (or lock) and value. A lock event has no value: F has the notified thread there, the others 0.
 #[derive(Clone, Copy, Debug, PartialEq, Eq)]
 pub struct Event {
     pub letter: u8,
@@ -22,14 +22,15 @@ pub struct Event {
 }
 
 impl Event {
+    /// It is on a lock.
     pub fn is_lock(&self) -> bool {
-        matches!(self.letter, b'K' | b'N')
+        matches!(self.letter, b'K' | b'N' | b'Y' | b'F' | b'C')
     }
 
     /// The event's line, without byte 10.
     pub fn line(&self) -> String {
         let letter = self.letter as char;
-        if self.is_lock() {
+        if self.is_lock() && self.letter != b'F' {
             format!("{letter} {} {}", self.thread, self.place)
         } else {
             format!("{letter} {} {} {}", self.thread, self.place, self.value)
@@ -168,6 +169,23 @@ struct Lock {
     depth: u32,
 }
 
+/// What a thread waits for: the lock's number plus 1, or 0 where it does not wait, how many times it held the lock, and whether it is notified.
+#[repr(C)]
+#[derive(Clone, Copy, Debug, Default, PartialEq, Eq)]
+pub struct Wait {
+    pub lock: usize,
+    pub depth: u32,
+    pub notified: bool,
+}
+
+const _: () = assert!(std::mem::size_of::<Wait>() == 16);
+
+impl Wait {
+    pub fn is_on(&self, l: usize) -> bool {
+        self.lock == l + 1
+    }
+}
+
 #[derive(Clone, Copy)]
 struct Section {
     last_lock: u32,
@@ -190,6 +208,7 @@ pub struct State {
     main: [Value; VARIABLES],
     sections: Vec<Section>,
     denied: Option<(u32, u32)>,
+    waits: [Wait; THREADS],
 }
 
 impl State {
@@ -210,11 +229,16 @@ impl State {
             main: [0; VARIABLES],
             sections: Vec::new(),
             denied: None,
+            waits: Default::default(),
         }
     }
 
     fn holds(&self, t: usize, l: usize) -> bool {
         self.locks[l].depth > 0 && self.locks[l].holder == t
+    }
+
+    fn is_waiting(&self, t: usize) -> bool {
+        self.waits[t].lock != 0
     }
 
     fn usable(&self, t: usize, v: usize) -> bool {
@@ -259,44 +283,63 @@ impl State {
         }
     }
 
+    /// Whether the thread and the variable or lock are declared, and the thread that F notifies.
+    fn declares(&self, e: Event) -> bool {
+        let Counts { threads, variables, locks, .. } = self.counts;
+        let notified = e.letter != b'F' || (0..threads as Value).contains(&e.value);
+        e.thread < threads && e.place < (if e.is_lock() { locks } else { variables }) && notified
+    }
+
+    /// The refusal of a declared event by 29 and 30; 0 where none of them holds.
+    fn judge_waiting(&self, e: Event) -> u32 {
+        let unheard = |u: usize| self.waits[u].is_on(e.place) && !self.waits[u].notified;
+        let notified = |t: usize| self.waits[t].is_on(e.place) && self.waits[t].notified;
+        match e.letter {
+            b'R' | b'W' => 0,
+            b'C' if !notified(e.thread) => 30,
+            b'C' => 0,
+            _ if self.is_waiting(e.thread) => 29,
+            b'F' if !unheard(e.value as usize) => 30,
+            _ => 0,
+        }
+    }
+
+    /// The refusal of a declared event on a lock by the rest of its row.
+    fn judge_lock(&self, letter: u8, t: usize, l: usize) -> u32 {
+        let (thread, lock) = (&self.threads[t], self.locks[l]);
+        match letter {
+            b'K' | b'C' if lock.depth > 0 && lock.holder != t => 11,
+            b'K' | b'C' if thread.owed > 0 => 13,
+            b'N' | b'Y' | b'F' if !self.holds(t, l) => 12,
+            b'N' | b'Y' if thread.fresh > 0 => 15,
+            b'N' | b'Y' if thread.unwritten > 0 => 16,
+            _ => 0,
+        }
+    }
+
     /// The refusal of the next event; 0 when it is accepted.
     pub fn judge(&self, e: Event) -> u32 {
-        let Event { letter, thread: t, place: p, value: x } = e;
         if self.events >= self.course.events() {
             return self.course.over();
         }
-        let lock_event = letter == b'K' || letter == b'N';
-        if t >= self.counts.threads || p >= (if lock_event { self.counts.locks } else { self.counts.variables }) {
+        if !self.declares(e) {
             return 5;
         }
-        let thread = &self.threads[t];
-        if lock_event {
-            let lock = self.locks[p];
-            return if letter == b'K' {
-                if lock.depth > 0 && lock.holder != t {
-                    11
-                } else if thread.owed > 0 {
-                    13
-                } else {
-                    0
-                }
-            } else if !self.holds(t, p) {
-                12
-            } else if thread.fresh > 0 {
-                15
-            } else if thread.unwritten > 0 {
-                16
-            } else {
-                0
-            };
+        let mut number = self.judge_waiting(e);
+        if number == 0 && !e.is_lock() && self.counts.volatiles[e.place] {
+            number = self.judge_volatile(e.letter, e.thread, e.place);
         }
+        match number {
+            0 if e.is_lock() => self.judge_lock(e.letter, e.thread, e.place),
+            0 => self.judge_access(e),
+            _ => number,
+        }
+    }
+
+    /// The refusal of a declared event on a variable by the rest of its row.
+    fn judge_access(&self, e: Event) -> u32 {
+        let Event { letter, thread: t, place: p, value: x } = e;
         let cell = &self.cells[t][p];
-        if self.counts.volatiles[p] {
-            let number = self.judge_volatile(letter, t, p);
-            if number != 0 {
-                return number;
-            }
-        }
         match letter {
             b'U' if !self.usable(t, p) => 17,
             b'U' if cell.copy != x => 18,
@@ -347,90 +390,110 @@ impl State {
     /// Takes in an accepted event.
     fn take(&mut self, e: Event) {
         let Event { letter, thread: t, place: p, value: x } = e;
-        let line = self.line();
         if let (b'U' | b'A' | b'B', Some(guards)) = (letter, self.guards) {
             if !self.holds(t, guards[p]) {
                 self.deny(20);
             }
         }
-        if letter == b'K' && self.threads[t].unlocked {
+        if matches!(letter, b'K' | b'C') && self.threads[t].unlocked {
             self.deny(21);
         }
-        self.events += 1;
-        let now = self.events;
-        let thread = &mut self.threads[t];
         match letter {
-            b'K' => {
-                if thread.depth == 0 {
-                    thread.section = line;
-                }
-                thread.depth += 1;
-                thread.last_lock = now;
-                self.locks[p].holder = t;
-                self.locks[p].depth += 1;
+            b'K' => self.lock(t, p, self.locks[p].depth + 1),
+            b'N' => self.unlock(t, p, self.locks[p].depth - 1),
+            b'Y' => {
+                self.waits[t] = Wait { lock: p + 1, depth: self.locks[p].depth, notified: false };
+                self.unlock(t, p, 0);
             }
-            b'N' => {
-                thread.depth -= 1;
-                thread.unlocked = thread.depth > 0;
-                if thread.depth == 0 {
-                    self.sections.push(Section { last_lock: thread.last_lock, thread: t, first: thread.section, last: line });
-                }
-                self.locks[p].depth -= 1;
+            b'F' => self.waits[x as usize].notified = true,
+            b'C' => {
+                self.lock(t, p, self.waits[t].depth);
+                self.waits[t] = Wait::default();
             }
-            _ => {
-                let cell = &mut self.cells[t][p];
-                if letter != b'R' && letter != b'W' {
-                    cell.latest = letter;
-                }
-                match letter {
-                    b'U' => cell.used = cell.loaded,
-                    b'A' => {
-                        thread.fresh += u32::from(!cell.fresh);
-                        cell.fresh = true;
-                        cell.copy = x;
-                        cell.source = now;
-                        cell.assigned = now;
-                    }
-                    b'L' => {
-                        let (_, position) = cell.reads.front().unwrap();
-                        cell.reads.pop();
-                        cell.copy = x;
-                        cell.source = cell.source.max(position);
-                        cell.loaded = position;
-                    }
-                    b'S' => {
-                        thread.fresh -= 1;
-                        thread.unwritten += 1;
-                        cell.fresh = false;
-                        cell.stores.push(x, cell.assigned);
-                    }
-                    b'R' => cell.reads.push(x, now),
-                    b'W' => {
-                        // nothing is stored while an assign is owed, so that the last store left is the early one
-                        let early = cell.owed && cell.stores.len == 1;
-                        thread.unwritten -= u32::from(!early);
-                        cell.stores.pop();
-                        cell.last_write = now;
-                        self.main[p] = x;
-                    }
-                    b'P' => {
-                        thread.owed += 1;
-                        cell.owed = true;
-                        cell.announced = x;
-                        cell.stores.push(x, now);
-                    }
-                    b'B' => {
-                        thread.owed -= 1;
-                        thread.unwritten += u32::from(cell.stores.len > 0);
-                        thread.fresh -= u32::from(cell.fresh);
-                        cell.owed = false;
-                        cell.fresh = false;
-                        cell.copy = x;
-                        cell.source = now;
-                    }
-                    _ => {}
-                }
+            _ => self.access(e),
+        }
+        self.events += 1;
+    }
+
+    /// The next event leaves the lock with this depth, which is greater.
+    fn lock(&mut self, t: usize, l: usize, depth: u32) {
+        let (line, now) = (self.line(), self.events + 1);
+        let thread = &mut self.threads[t];
+        if thread.depth == 0 {
+            thread.section = line;
+        }
+        thread.depth += depth - self.locks[l].depth;
+        thread.last_lock = now;
+        self.locks[l] = Lock { holder: t, depth };
+    }
+
+    /// The next event leaves the lock with this depth, which is smaller.
+    fn unlock(&mut self, t: usize, l: usize, depth: u32) {
+        let line = self.line();
+        let thread = &mut self.threads[t];
+        thread.depth -= self.locks[l].depth - depth;
+        thread.unlocked = thread.depth > 0;
+        if thread.depth == 0 {
+            self.sections.push(Section { last_lock: thread.last_lock, thread: t, first: thread.section, last: line });
+        }
+        self.locks[l].depth = depth;
+    }
+
+    /// Takes in an event on a variable, which is the next.
+    fn access(&mut self, e: Event) {
+        let Event { letter, thread: t, place: p, value: x } = e;
+        let now = self.events + 1;
+        let (thread, cell) = (&mut self.threads[t], &mut self.cells[t][p]);
+        if letter != b'R' && letter != b'W' {
+            cell.latest = letter;
+        }
+        match letter {
+            b'U' => cell.used = cell.loaded,
+            b'A' => {
+                thread.fresh += u32::from(!cell.fresh);
+                cell.fresh = true;
+                cell.copy = x;
+                cell.source = now;
+                cell.assigned = now;
             }
+            b'L' => {
+                let (_, position) = cell.reads.front().unwrap();
+                cell.reads.pop();
+                cell.copy = x;
+                cell.source = cell.source.max(position);
+                cell.loaded = position;
+            }
+            b'S' => {
+                thread.fresh -= 1;
+                thread.unwritten += 1;
+                cell.fresh = false;
+                cell.stores.push(x, cell.assigned);
+            }
+            b'R' => cell.reads.push(x, now),
+            b'W' => {
+                // nothing is stored while an assign is owed, so that the last store left is the early one
+                let early = cell.owed && cell.stores.len == 1;
+                thread.unwritten -= u32::from(!early);
+                cell.stores.pop();
+                cell.last_write = now;
+                self.main[p] = x;
+            }
+            b'P' => {
+                thread.owed += 1;
+                cell.owed = true;
+                cell.announced = x;
+                cell.stores.push(x, now);
+            }
+            b'B' => {
+                thread.owed -= 1;
+                thread.unwritten += u32::from(cell.stores.len > 0);
+                thread.fresh -= u32::from(cell.fresh);
+                cell.owed = false;
+                cell.fresh = false;
+                cell.copy = x;
+                cell.source = now;
+            }
+            _ => {}
         }
     }
 
@@ -446,6 +509,7 @@ impl State {
     /// Why the events have no order, after the last one.
     fn denial(&self) -> Option<(u32, u32)> {
         let open = self.threads.iter().any(|thread| thread.depth > 0 || thread.owed > 0);
+        let open = open || self.waits.iter().any(|wait| wait.lock != 0);
         self.denied.or(open.then_some((self.line(), 22)))
     }
 
@@ -509,7 +573,12 @@ impl State {
     pub fn denies(&self, e: Event) -> bool {
         match (e.letter, self.guards) {
             (b'U' | b'A' | b'B' | b'P', Some(guards)) => !self.holds(e.thread, guards[e.place]),
-            (b'K', _) => self.threads[e.thread].unlocked,
+            (b'K' | b'C', _) => self.threads[e.thread].unlocked,
+            // with another lock held the C is after an unlock, and an owed assign bars it
+            (b'Y', _) => {
+                let thread = &self.threads[e.thread];
+                thread.depth > self.locks[e.place].depth || thread.owed > 0
+            }
             // the owed B must come under its guard, and 13 bars a K before it
             (b'N', Some(guards)) => {
                 let owed = |v: usize| guards[v] == e.place && self.cells[e.thread][v].owed;
@@ -525,25 +594,31 @@ impl State {
         let (t, v) = (e.thread, e.place);
         let last_lock = self.threads[t].last_lock;
         // the read of a load that is not used, else the oldest that is not loaded
-        let waiting = |c: &Cell| if c.latest == b'L' { Some(c.loaded) } else { c.reads.front().map(|(_, read)| read) };
+        let unused = |c: &Cell| if c.latest == b'L' { Some(c.loaded) } else { c.reads.front().map(|(_, read)| read) };
         let unwritten = || self.volatile_cells(t).any(|c| c.fresh || c.stores.len > 0);
         if !e.is_lock() && !self.counts.volatiles[v] {
             return false;
         }
         match e.letter {
-            b'R' => unwritten() || self.guards.is_some_and(|guards| !self.holds(t, guards[v])),
+            b'R' => self.is_waiting(t) || unwritten() || self.guards.is_some_and(|guards| !self.holds(t, guards[v])),
             b'L' => self.cells[t][v].reads.front().is_some_and(|(_, read)| read <= last_lock || self.use_is_late(t, read)),
-            b'U' => self.volatile_cells(t).filter_map(waiting).any(|read| read < self.cells[t][v].loaded),
-            b'A' => self.volatile_cells(t).any(|c| waiting(c).is_some()),
-            b'K' => self.volatile_cells(t).any(|c| waiting(c).is_some() || c.latest == b'A'),
-            b'N' => self.guards.is_some() && self.volatile_cells(t).any(|c| waiting(c).is_some()),
+            b'U' => self.volatile_cells(t).filter_map(unused).any(|read| read < self.cells[t][v].loaded),
+            b'A' => self.volatile_cells(t).any(|c| unused(c).is_some()),
+            // a C comes behind a Y
+            b'K' | b'Y' | b'C' => self.volatile_cells(t).any(|c| unused(c).is_some() || c.latest == b'A'),
+            b'N' => self.guards.is_some() && self.volatile_cells(t).any(|c| unused(c).is_some()),
             _ => false,
         }
     }
 
     pub fn busy(&self, t: usize) -> bool {
         let thread = &self.threads[t];
-        thread.depth > 0 || thread.owed > 0 || thread.fresh > 0 || thread.unwritten > 0
+        thread.depth > 0 || thread.owed > 0 || thread.fresh > 0 || thread.unwritten > 0 || self.is_waiting(t)
+    }
+
+    /// What each thread waits for.
+    pub fn waits(&self) -> &[Wait; THREADS] {
+        &self.waits
     }
 }
 
@@ -651,11 +726,16 @@ fn read_event(line: &[u8]) -> Option<Event> {
     let letter = *line.first()?;
     let mut c = Cursor { line, at: 1 };
     let thread = match letter {
-        b'U' | b'A' | b'L' | b'S' | b'R' | b'W' | b'K' | b'N' | b'P' | b'B' => c.spaced()? as usize,
+        b'U' | b'A' | b'L' | b'S' | b'R' | b'W' | b'K' | b'N' | b'P' | b'B' | b'Y' | b'F' | b'C' => c.spaced()? as usize,
         _ => return None,
     };
     let place = c.spaced()? as usize;
-    let value = if letter == b'K' || letter == b'N' { 0 } else { c.spaced_value()? };
+    let value = match letter {
+        b'K' | b'N' | b'Y' | b'C' => 0,
+        // a number that is too large stays one
+        b'F' => Value::try_from(c.spaced()?).unwrap_or(Value::MAX),
+        _ => c.spaced_value()?,
+    };
     c.end()?;
     Some(Event { letter, thread, place, value })
 }

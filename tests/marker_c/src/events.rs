@@ -1,6 +1,6 @@
 //! The event lines, read and marked in one loop.
 
-use crate::fields::{load, long_fields, unread};
+use crate::fields::{load, long_fields, unread, wait_fields};
 use crate::find::Found;
 use crate::rows::*;
 use crate::volatiles::Accesses;
@@ -11,12 +11,14 @@ use std::mem::MaybeUninit;
 /// Reading a line by words takes bytes up to so many behind its start, and less than so many before it.
 const AROUND: usize = 40;
 
-/// How marking ended: after the last event, or at an event that is refused or denies the order.
+/// How marking ended: after the last event, at an event that is refused or denies the order, or at a line with Y, F or C, which is marked
+/// apart.
 #[derive(Clone, Copy)]
 pub enum End {
     Done,
     Refused(usize),
     Denied(usize),
+    Apart,
 }
 
 /// Room for what is kept until the paper is known to be accepted. It is not cleared, but for the cells of what is declared.
@@ -28,6 +30,8 @@ pub struct Room {
     sections: [u64; SECTIONS],
     /// what is kept of the volatile variables, by thread; filled where there are any
     accesses: [Accesses; THREADS],
+    /// what is kept of the waiting threads; that of the others is not filled
+    waits: [Wait; THREADS],
     /// the last lines of the paper, with enough bytes around them
     tail: [u8; 3 * AROUND],
 }
@@ -48,6 +52,9 @@ pub struct Machine<'a> {
     closed: usize,
     threads: [Thread; THREADS],
     depths: [u32; LOCKS],
+    /// the threads that wait, and those of them that are notified, a bit each
+    waiting: u32,
+    notified: u32,
     lent: PhantomData<(&'a [u8], &'a mut Room)>,
 }
 
@@ -87,6 +94,8 @@ impl<'a> Machine<'a> {
             closed: 0,
             threads: [Thread::default(); THREADS],
             depths: [0; LOCKS],
+            waiting: 0,
+            notified: 0,
             lent: PhantomData,
         }
     }
@@ -100,9 +109,9 @@ impl<'a> Machine<'a> {
         self.events + FIRST_LINE + usize::from(self.volatiles != 0)
     }
 
-    /// A lock is held or an assign owed.
+    /// A lock is held, an assign owed, or a thread waits.
     pub fn is_open(&self) -> bool {
-        self.threads.iter().any(|thread| thread.held != 0 || thread.sets & OWED != 0)
+        self.waiting != 0 || self.threads.iter().any(|thread| thread.held != 0 || thread.sets & OWED != 0)
     }
 
     pub fn counts(&self) -> Counts {
@@ -155,20 +164,30 @@ impl<'a> Machine<'a> {
     /// The same; with `VOLATILE` there are volatile variables.
     fn run_for<const ORDER: bool, const VOLATILE: bool>(&mut self) -> End {
         loop {
-            let end = self.run_lines::<ORDER, VOLATILE>();
-            // SAFETY: 16 is said of an unlock alone, and its line is the next.
-            if !matches!(end, End::Refused(16)) || !unsafe { self.unlock_over_early::<ORDER, VOLATILE>() } {
+            let end = if self.waiting == 0 {
+                self.run_lines::<ORDER, VOLATILE, false>()
+            } else {
+                self.run_lines::<ORDER, VOLATILE, true>()
+            };
+            // SAFETY: 16 is said of an unlock alone, and its line is the next; so is a line that is marked apart.
+            let end = match end {
+                End::Refused(16) => unsafe { self.unlock_over_early::<ORDER, VOLATILE>() },
+                End::Apart => unsafe { self.wait_line::<ORDER, VOLATILE>() },
+                _ => return end,
+            };
+            if !matches!(end, End::Done) {
                 return end;
             }
         }
     }
 
-    /// The same, up to an unlock of a thread with outstanding stores, which is refused with 16.
+    /// The same, up to an unlock of a thread with outstanding stores, which is refused with 16, or to a line that is marked apart. With
+    /// `WAITING` there are waiting threads.
     #[inline(never)]
-    fn run_lines<const ORDER: bool, const VOLATILE: bool>(&mut self) -> End {
+    fn run_lines<const ORDER: bool, const VOLATILE: bool, const WAITING: bool>(&mut self) -> End {
         loop {
             // SAFETY: enough bytes of the paper, or of the tail, are around the lines that start before `stop`.
-            let end = unsafe { self.run_by_words::<ORDER, VOLATILE>() };
+            let end = unsafe { self.run_by_words::<ORDER, VOLATILE, WAITING>() };
             if !matches!(end, End::Done) || self.at == self.end {
                 return end;
             }
@@ -190,7 +209,7 @@ impl<'a> Machine<'a> {
     }
 
     #[inline(always)]
-    unsafe fn run_by_words<const ORDER: bool, const VOLATILE: bool>(&mut self) -> End {
+    unsafe fn run_by_words<const ORDER: bool, const VOLATILE: bool, const WAITING: bool>(&mut self) -> End {
         let Counts { threads, variables, locks } = self.counts;
         let most = self.limits.events;
         let one_digit = variables.min(10);
@@ -211,17 +230,20 @@ impl<'a> Machine<'a> {
             let next;
             // a letter, a space, a digit, a space, a digit
             if word & 0xf0_ff_f0_ff_00 != 0x30_20_30_20_00 || t >= threads || events == most {
-                break End::Refused(unread(at, events, &self.limits));
+                break not_read(at, events, &self.limits);
             }
             if letter == b'K' || letter == b'N' {
                 if place >= locks || (word >> 40) as u8 != 10 {
-                    break End::Refused(unread(at, events, &self.limits));
+                    break not_read(at, events, &self.limits);
                 }
                 next = at.add(6);
+                if WAITING && self.waiting >> t & 1 != 0 {
+                    break End::Refused(29);
+                }
                 let end = if letter == b'K' {
-                    self.lock::<ORDER, VOLATILE>(t, place, events)
+                    self.lock::<ORDER, VOLATILE>(t, place, 1, events)
                 } else {
-                    self.unlock::<ORDER, VOLATILE, true>(t, place, events)
+                    self.unlock::<ORDER, VOLATILE, true, false>(t, place, events)
                 };
                 if !matches!(end, End::Done) {
                     break end;
@@ -232,11 +254,11 @@ impl<'a> Machine<'a> {
                     next = at.add(8);
                 } else {
                     let Some(long) = long_fields(at, word, variables) else {
-                        break End::Refused(unread(at, events, &self.limits));
+                        break not_read(at, events, &self.limits);
                     };
                     (place, value, next) = long;
                 }
-                let end = self.access::<ORDER, VOLATILE>(letter, t, place, value, events);
+                let end = self.access::<ORDER, VOLATILE, WAITING>(letter, t, place, value, events);
                 if !matches!(end, End::Done) {
                     break end;
                 }
@@ -254,7 +276,7 @@ impl<'a> Machine<'a> {
     /// An event on a variable, whatever its letter: all that a row may ask and do, by the row's numbers. Letters follow each other
     /// without a pattern, and a wrong guess of a branch would cost more than what a row does not need.
     #[inline(always)]
-    unsafe fn access<const ORDER: bool, const VOLATILE: bool>(
+    unsafe fn access<const ORDER: bool, const VOLATILE: bool, const WAITING: bool>(
         &mut self,
         letter: u8,
         t: usize,
@@ -264,7 +286,10 @@ impl<'a> Machine<'a> {
     ) -> End {
         let row = TABLE.get_unchecked(usize::from(letter % 32));
         if row.letter != letter {
-            return End::Refused(4);
+            return if letter == b'F' { End::Apart } else { End::Refused(4) };
+        }
+        if WAITING && self.waiting >> t & 1 != 0 && letter != b'R' && letter != b'W' {
+            return End::Refused(29);
         }
         let main = (&raw mut (*self.room).cells).cast::<Cell>().add(v);
         let cell = main.add(VARIABLES * (1 + t));
@@ -307,8 +332,9 @@ impl<'a> Machine<'a> {
         End::Done
     }
 
+    /// A lock is taken: by a K once, by a C as often as its Y gave it up.
     #[inline(always)]
-    unsafe fn lock<const ORDER: bool, const VOLATILE: bool>(&mut self, t: usize, l: usize, events: usize) -> End {
+    unsafe fn lock<const ORDER: bool, const VOLATILE: bool>(&mut self, t: usize, l: usize, times: u32, events: usize) -> End {
         let thread = self.threads.get_unchecked_mut(t);
         let depth = self.depths.get_unchecked_mut(l);
         if (*depth != 0) & (thread.held >> l & 1 == 0) {
@@ -321,7 +347,7 @@ impl<'a> Machine<'a> {
             return End::Denied(21);
         }
         thread.first = if thread.held == 0 { (events + first_line::<VOLATILE>()) as u32 } else { thread.first };
-        *depth += 1;
+        *depth += times;
         thread.held |= 1 << l;
         thread.last_lock = events as u32 + 1;
         thread.sets &= !USABLE;
@@ -329,9 +355,9 @@ impl<'a> Machine<'a> {
         End::Done
     }
 
-    /// With `STORES_BAR` every outstanding store bars it.
+    /// With `STORES_BAR` every outstanding store bars it, else none; with `ALL` it gives up every hold, else one.
     #[inline(always)]
-    unsafe fn unlock<const ORDER: bool, const VOLATILE: bool, const STORES_BAR: bool>(
+    unsafe fn unlock<const ORDER: bool, const VOLATILE: bool, const STORES_BAR: bool, const ALL: bool>(
         &mut self,
         t: usize,
         l: usize,
@@ -348,7 +374,7 @@ impl<'a> Machine<'a> {
         if STORES_BAR && thread.sets >= UNWRITTEN {
             return End::Refused(16);
         }
-        *depth -= 1;
+        *depth = if ALL { 0 } else { *depth - 1 };
         let free = u32::from(*depth == 0);
         thread.held &= !(free << l);
         thread.under &= !(self.guards.get_unchecked(l) & u64::from(free).wrapping_neg());
@@ -359,25 +385,104 @@ impl<'a> Machine<'a> {
         End::Done
     }
 
-    /// The unlock in the next line, whose thread has outstanding stores: it is taken in if all are early ones whose assigns are owed, at most
-    /// one of a variable. Apart from the loop, which would be slower with a call that comes back to it.
+    /// The unlock in the next line, whose thread has outstanding stores: it is taken in if all are early ones. Apart from the loop, which
+    /// would be slower with a call that comes back to it.
     #[cold]
     #[inline(never)]
-    unsafe fn unlock_over_early<const ORDER: bool, const VOLATILE: bool>(&mut self) -> bool {
+    unsafe fn unlock_over_early<const ORDER: bool, const VOLATILE: bool>(&mut self) -> End {
         let word = load(self.at);
         let (t, l) = ((word >> 16 & 15) as usize, (word >> 32 & 15) as usize);
+        if !self.are_early(t) {
+            return End::Refused(16);
+        }
+        self.unlock::<ORDER, VOLATILE, false, false>(t, l, self.events);
+        self.add_record(b'N', t, l, 0);
+        self.at = self.at.add(6);
+        End::Done
+    }
+
+    /// Whether the outstanding stores of a thread all are early ones whose assigns are owed, at most one of a variable.
+    unsafe fn are_early(&self, t: usize) -> bool {
         let sets = self.threads[t].sets;
         let stores = |v: usize| (*self.room).cells[VARIABLES * (1 + t) + v].counts[STORES];
         let early = (0..VARIABLES).filter(|&v| sets & OWED & BITS[v] != 0 && stores(v) > 0).count();
-        if sets / UNWRITTEN > early as u64 {
-            return false;
-        }
-        self.unlock::<ORDER, VOLATILE, false>(t, l, self.events);
-        (*self.room).what[self.events] = u32::from(b'N') << 16 | (t << 8 | l) as u32;
-        (*self.room).values[self.events] = 0;
+        sets / UNWRITTEN <= early as u64
+    }
+
+    /// Takes in the record of an event that is marked apart from the loop.
+    unsafe fn add_record(&mut self, letter: u8, t: usize, place: usize, value: Value) {
+        (*self.room).what[self.events] = u32::from(letter) << 16 | (t << 8 | place) as u32;
+        (*self.room).values[self.events] = value;
         self.events += 1;
-        self.at = self.at.add(6);
-        true
+    }
+
+    /// The next line, with Y, F or C. Apart from the loop, as papers have few of them.
+    #[cold]
+    #[inline(never)]
+    unsafe fn wait_line<const ORDER: bool, const VOLATILE: bool>(&mut self) -> End {
+        let Some((letter, t, l, u)) = wait_fields(self.at, self.counts).filter(|_| self.events < self.limits.events) else {
+            return End::Refused(unread(self.at, self.events, &self.limits));
+        };
+        let end = match letter {
+            b'Y' => self.wait::<ORDER, VOLATILE>(t, l),
+            b'F' => self.notify(t, l, u),
+            _ => self.come_back::<ORDER, VOLATILE>(t, l),
+        };
+        if matches!(end, End::Done) {
+            self.add_record(letter, t, l, u as Value);
+            self.at = self.at.add(if letter == b'F' { 8 } else { 6 });
+        }
+        end
+    }
+
+    /// A Y: asked as an unlock is.
+    unsafe fn wait<const ORDER: bool, const VOLATILE: bool>(&mut self, t: usize, l: usize) -> End {
+        if self.waiting >> t & 1 != 0 {
+            return End::Refused(29);
+        }
+        let depth = self.depths[l];
+        let end = if self.are_early(t) {
+            self.unlock::<ORDER, VOLATILE, false, true>(t, l, self.events)
+        } else {
+            self.unlock::<ORDER, VOLATILE, true, true>(t, l, self.events)
+        };
+        if matches!(end, End::Done) {
+            (*self.room).waits[t] = Wait { lock: l, depth };
+            self.waiting |= 1 << t;
+        }
+        end
+    }
+
+    /// An F.
+    unsafe fn notify(&mut self, t: usize, l: usize, u: usize) -> End {
+        if self.waiting >> t & 1 != 0 {
+            return End::Refused(29);
+        }
+        if !self.waits_on(u, l) || self.notified >> u & 1 != 0 {
+            return End::Refused(30);
+        }
+        if self.threads[t].held >> l & 1 == 0 {
+            return End::Refused(12);
+        }
+        self.notified |= 1 << u;
+        End::Done
+    }
+
+    /// A C: asked as a lock is.
+    unsafe fn come_back<const ORDER: bool, const VOLATILE: bool>(&mut self, t: usize, l: usize) -> End {
+        if !self.waits_on(t, l) || self.notified >> t & 1 == 0 {
+            return End::Refused(30);
+        }
+        let end = self.lock::<ORDER, VOLATILE>(t, l, (*self.room).waits[t].depth, self.events);
+        if matches!(end, End::Done) {
+            self.waiting &= !(1 << t);
+            self.notified &= !(1 << t);
+        }
+        end
+    }
+
+    unsafe fn waits_on(&self, t: usize, l: usize) -> bool {
+        self.waiting >> t & 1 != 0 && (*self.room).waits[t].lock == l
     }
 
     /// Adds the section of a thread that ends at a line. At most seven others are open at a time, so that few entries move.
@@ -394,6 +499,17 @@ impl<'a> Machine<'a> {
         }
         *list.add(place) = entry;
         self.closed += 1;
+    }
+}
+
+/// The end at a line that the loop does not read.
+#[cold]
+#[inline(never)]
+unsafe fn not_read(at: *const u8, events: usize, limits: &Limits) -> End {
+    if matches!(*at, b'Y' | b'F' | b'C') {
+        End::Apart
+    } else {
+        End::Refused(unread(at, events, limits))
     }
 }
 

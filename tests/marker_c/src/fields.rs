@@ -1,6 +1,6 @@
 //! The fields of an event line, read by words of eight bytes.
 
-use crate::{Limits, Value};
+use crate::{Counts, Limits, Value};
 use std::arch::x86_64::{_mm_cmpeq_epi8, _mm_loadu_si128, _mm_movemask_epi8, _mm_set1_epi8};
 
 /// Eight bytes, the first in the lowest place.
@@ -107,7 +107,22 @@ fn eight(digits: u64) -> u64 {
     (fours.wrapping_mul(10_000).wrapping_add(fours >> 32)) & 0xffff_ffff
 }
 
-/// The refusal of a line that the loop does not read: 4 if it is no event, that of the limit if as many events are in, and 5 is left.
+/// Letter, thread, lock and notified thread of a line with Y, F or C, where 0 stands for the last if there is none; none where the line has
+/// another form or a number that is not declared.
+#[inline(always)]
+pub unsafe fn wait_fields(at: *const u8, counts: Counts) -> Option<(u8, usize, usize, usize)> {
+    let word = load(at);
+    let (letter, t, l) = (word as u8, (word >> 16 & 15) as usize, (word >> 32 & 15) as usize);
+    // a letter, a space, a digit, a space, a digit; behind F a space and a digit; byte 10
+    let (formed, u) = if letter == b'F' {
+        (word & 0xff_f0_ff_f0_ff_f0_ff_00 == 0x0a_30_20_30_20_30_20_00, (word >> 48 & 15) as usize)
+    } else {
+        (word & 0xff_f0_ff_f0_ff_00 == 0x0a_30_20_30_20_00, 0)
+    };
+    (formed && t < counts.threads && l < counts.locks && u < counts.threads).then_some((letter, t, l, u))
+}
+
+/// The refusal of a line that is not read otherwise: 4 if it is no event, that of the limit if as many events are in, and 5 is left.
 #[cold]
 #[inline(never)]
 pub unsafe fn unread(at: *const u8, events: usize, limits: &Limits) -> usize {
@@ -147,7 +162,7 @@ impl Cursor {
     /// Whether it is the form of an event, its value in range.
     unsafe fn event(&mut self) -> Option<()> {
         let letter = *self.0;
-        if !b"UALSRWKNPB".contains(&letter) {
+        if !b"UALSRWKNPBYFC".contains(&letter) {
             return None;
         }
         self.byte(letter)?;
@@ -155,7 +170,10 @@ impl Cursor {
         self.number()?;
         self.byte(b' ')?;
         self.number()?;
-        if letter != b'K' && letter != b'N' {
+        if letter == b'F' {
+            self.byte(b' ')?;
+            self.number()?;
+        } else if !b"KNYC".contains(&letter) {
             self.byte(b' ')?;
             let negative = self.byte(b'-').is_some();
             let n = self.number()?;

@@ -19,6 +19,13 @@ pub struct Thread {
     pub unlocked: bool,
 }
 
+/// What is kept for a thread that waits: the lock, and how many times it held it.
+#[derive(Clone, Copy)]
+pub struct Wait {
+    pub lock: usize,
+    pub depth: u32,
+}
+
 /// Whole sets.
 pub const USABLE: u64 = 0xffff;
 pub const FRESH: u64 = 0xffff << 16;

@@ -1,7 +1,7 @@
-//! Short traces with marker A's answers as a file of definitions, to be compared by one `refl`.
+//! Short traces with marker A's answers as a file of definitions, to be compared by `refl`.
 
 use crate::by_a::After;
-use crate::generate::{aims, candidates, short, Aim, Rng, Short};
+use crate::generate::{aims, candidates, short, Aim, Rng, Short, LETTERS};
 use crate::{Counts, Event, Value};
 
 fn value(x: Value) -> String {
@@ -24,9 +24,14 @@ fn event(e: &Event) -> String {
         b'N' => "Unlock",
         b'P' => "PrescientStore",
         b'B' => "PrescientAssign",
+        b'Y' => "Wait",
+        b'F' => "Notify",
+        b'C' => "Resume",
         _ => unreachable!(),
     };
-    if e.is_lock() {
+    if e.letter == b'F' {
+        format!("ev {} ({name} {} {})", e.thread, e.place, e.value)
+    } else if e.is_lock() {
         format!("ev {} ({name} {})", e.thread, e.place)
     } else {
         format!("ev {} ({name} {} {})", e.thread, e.place, value(e.value))
@@ -71,13 +76,13 @@ use mathlib.Core.Bool.{Bool, true, false}
 use mathlib.Core.List.{List, [], _∷_, _++_, map, reverse}
 use lib.IntN.{ℤ, pos, negsuc}
 use Rattle.rules.specs.declared.Kind.{Kind}
-use Rattle.rules.specs.declared.Kind.the-variants.{Use, Assign, Load, Store, Read, Write, Lock, Unlock, PrescientStore, PrescientAssign}
+use Rattle.rules.specs.declared.Kind.the-variants.{Use, Assign, Load, Store, Read, Write, Lock, Unlock, PrescientStore, PrescientAssign, Wait, Notify, Resume}
 use Rattle.rules.specs.declared.Event.{Event}
 use Rattle.rules.specs.declared.Counts.{Counts}
-use Rattle.rules.specs.Events.{is, of, on, onLock, locks, unlocks, eqZ}
+use Rattle.rules.specs.Events.{capped, is, of, on, subjectOf, onLock, locks, unlocks, eqZ}
 use Rattle.rules.specs.Limits.{full, volatile, anyVolatile, firstLine, declared}
-use Rattle.rules.specs.Words.{latest, valueIn, letterIn, lastAt, count, inOrder, by, locksBy, acquires, releases, reads, stores, copy, fresh, pending, announced, lastLock, lastWrite, usable, depth, main, afterLoad, afterAssign, loadedRead, usedRead, lastAssign}
-use Rattle.rules.specs.Rules.{wordsOf, some, noPartner, lockTaken, notHeld, pendingBars, notFresh, notStored, readBeforeWrite, unwritten, notWritten, notUsable, differs, eightAlready, deadRead, wrongNeighbour, barsUse, barsWrite, useBarred, writeBarred, volatileOrder, prescientVolatile, breaks, rows, rowIn, firstBroken, judge, answer, verdict, Marked, accepted, refused, markFrom, mark}
+use Rattle.rules.specs.Words.{latest, valueIn, letterIn, lastAt, count, inOrder, by, locksBy, reads, stores, copy, fresh, pending, announced, lastLock, lastWrite, usable, gripAfter, grip, depth, remembered, tells, notified, main, afterLoad, afterAssign, loadedRead, usedRead, lastAssign}
+use Rattle.rules.specs.Rules.{wordsOf, some, noPartner, lockTaken, notHeld, pendingBars, notFresh, notStored, readBeforeWrite, unwritten, notWritten, notUsable, differs, eightAlready, deadRead, wrongNeighbour, barsUse, barsWrite, useBarred, writeBarred, volatileOrder, prescientVolatile, waits, ofWaiting, notNotified, breaks, rows, rowIn, firstBroken, judge, answer, verdict, Marked, accepted, refused, markFrom, mark}
 use Rattle.rules.specs.Memories.{Copy, below, each, memory, copies}
 use Rattle.rules.specs.Traces.{ev}
 
@@ -86,7 +91,7 @@ cp t v x = record { thread = t; variable = v; value = x }
 
 ";
 
-const UNFOLDING: &str = "ev cp is of on onLock locks unlocks eqZ volatile anyVolatile firstLine declared latest valueIn letterIn lastAt count inOrder by locksBy acquires releases reads stores copy fresh pending announced lastLock lastWrite usable depth main afterLoad afterAssign loadedRead usedRead lastAssign wordsOf some noPartner lockTaken notHeld pendingBars notFresh notStored readBeforeWrite unwritten notWritten notUsable differs eightAlready deadRead wrongNeighbour barsUse barsWrite useBarred writeBarred volatileOrder prescientVolatile breaks rows rowIn firstBroken judge answer verdict markFrom mark below each memory copies";
+const UNFOLDING: &str = "ev cp capped is of on subjectOf onLock locks unlocks eqZ volatile anyVolatile firstLine declared latest valueIn letterIn lastAt count inOrder by locksBy reads stores copy fresh pending announced lastLock lastWrite usable gripAfter grip depth remembered tells notified main afterLoad afterAssign loadedRead usedRead lastAssign wordsOf some noPartner lockTaken notHeld pendingBars notFresh notStored readBeforeWrite unwritten notWritten notUsable differs eightAlready deadRead wrongNeighbour barsUse barsWrite useBarred writeBarred volatileOrder prescientVolatile waits ofWaiting notNotified breaks rows rowIn firstBroken judge answer verdict markFrom mark below each memory copies";
 
 const CASES: &str = "pub record Case : Type 0 where
   pub head : Counts
@@ -108,13 +113,13 @@ again r = record {
   memory0 = memory (r .head) (wordsOf (reverse (r .good)));
   copies0 = copies (r .head) (wordsOf (reverse (r .good)));
 }
+";
 
-unfoldable pub random : List Case
-random =
-    ";
+/// So many traces are compared by one `refl`, which the prover computes within its steps.
+const PART: usize = 150;
 
 /// The traces of one batch: some accepted, some undeclared, `each` for every pair of a letter and a refusal, for every two refusals that
-/// one event can break at once, and for every case, those with volatile variables included.
+/// one event can break at once, and for every case, those with volatile variables and with waiting included.
 pub fn batch(seed: u64, each: usize, most: usize) -> Vec<Short> {
     let mut rng = Rng::new(seed);
     let times = |aim: &Aim| match aim {
@@ -128,16 +133,22 @@ pub fn batch(seed: u64, each: usize, most: usize) -> Vec<Short> {
 
 /// Each trace: verdict, main memory and usable copies after the accepted events.
 pub fn file(traces: &[Short]) -> String {
-    let cases = list(traces.iter().map(|s| case(s) + "\n   "));
-    format!(
-        "-- Random traces, and what marker A says of them.
-{USES}{CASES}{cases}
+    let part = |(number, part): (usize, &[Short])| {
+        let cases = list(part.iter().map(|s| case(s) + "\n   "));
+        format!(
+            "
+unfoldable pub random{number} : List Case
+random{number} =
+    {cases}
 
-pub random-agree : map again random ≡ random
-unfolding random case again {UNFOLDING}
-random-agree = refl
+pub random{number}-agree : map again random{number} ≡ random{number}
+unfolding random{number} case again {UNFOLDING}
+random{number}-agree = refl
 "
-    )
+        )
+    };
+    let parts: String = traces.chunks(PART).enumerate().map(part).collect();
+    format!("-- Random traces, and what marker A says of them.\n{USES}{CASES}{parts}")
 }
 
 const NODES: &str = "pub record Node : Type 0 where
@@ -153,7 +164,7 @@ node es ns xs cs = record { events = es; verdicts = ns; memory0 = xs; copies0 = 
 
 /// Every accepted trace of fewer than `most` events, with two threads, one variable, one lock and two values.
 pub fn accepted(most: usize) -> Vec<Vec<Event>> {
-    let all = candidates(FEW, &VALUES);
+    let all = candidates(FEW, LETTERS, &VALUES);
     let mut found = vec![Vec::new()];
     let mut at = 0;
     while at < found.len() {
@@ -176,7 +187,7 @@ const VALUES: [Value; 2] = [0, 1];
 
 /// Each accepted trace: the verdict on every next event, main memory and usable copies.
 pub fn every_file(traces: &[Vec<Event>]) -> String {
-    let all = candidates(FEW, &VALUES);
+    let all = candidates(FEW, LETTERS, &VALUES);
     let next = list(all.iter().map(event));
     let nodes = list(traces.iter().map(|es| {
         let after = After::new(FEW, es);

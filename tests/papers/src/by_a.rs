@@ -20,13 +20,16 @@ pub fn event(e: &Event) -> marker_a::Event {
         b'N' => Kind::N,
         b'P' => Kind::P,
         b'B' => Kind::B,
+        b'Y' => Kind::Y,
+        b'F' => Kind::F,
+        b'C' => Kind::C,
         _ => unreachable!("no such letter"),
     };
     let number = |n: usize| u32::try_from(n).unwrap_or(u32::MAX);
     marker_a::Event { kind, thread: number(e.thread), target: number(e.place), value: e.value }
 }
 
-fn letter(kind: Kind) -> u8 {
+pub fn letter(kind: Kind) -> u8 {
     match kind {
         Kind::U => b'U',
         Kind::A => b'A',
@@ -38,6 +41,9 @@ fn letter(kind: Kind) -> u8 {
         Kind::N => b'N',
         Kind::P => b'P',
         Kind::B => b'B',
+        Kind::Y => b'Y',
+        Kind::F => b'F',
+        Kind::C => b'C',
     }
 }
 
@@ -87,8 +93,58 @@ impl After {
     }
 
     /// Whether an early store whose assign is owed is outstanding, and no other store.
-    pub fn waits(&self, t: usize, v: usize) -> bool {
+    pub fn early(&self, t: usize, v: usize) -> bool {
         self.owed(t, v) && self.unwritten(t, v) == [b'P']
+    }
+
+    pub fn threads(&self) -> std::ops::Range<usize> {
+        0..self.counts.threads as usize
+    }
+
+    pub fn locks(&self) -> std::ops::Range<usize> {
+        0..self.counts.locks as usize
+    }
+
+    /// How many times a thread holds a lock.
+    pub fn depth(&self, t: usize, l: usize) -> usize {
+        rules::depth(&self.earlier, t as u32, l as u32)
+    }
+
+    /// How many holds a thread that waits on a lock gave up.
+    pub fn remembered(&self, t: usize, l: usize) -> usize {
+        rules::remembered(&self.earlier, t as u32, l as u32)
+    }
+
+    /// Whether a thread waits, on whichever lock.
+    pub fn is_waiting(&self, t: usize) -> bool {
+        rules::waits(&self.earlier, self.counts, t as u32)
+    }
+
+    pub fn waits_on(&self, t: usize, l: usize) -> bool {
+        rules::waits_on(&self.earlier, t as u32, l as u32)
+    }
+
+    /// Whether a thread waits on a lock and is notified.
+    pub fn is_notified(&self, t: usize, l: usize) -> bool {
+        rules::notified(&self.earlier, t as u32, l as u32)
+    }
+
+    /// Whether a thread has come back on a lock.
+    pub fn came_back(&self, t: usize, l: usize) -> bool {
+        self.last(t, l, &[Kind::C]).is_some()
+    }
+
+    /// The letter of a thread's latest K or C, on whichever lock; 0 where there is none.
+    pub fn latest_lock(&self, t: usize) -> u8 {
+        let taken = |e: &&marker_a::Event| matches!(e.kind, Kind::K | Kind::C) && e.thread == t as u32;
+        self.earlier.iter().rev().find(taken).map_or(0, |e| letter(e.kind))
+    }
+
+    /// Whether a thread had a usable copy before its latest K or C.
+    pub fn was_usable(&self, t: usize, v: usize) -> bool {
+        let taken = |e: &marker_a::Event| matches!(e.kind, Kind::K | Kind::C) && e.thread == t as u32;
+        let before = &self.earlier[..self.earlier.iter().rposition(taken).unwrap_or(0)];
+        rules::usable(before, t as u32, v as u32)
     }
 
     /// Whether a store was written.

@@ -1,10 +1,10 @@
 //! Marker A against other markers, over generated papers.
 
 use crate::by_a::{self, After};
-use crate::generate::{self, candidates, Rng};
+use crate::generate::{self, candidates, Rng, LETTERS, OTHERS};
 use crate::short_course::{self, SITUATIONS};
 use crate::shrink::shrink;
-use crate::{expected, volatiles, Counts, Course, Event, Value};
+use crate::{expected, volatiles, waiting, Counts, Course, Event, Value};
 use marker_a::Kind;
 use marker_b::State;
 use std::collections::BTreeMap;
@@ -33,13 +33,16 @@ pub struct Comparison {
     /// how often each kind of answer occurred, and each of the short course where that is another
     pub answers: BTreeMap<String, usize>,
     /// how many papers have an order and an unlock over which an early store waits
-    pub waiting: usize,
+    pub early: usize,
     /// how many papers have an order and each part of `volatile_order`
     pub volatile_orders: [usize; 2],
-    /// the same among the random papers
-    pub in_random: [usize; 2],
-    /// of how many papers `has_many_k` holds
+    /// how many papers have each of `WAITS`
+    pub waits: [usize; WAITS.len()],
+    /// the same two among the random papers
+    pub in_random: ([usize; 2], [usize; WAITS.len()]),
+    /// of how many papers `has_many_k` holds, and how many of those with many K have an order and a C
     pub many_k: usize,
+    pub many_k_waits: usize,
     /// how many papers there were of each of `SITUATIONS`
     pub situations: [usize; SITUATIONS.len()],
 }
@@ -48,11 +51,12 @@ const PRINTED_FAILURES: usize = 20;
 /// No paper has these answers: 23 refuses an earlier event of it.
 const IN_NO_PAPER: [&str; 2] = ["refused 15 L", "refused 16 L"];
 /// For so many random papers there must be at least one with an order and an unlock over which an early store waits.
-const WAITING_IN: usize = 200;
+const EARLY_IN: usize = 200;
 /// For so many random papers there must be at least one with an order and each part of `volatile_order`.
 const VOLATILE_ORDERS_IN: [usize; 2] = [40, 600];
-/// For so many papers with many K there must be at least one of which `has_many_k` holds.
+/// For so many papers with many K there must be at least one of which `has_many_k` holds, and one with an order and a C.
 const MANY_K_IN: usize = 4;
+const MANY_K_WAITS_IN: usize = 10;
 /// For so many papers about the limits of the short course there must be at least one of each of `SITUATIONS`.
 const SITUATION_IN: usize = 1_000;
 const FEW: Counts = Counts::new(2, 1, 1);
@@ -60,6 +64,23 @@ const FEW: Counts = Counts::new(2, 1, 1);
 const ONE_VOLATILE: Counts = volatile(FEW, 1);
 const TWO_VOLATILES: Counts = volatile(Counts::new(1, 2, 0), 2);
 const MIXED: Counts = volatile(Counts::new(1, 2, 0), 1);
+/// Two threads with two locks, and three with one.
+const TWO_LOCKS: Counts = Counts::new(2, 1, 2);
+const THREE_THREADS: Counts = Counts::new(3, 1, 1);
+/// The letters of locks.
+const ON_LOCKS: &[u8] = b"KNYFC";
+/// Beginnings of traces with waiting, and how many events fewer come behind them: thread 0 waits; is notified; has come back; is notified and
+/// owes an assign; waits on lock 0 and holds lock 1; has two holds again; both wait; it waits between a volatile load and its use.
+const WAITING_TRACES: [(Counts, usize, &str); 8] = [
+    (FEW, 1, "K 0 0, Y 0 0"),
+    (FEW, 1, "K 0 0, Y 0 0, K 1 0, F 1 0 0"),
+    (FEW, 1, "K 0 0, Y 0 0, K 1 0, F 1 0 0, N 1 0, C 0 0"),
+    (FEW, 1, "K 0 0, P 0 0 1, Y 0 0, K 1 0, F 1 0 0, N 1 0"),
+    (TWO_LOCKS, 2, "K 0 0, K 0 1, Y 0 0, K 1 0, F 1 0 0"),
+    (FEW, 2, "K 0 0, K 0 0, Y 0 0, K 1 0, F 1 0 0, N 1 0, C 0 0"),
+    (FEW, 2, "K 0 0, Y 0 0, K 1 0, F 1 0 0, Y 1 0"),
+    (ONE_VOLATILE, 2, "K 0 0, R 0 0 0, L 0 0 0, Y 0 0, K 1 0, F 1 0 0"),
+];
 
 /// The same with the first so many variables volatile.
 const fn volatile(mut counts: Counts, variables: usize) -> Counts {
@@ -95,7 +116,7 @@ fn kind(paper: &[u8], listing: &str) -> String {
 
 /// Whether a paper that has an order has an unlock over which an early store waits: it is neither assigned nor written, and the lock is not
 /// its variable's guard.
-fn waits(paper: &[u8]) -> bool {
+fn early(paper: &[u8]) -> bool {
     let parts = marker_a::paper::find(paper).expect("an accepted paper");
     let guards = parts.guards.expect("guards");
     // of a thread and variable: how many stores are outstanding, and whether an assign is owed
@@ -104,6 +125,9 @@ fn waits(paper: &[u8]) -> bool {
         if e.kind == Kind::N {
             let mut waiting = cells.iter().filter(|(&(t, _), &(stores, owed))| t == e.thread && stores > 0 && owed);
             return waiting.any(|(&(_, v), _)| guards[v as usize] != e.target);
+        }
+        if e.kind.on_lock() {
+            return false;
         }
         let (stores, owed) = cells.entry((e.thread, e.target)).or_default();
         match e.kind {
@@ -136,12 +160,109 @@ fn volatile_order(paper: &[u8]) -> [bool; 2] {
     [used && !writers.is_empty(), given]
 }
 
+/// What there is of waiting in an accepted paper, by marker A's events.
+#[derive(Default)]
+pub struct Waited {
+    ordered: bool,
+    volatile: bool,
+    /// how many C, the most holds that a Y gave up and a C took again, how many threads waited at once, and on how many locks
+    back: usize,
+    holds: usize,
+    at_once: usize,
+    locks: usize,
+    /// whether a thread that came back used what another wrote while it waited; a thread holds another lock at a Y; it owes an assign there; R
+    /// or W of a waiting thread; sections are not in order of their first K or C; a thread waits at the end
+    given: bool,
+    nested: bool,
+    owing: bool,
+    served: bool,
+    other: bool,
+    left: bool,
+}
+
+fn waited(paper: &[u8], listing: &str) -> Waited {
+    let parts = marker_a::paper::find(paper).expect("an accepted paper");
+    let kind = kind(paper, listing);
+    let mut w =
+        Waited { ordered: kind.starts_with("ordered"), volatile: parts.counts.volatiles.contains(&true), ..Waited::default() };
+    // the holds of a thread and a lock; those that a waiting thread gave up, and its lock; what is owed; the writes that came while a thread
+    // waited, kept until its next Y
+    let mut holds: BTreeMap<(u32, u32), usize> = BTreeMap::new();
+    let mut waiting: BTreeMap<u32, (u32, usize)> = BTreeMap::new();
+    let mut owed: BTreeMap<(u32, u32), bool> = BTreeMap::new();
+    let mut written: BTreeMap<(u32, u32), bool> = BTreeMap::new();
+    let mut on: Vec<u32> = Vec::new();
+    let events = parts.body.split(|&b| b == 10).filter_map(marker_a::paper::event);
+    for e in events {
+        let (t, p) = (e.thread, e.target);
+        let others = holds.iter().any(|(&(u, l), &n)| u == t && l != p && n > 0);
+        match e.kind {
+            Kind::K => *holds.entry((t, p)).or_default() += 1,
+            Kind::N => *holds.entry((t, p)).or_default() -= 1,
+            Kind::Y => {
+                let given_up = holds.insert((t, p), 0).unwrap_or(0);
+                w.nested |= others;
+                w.owing |= owed.iter().any(|(&(u, _), &owes)| u == t && owes);
+                waiting.insert(t, (p, given_up));
+                written.retain(|&(u, _), _| u != t);
+                w.at_once = w.at_once.max(waiting.len());
+            }
+            Kind::C => {
+                let (_, taken) = waiting.remove(&t).expect("a thread that waits");
+                holds.insert((t, p), taken);
+                w.back += 1;
+                w.holds = w.holds.max(taken);
+                on.push(p);
+            }
+            Kind::P | Kind::B => _ = owed.insert((t, p), e.kind == Kind::P),
+            Kind::W => {
+                waiting.keys().filter(|&&u| u != t).for_each(|&u| _ = written.insert((u, p), true));
+                w.served |= waiting.contains_key(&t);
+            }
+            Kind::R => w.served |= waiting.contains_key(&t),
+            Kind::A => _ = written.insert((t, p), false),
+            Kind::U => w.given |= !waiting.contains_key(&t) && written.get(&(t, p)) == Some(&true),
+            _ => {}
+        }
+    }
+    on.sort_unstable();
+    on.dedup();
+    (w.locks, w.left, w.other) = (on.len(), !waiting.is_empty(), !by_first(listing));
+    w
+}
+
+/// Whether the sections of a listing are in order of their first K or C.
+fn by_first(listing: &str) -> bool {
+    let sections = listing.lines().filter(|line| line.starts_with("section"));
+    let firsts = sections.map(|line| line.split(' ').nth(2).and_then(|n| n.parse::<usize>().ok()));
+    firsts.is_sorted()
+}
+
+/// What must occur of waiting among the random papers: its name, in how many papers it must be found once, and what holds of it.
+type Waits = (&'static str, usize, fn(&Waited) -> bool);
+pub const WAITS: [Waits; 13] = [
+    ("ordered, and a thread comes back", 40, |w| w.ordered && w.back > 0),
+    ("ordered, and a thread takes several holds again", 100, |w| w.ordered && w.holds > 1),
+    ("ordered, and a thread that came back uses what another wrote meanwhile", 200, |w| w.ordered && w.given),
+    ("ordered, and two threads wait at once", 100, |w| w.ordered && w.at_once > 1),
+    ("ordered, and threads come back on two locks", 300, |w| w.ordered && w.locks > 1),
+    ("ordered, and main memory reads for a waiting thread", 100, |w| w.ordered && w.served),
+    ("ordered, and a thread comes back where there are volatile variables", 100, |w| w.ordered && w.back > 0 && w.volatile),
+    ("ordered, and threads come back ten times and more", 4000, |w| w.ordered && w.back > 9),
+    ("a thread comes back and holds another lock", 1000, |w| w.back > 0 && w.nested),
+    ("a thread waits and owes an assign", 1000, |w| w.owing),
+    ("a thread waits at the end", 100, |w| w.left),
+    ("three threads wait at once", 400, |w| w.at_once > 2),
+    ("ordered, not by the first K or C, and a thread comes back", 400, |w| w.ordered && w.back > 0 && w.other),
+];
+
 /// Whether a paper that has an order has more than 900 K, one of them on a lock that is held already, and sections that are not in order of
 /// their first K.
 fn has_many_k(paper: &[u8], listing: &str) -> bool {
     let body = marker_a::paper::find(paper).expect("an accepted paper").body;
     let mut depths: BTreeMap<u32, usize> = BTreeMap::new();
     let (mut number, mut again) = (0, false);
+    let mut given_up: BTreeMap<u32, usize> = BTreeMap::new();
     for e in body.split(|&b| b == 10).filter_map(marker_a::paper::event) {
         match e.kind {
             Kind::K => {
@@ -151,12 +272,17 @@ fn has_many_k(paper: &[u8], listing: &str) -> bool {
                 number += 1;
             }
             Kind::N => *depths.entry(e.target).or_default() -= 1,
+            Kind::Y => _ = given_up.insert(e.thread, depths.insert(e.target, 0).unwrap_or(0)),
+            Kind::C => _ = depths.insert(e.target, given_up[&e.thread]),
             _ => {}
         }
     }
-    let sections = listing.lines().filter(|line| line.starts_with("section"));
-    let firsts = sections.map(|line| line.split(' ').nth(2).and_then(|n| n.parse::<usize>().ok()));
-    number > 900 && again && !firsts.is_sorted()
+    number > 900 && again && !by_first(listing)
+}
+
+/// Whether a line begins with this letter.
+fn has_letter(paper: &[u8], letter: u8) -> bool {
+    paper.windows(2).any(|pair| pair == [10, letter])
 }
 
 /// Bytes as text, a line to a line; a long one is cut.
@@ -176,10 +302,12 @@ impl Comparison {
             passed: 0,
             failed: 0,
             answers: BTreeMap::new(),
-            waiting: 0,
+            early: 0,
             volatile_orders: [0; 2],
-            in_random: [0; 2],
+            waits: [0; WAITS.len()],
+            in_random: ([0; 2], [0; WAITS.len()]),
             many_k: 0,
+            many_k_waits: 0,
             situations: [0; SITUATIONS.len()],
         }
     }
@@ -219,8 +347,14 @@ impl Comparison {
                     *self.answers.entry(format!("short course, {}", kind(paper, &short))).or_insert(0) += 1;
                 }
                 let kind = kind(paper, &listing);
+                if !listing.starts_with("refused") && has_letter(paper, b'Y') {
+                    let all = waited(paper, &listing);
+                    for (number, (_, _, holds)) in self.waits.iter_mut().zip(WAITS) {
+                        *number += usize::from(holds(&all));
+                    }
+                }
                 if kind.starts_with("ordered") {
-                    self.waiting += usize::from(waits(paper));
+                    self.early += usize::from(early(paper));
                     for (number, holds) in self.volatile_orders.iter_mut().zip(volatile_order(paper)) {
                         *number += usize::from(holds);
                     }
@@ -246,7 +380,8 @@ impl Comparison {
     /// The papers with known listings.
     pub fn known(&mut self) {
         let plain = expected::papers().into_iter().map(|e| (e, None));
-        let both = short_course::papers().into_iter().chain(volatiles::papers()).map(|(e, short)| (e, Some(short)));
+        let both = short_course::papers().into_iter().chain(volatiles::papers()).chain(waiting::papers());
+        let both = both.map(|(e, short)| (e, Some(short)));
         for (e, short) in plain.chain(both) {
             self.paper(&e.name, &e.paper, true);
             let failure = match self.checked(&e.paper, true) {
@@ -263,14 +398,24 @@ impl Comparison {
         }
     }
 
-    /// Every trace of up to `most` events with these counts and values, without guards and, where there is a lock, with it for a guard.
-    /// Nothing is looked at after a refused event, so a trace ends with its first one.
-    pub fn every_short_trace(&mut self, counts: Counts, most: usize, values: &[Value]) {
-        let all = candidates(counts, values);
+    /// Every trace of up to `most` events of these letters with these counts and values, without guards and, where there is a lock, with it for
+    /// a guard. Nothing is looked at after a refused event, so a trace ends with its first one.
+    pub fn every_short_trace(&mut self, counts: Counts, letters: &[u8], most: usize, values: &[Value]) {
+        self.every_trace_from("", counts, letters, most, values);
+    }
+
+    /// The same behind these accepted events, which are not counted.
+    fn every_trace_from(&mut self, begin: &str, counts: Counts, letters: &[u8], most: usize, values: &[Value]) {
+        let all = candidates(counts, letters, values);
         let guards = vec![0; counts.variables];
         let guarded = (counts.locks > 0).then_some(Some(&guards[..]));
         for guards in guarded.into_iter().chain([None]) {
-            self.extend(guards, &all, most, &mut Vec::new(), &State::new(Course::Full, counts, guards));
+            let mut state = State::new(Course::Full, counts, guards);
+            let mut events: Vec<Event> = begin.split(", ").filter(|line| !line.is_empty()).map(event_of).collect();
+            let accepted = events.iter().all(|&e| state.step(e) == 0);
+            assert!(accepted, "the beginning is accepted");
+            let most = events.len() + most;
+            self.extend(guards, &all, most, &mut events, &state);
         }
     }
 
@@ -298,7 +443,7 @@ impl Comparison {
     /// Every trace of up to `most` events with the same threads, variable and lock and the values 0 and 1, guarded, going on after refused
     /// events.
     pub fn every_trace(&mut self, most: usize) {
-        let all = candidates(FEW, &[0, 1]);
+        let all = candidates(FEW, OTHERS, &[0, 1]);
         let mut traces: Vec<Vec<Event>> = vec![Vec::new()];
         for _ in 0..most {
             traces = traces.iter().flat_map(|es| all.iter().map(|&e| [&es[..], &[e]].concat())).collect();
@@ -332,6 +477,12 @@ impl Comparison {
             }
         }
     }
+}
+
+/// The event of a line that is one.
+fn event_of(line: &str) -> Event {
+    let e = marker_a::paper::event(line.as_bytes()).expect("an event");
+    Event { letter: by_a::letter(e.kind), thread: e.thread as usize, place: e.target as usize, value: e.value }
 }
 
 /// How much is compared.
@@ -373,39 +524,57 @@ pub fn run(check: Check, size: Size) -> (usize, usize) {
     };
     let Size { seed, random, damaged, large, large_by_a, many_k, at_short_limits, aimed, short } = size;
     part("known listings", &|c| c.known());
-    part("every short trace", &|c| c.every_short_trace(FEW, short, &[0, 1]));
+    part("every short trace", &|c| c.every_short_trace(FEW, OTHERS, short, &[0, 1]));
     part("every short trace of values with the same low 32 bits", &|c| {
-        c.every_short_trace(FEW, short.saturating_sub(1), &[0, 1 << 32])
+        c.every_short_trace(FEW, OTHERS, short.saturating_sub(1), &[0, 1 << 32])
     });
-    part("every short trace with a volatile variable", &|c| c.every_short_trace(ONE_VOLATILE, short, &[0, 1]));
-    part("every short trace with two volatile variables", &|c| c.every_short_trace(TWO_VOLATILES, short + 3, &[0]));
-    part("every short trace with a volatile and a plain variable", &|c| c.every_short_trace(MIXED, short + 1, &[0]));
+    part("every short trace with a volatile variable", &|c| c.every_short_trace(ONE_VOLATILE, OTHERS, short, &[0, 1]));
+    part("every short trace with two volatile variables", &|c| c.every_short_trace(TWO_VOLATILES, OTHERS, short + 3, &[0]));
+    part("every short trace with a volatile and a plain variable", &|c| c.every_short_trace(MIXED, OTHERS, short + 1, &[0]));
+    part("every short trace of locks and waiting", &|c| c.every_short_trace(FEW, ON_LOCKS, short + 6, &[]));
+    part("every short trace of two locks and waiting", &|c| c.every_short_trace(TWO_LOCKS, ON_LOCKS, short + 2, &[]));
+    part("every short trace of three threads, a lock and waiting", &|c| {
+        c.every_short_trace(THREE_THREADS, ON_LOCKS, short + 3, &[])
+    });
+    part("every short trace behind a Y", &|c| {
+        for (counts, less, begin) in WAITING_TRACES {
+            c.every_trace_from(begin, counts, LETTERS, short.saturating_sub(less), &[0, 1]);
+        }
+    });
     part("every trace, past refused events too", &|c| c.every_trace(short.saturating_sub(2)));
     part("aimed papers", &|c| c.aimed(seed, aimed));
     part("random papers", &|c| {
-        c.volatile_orders = [0; 2];
+        (c.volatile_orders, c.waits) = ([0; 2], [0; WAITS.len()]);
         c.seeds("seed", generate::random_paper, seed, random, random);
-        c.in_random = c.volatile_orders;
+        c.in_random = (c.volatile_orders, c.waits);
     });
     part("damaged papers", &|c| c.seeds("damaged seed", generate::damaged_paper, seed, damaged, damaged));
     part("large papers", &|c| c.seeds("large seed", generate::large_paper, seed, large, large_by_a));
     part("papers with many K", &|c| {
-        c.many_k = 0;
-        c.seeds("many K, seed", generate::paper_with_many_k, seed, many_k, many_k)
+        (c.many_k, c.waits) = (0, [0; WAITS.len()]);
+        c.seeds("many K, seed", generate::paper_with_many_k, seed, many_k, many_k);
+        c.many_k_waits = c.waits[0];
     });
     part("papers at the limits of the short course", &|c| {
         c.situations = [0; SITUATIONS.len()];
         c.seeds("short course, seed", generate::paper_at_short_limits, seed, at_short_limits, at_short_limits)
     });
-    let [volatile, given] = comparison.in_random;
+    let ([volatile, given], waits) = comparison.in_random;
     let [volatile_wanted, given_wanted] = VOLATILE_ORDERS_IN.map(|papers| random as usize / papers);
     for (what, found, wanted) in [
-        ("an early store waits over an unlock", comparison.waiting, random as usize / WAITING_IN),
+        ("an early store waits over an unlock", comparison.early, random as usize / EARLY_IN),
         ("volatile variables are used and written", volatile, volatile_wanted),
         ("a volatile variable gives what another thread wrote", given, given_wanted),
         ("more than 900 K, locks taken again, not by the first K", comparison.many_k, many_k as usize / MANY_K_IN),
+        ("many K, and a thread comes back", comparison.many_k_waits, many_k as usize / MANY_K_WAITS_IN),
     ] {
         println!("ordered, and {what}: {found}");
+        comparison.count((found < wanted).then(|| format!("FAILED: these are fewer than {wanted}")));
+    }
+    println!("waiting, among the random papers:");
+    for ((what, papers, _), found) in WAITS.iter().zip(waits) {
+        println!("    {what}: {found}");
+        let wanted = random as usize / papers;
         comparison.count((found < wanted).then(|| format!("FAILED: these are fewer than {wanted}")));
     }
     let wanted = at_short_limits as usize / SITUATION_IN;

@@ -10,5 +10,6 @@ pub mod short_course;
 pub mod shrink;
 pub mod values;
 pub mod volatiles;
+pub mod waiting;
 
 pub use marker_b::{Counts, Course, Event, Value, COURSES};

@@ -348,7 +348,7 @@ fn ends(short: &str, begin: &str, end: &str) -> bool {
     short.starts_with("accepted 200\n") && last.starts_with(begin) && last.ends_with(end)
 }
 
-pub const SITUATIONS: [Situation; 25] = [
+pub const SITUATIONS: [Situation; 28] = [
     ("25 at the head, accepted in the full course", |_, full, short| is_over_head(short) && refused(full).is_none()),
     ("25 at the head, 6 in the full course", |_, full, short| is_over_head(short) && refused(full) == Some((2, 6))),
     ("25 at the head, 6 at line 3 in the full course", |_, full, short| is_over_head(short) && refused(full) == Some((3, 6))),
@@ -367,7 +367,11 @@ pub const SITUATIONS: [Situation; 25] = [
         is_over_events(short) && refused(full).is_some_and(|(line, number)| line == last_line(paper) && number > 9)
     }),
     ("25 at event 201, which breaks 26, 27 or 28", |paper, full, short| {
-        is_over_events(short) && refused(full).is_some_and(|(line, number)| line == last_line(paper) && number > 25)
+        is_over_events(short)
+            && refused(full).is_some_and(|(line, number)| line == last_line(paper) && (26..=28).contains(&number))
+    }),
+    ("25 at event 201, which breaks 29 or 30", |paper, full, short| {
+        is_over_events(short) && refused(full).is_some_and(|(line, number)| line == last_line(paper) && number > 28)
     }),
     ("25 at event 201, a later line refused in the full course", |paper, full, short| {
         is_over_events(short) && refused(full).is_some_and(|(line, _)| line > last_line(paper))
@@ -377,6 +381,12 @@ pub const SITUATIONS: [Situation; 25] = [
     ("event 200 refused", |paper, _, short| refused(short).is_some_and(|(line, _)| line + 1 == last_line(paper))),
     ("199 events accepted", |_, _, short| short.starts_with("accepted 199\n")),
     ("200 events with an order", |_, _, short| ends(short, "section ", "")),
+    ("200 events with an order and a C", |paper, _, short| {
+        ends(short, "section ", "") && paper.windows(2).any(|pair| pair == b"\nC")
+    }),
+    ("200 events with a Y, 22", |paper, _, short| {
+        ends(short, "unordered 20", " 22") && paper.windows(2).any(|pair| pair == b"\nY")
+    }),
     ("200 events behind a V line with an order", |paper, _, short| has_v_line(paper) && ends(short, "section ", "")),
     ("200 events without guards", |paper, _, short| ends(short, "", "") && paper.windows(5).any(|line| line == b"\nG -\n")),
     ("200 events behind a V line without guards", |paper, _, short| {

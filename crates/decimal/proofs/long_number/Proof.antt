@@ -1,6 +1,5 @@
 -- `decimal::long_number` meets its contract: the digits, then the leading zero.
 use mathlib.Core.Path.{ap, _∙_}
-use Prim.Native.Nat.{_-_}
 use native.Mathlib.Omega.{arith}
 use denote.Ref.{now}
 use Rattle.decimal.specs.declared.Reached.{Reached}

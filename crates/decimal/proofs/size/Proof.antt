@@ -5,7 +5,8 @@ use native.Mathlib.Numerals.{add-one}
 use lib.IntN.{natAbs}
 use Rattle.rules.specs.Limits.{valueWidth}
 use mir.ValLaws.{toZ-pos, toZ-ofZ}
-use Rattle.decimal.proofs.SignedLaws.{sign, Negative, negative-form, non-negative, size-fits}
+use Rattle.rules.proofs.Signed.{size-fits, not-below}
+use Rattle.decimal.proofs.SignedLaws.{sign, Negative, negative-form}
 use borrow.Author.Needs.{needs}
 use Rattle.decimal.proofs.size.Statement.{statement}
 use Rattle.decimal.proofs.size.Tie as tie
@@ -27,7 +28,7 @@ cast-result-2 : tie.Need-cast-result-2
 cast-result-2 c =
     let x = c .before .args .x in
     let f = c .before .fits .x in
-    rw (toZ-ofZ valueWidth x f) (non-negative x (sym (sign valueWidth x f) ∙ c .if1 .left), record { fits = omega (arith, size-fits valueWidth x f) })
+    rw (toZ-ofZ valueWidth x f) (not-below x (rw (toZ-ofZ valueWidth x f) at (c .if1 .left)), record { fits = omega (arith, size-fits valueWidth x f) })
 
 returns : tie.Need-returns
 returns c = rw (low c .flipped, toZ-pos valueWidth (low c .below) (low c .small)) (add-one (low c .below) ∙ sym (ap natAbs (low c .is)))

@@ -1,6 +1,6 @@
 -- `events::after_letter` meets its contract: the thread, and what is behind it.
 use mathlib.Core.Path.{sym, ap, _∙_}
-use Prim.Native.Nat.{ℕ, _-_}
+use Prim.Native.Nat.{ℕ}
 use denote.Ref.{now}
 use lib.ListN.{drop}
 use Rattle.rules.specs.Limits.{valueWidth}

@@ -1,9 +1,10 @@
 -- `events::lock_end` meets its contract: the last field is a number.
 use mathlib.Core.Path.{sym}
-use Prim.Native.Nat.{_-_}
 use denote.Ref.{now}
+use lib.IntN.{pos}
 use lib.ListN.{drop}
-use Rattle.events.proofs.LineLaws.{lock-line}
+use Rattle.events.specs.Events.{right}
+use Rattle.events.proofs.LineLaws.{number-line}
 use borrow.Author.Needs.{needs}
 use Rattle.events.proofs.lock_end.Statement.{statement}
 use Rattle.events.proofs.lock_end.Tie as tie
@@ -23,13 +24,13 @@ enum-known-n c = search needs
 returns : tie.Need-returns
 returns c =
     let a = c .before .before .before .before .before .args in
-    rw (lock-line (a .k) (a .t) (a .at) (drop (a .at) (now (a .s))), sym (c .before .before .before .number-until .ensures), c .before .enum-told .given .1) (c .no-line .ensures)
+    rw (number-line (λ l. right (a .k) (a .t) l (pos 0)) (a .at) (drop (a .at) (now (a .s))), sym (c .before .before .before .number-until .ensures), c .before .enum-told .given .1) (c .no-line .ensures)
 
 returns-2 : tie.Need-returns-2
 returns-2 c =
     let a = c .before .before .before .before .before .args in
     let r = c .before .before .before .number-until in
-    rw (lock-line (a .k) (a .t) (a .at) (drop (a .at) (now (a .s))), sym (r .ensures), c .before .n .given .1)
+    rw (number-line (λ l. right (a .k) (a .t) l (pos 0)) (a .at) (drop (a .at) (now (a .s))), sym (r .ensures), c .before .n .given .1)
 
 pub lock-end-spec : {M : Type 1} → statement M
 lock-end-spec =

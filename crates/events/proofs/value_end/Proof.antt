@@ -1,6 +1,5 @@
 -- `events::value_end` meets its contract: the last field is a value.
 use mathlib.Core.Path.{sym, ap, _∙_}
-use Prim.Native.Nat.{_-_}
 use native.Mathlib.Omega.{arith}
 use denote.Ref.{now}
 use Rattle.rules.specs.Limits.{valueWidth}

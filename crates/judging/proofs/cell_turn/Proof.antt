@@ -6,7 +6,7 @@ use Rattle.judging.specs.Computed.Turns.{afterUse, useRule, cellTurn}
 use Rattle.state.proofs.Letters.{not-letter}
 use borrow.Author.Needs.{needs}
 use mathlib.Core.Path.{refl}
-use Rattle.rules.specs.Rules.{rows, rowIn}
+use Rattle.rules.specs.Rules.{rowIn}
 use Rattle.judging.specs.Computed.Checks.{rowOf, table}
 use Rattle.judging.proofs.cell_turn.Statement.{statement}
 use Rattle.judging.proofs.cell_turn.Tie as tie
@@ -42,19 +42,19 @@ prescient-assigned-requires : tie.Need-prescient-assigned-requires
 prescient-assigned-requires c κs = search needs
 
 returns : tie.Need-returns
-unfolding useRule afterUse cellTurn nextCell rowOf table rows rowIn
+unfolding useRule afterUse cellTurn nextCell rowOf table rowIn
 returns c = rw (c .used .ensures, c .before .use-rule .ensures, c .before .before .if1 .taken, toZ-ofZ valueWidth (c .before .before .before .args .x) (c .before .before .before .fits .x)) refl
 
 returns-2 : tie.Need-returns-2
-unfolding useRule cellTurn nextCell rowOf table rows rowIn
+unfolding useRule cellTurn nextCell rowOf table rowIn
 returns-2 c = rw (c .assigned .ensures, c .before .first-of .ensures, c .before .before .row-at .ensures, c .before .before .before .assign-checks .ensures, c .before .before .before .before .if2 .taken, toZ-ofZ valueWidth (c .before .before .before .before .before .before .args .x) (c .before .before .before .before .before .before .fits .x)) refl
 
 returns-3 : tie.Need-returns-3
-unfolding useRule cellTurn nextCell rowOf table rows rowIn
+unfolding useRule cellTurn nextCell rowOf table rowIn
 returns-3 c = rw (c .prescient-assigned .ensures, c .before .first-of2 .ensures, c .before .before .row-at2 .ensures, c .before .before .before .prescient-assign-checks .ensures, c .before .before .before .before .if3 .taken, toZ-ofZ valueWidth (c .before .before .before .before .before .before .before .args .x) (c .before .before .before .before .before .before .before .fits .x)) refl
 
 returns-4 : tie.Need-returns-4
-unfolding useRule cellTurn nextCell rowOf table rows rowIn
+unfolding useRule cellTurn nextCell rowOf table rowIn
 returns-4 c = simp (not-letter (c .before .before .if1 .left), not-letter (c .before .if2 .left), not-letter (c .if3 .left)) refl
 
 pub cell-turn-spec : {M : Type 1} → statement M

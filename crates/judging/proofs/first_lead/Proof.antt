@@ -1,26 +1,25 @@
 -- `judging::first_lead` meets its contract.
-use mathlib.Core.Path.{refl}
 use borrow.Author.Needs.{needs}
 use Rattle.judging.proofs.first_lead.Statement.{statement}
 use Rattle.judging.proofs.first_lead.Tie as tie
 
-array-read-result : tie.Need-array-read-result
-array-read-result c = search needs
+lead-at-requires : tie.Need-lead-at-requires
+lead-at-requires c κs = search needs
 
 returns : tie.Need-returns
-returns c = rw (c .if1 .taken) refl
+returns c = rw (c .before .if1 .taken) (c .lead-at .ensures)
 
-array-read-result-2 : tie.Need-array-read-result-2
-array-read-result-2 c = search needs
+lead-at-requires-2 : tie.Need-lead-at-requires-2
+lead-at-requires-2 c κs = search needs
 
 returns-2 : tie.Need-returns-2
-returns-2 c = rw (c .before .if1 .left, c .if2 .taken) refl
+returns-2 c = rw (c .before .before .if1 .left, c .before .if2 .taken) (c .lead-at2 .ensures)
 
-array-read-result-3 : tie.Need-array-read-result-3
-array-read-result-3 c = search needs
+lead-at-requires-3 : tie.Need-lead-at-requires-3
+lead-at-requires-3 c κs = search needs
 
 returns-3 : tie.Need-returns-3
-returns-3 c = rw (c .before .before .if1 .left, c .before .if2 .left, c .if3 .taken) refl
+returns-3 c = rw (c .before .before .before .if1 .left, c .before .before .if2 .left, c .before .if3 .taken) (c .lead-at3 .ensures)
 
 returns-4 : tie.Need-returns-4
 returns-4 c = search needs
@@ -29,10 +28,10 @@ pub first-lead-spec : {M : Type 1} → statement M
 first-lead-spec =
     tie.close
     (tie.spec
-    array-read-result
+    lead-at-requires
     returns
-    array-read-result-2
+    lead-at-requires-2
     returns-2
-    array-read-result-3
+    lead-at-requires-3
     returns-3
     returns-4)

@@ -8,16 +8,13 @@ use Rattle.judging.proofs.lead_rule.Tie as tie
 lead-checks-requires : tie.Need-lead-checks-requires
 lead-checks-requires c κs = search needs
 
-row-of-requires : tie.Need-row-of-requires
-row-of-requires c κs = search needs
-
 first-lead-requires : tie.Need-first-lead-requires
 first-lead-requires c κs = search needs
 
 returns : tie.Need-returns
 unfolding leadRule
-returns c = rw (c .first-lead .ensures, c .before .row-of .ensures, c .before .before .lead-checks .ensures) refl
+returns c = rw (c .first-lead .ensures, c .before .lead-checks .ensures) refl
 
 pub lead-rule-spec : {M : Type 1} → statement M
 lead-rule-spec =
-    tie.close (tie.spec lead-checks-requires row-of-requires first-lead-requires returns)
+    tie.close (tie.spec lead-checks-requires first-lead-requires returns)

@@ -1,11 +1,10 @@
 -- `judging::lock_turn` meets its contract.
-use Rattle.state.specs.Step.{holdAfter, lockedAfter}
-use Rattle.state.proofs.LeafLaws.{cond-same}
+use Rattle.state.specs.Step.{holdAfter}
 use Rattle.judging.specs.Computed.Turns.{holdFor, lockTurn}
 use Rattle.state.proofs.Letters.{not-letter}
 use borrow.Author.Needs.{needs}
 use mathlib.Core.Path.{refl}
-use Rattle.rules.specs.Rules.{rows, rowIn}
+use Rattle.rules.specs.Rules.{rowIn}
 use Rattle.judging.specs.Computed.Checks.{rowOf, table}
 use Rattle.judging.proofs.lock_turn.Statement.{statement}
 use Rattle.judging.proofs.lock_turn.Tie as tie
@@ -23,7 +22,7 @@ taken-requires : tie.Need-taken-requires
 taken-requires c κs = search needs
 
 returns : tie.Need-returns
-unfolding lockTurn lockedAfter rowOf table rows rowIn
+unfolding lockTurn holdFor holdAfter rowOf table rowIn
 returns c = rw (c .taken .ensures, c .before .first-of .ensures, c .before .before .row-at .ensures, c .before .before .before .lock-checks .ensures, c .before .before .before .before .if1 .taken) refl
 
 unlock-checks-requires : tie.Need-unlock-checks-requires
@@ -39,12 +38,12 @@ left-requires : tie.Need-left-requires
 left-requires c κs = search needs
 
 returns-2 : tie.Need-returns-2
-unfolding lockTurn lockedAfter rowOf table rows rowIn
+unfolding lockTurn holdFor holdAfter rowOf table rowIn
 returns-2 c = rw (c .left .ensures, c .before .first-of2 .ensures, c .before .before .row-at2 .ensures, c .before .before .before .unlock-checks .ensures, c .before .before .before .before .if2 .taken) refl
 
 returns-3 : tie.Need-returns-3
-unfolding lockTurn lockedAfter holdFor holdAfter rowOf table rows rowIn
-returns-3 c = simp (not-letter (c .before .if1 .left), not-letter (c .if2 .left), cond-same) refl
+unfolding lockTurn rowOf table rowIn
+returns-3 c = simp (not-letter (c .before .if1 .left), not-letter (c .if2 .left)) refl
 
 pub lock-turn-spec : {M : Type 1} → statement M
 lock-turn-spec =

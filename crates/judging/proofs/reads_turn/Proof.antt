@@ -6,7 +6,7 @@ use Rattle.judging.specs.Computed.Turns.{readsWith, readsTurn}
 use Rattle.state.proofs.Letters.{not-letter}
 use borrow.Author.Needs.{needs}
 use mathlib.Core.Path.{refl}
-use Rattle.rules.specs.Rules.{rows, rowIn}
+use Rattle.rules.specs.Rules.{rowIn}
 use Rattle.judging.specs.Computed.Checks.{rowOf, table}
 use Rattle.judging.proofs.reads_turn.Statement.{statement}
 use Rattle.judging.proofs.reads_turn.Tie as tie
@@ -39,15 +39,15 @@ has-read-requires : tie.Need-has-read-requires
 has-read-requires c κs = search needs
 
 returns : tie.Need-returns
-unfolding readsTurn readsWith nextCell readAfter rowOf table rows rowIn
+unfolding readsTurn readsWith nextCell readAfter rowOf table rowIn
 returns c = rw (c .loaded .ensures, c .before .first-of .ensures, c .before .before .row-at .ensures, c .before .before .before .load-checks .ensures, c .before .before .before .before .before .oldest .ensures, c .before .before .before .before .if1 .taken, toZ-ofZ valueWidth (c .before .before .before .before .before .before .before .args .x) (c .before .before .before .before .before .before .before .fits .x)) refl
 
 returns-2 : tie.Need-returns-2
-unfolding readsTurn readsWith nextCell readAfter rowOf table rows rowIn
+unfolding readsTurn readsWith nextCell readAfter rowOf table rowIn
 returns-2 c = rw (c .has-read .ensures, c .before .first-of2 .ensures, c .before .before .row-at2 .ensures, c .before .before .before .read-checks .ensures, c .before .before .before .before .if2 .taken, toZ-ofZ valueWidth (c .before .before .before .before .before .before .before .before .args .x) (c .before .before .before .before .before .before .before .before .fits .x)) refl
 
 returns-3 : tie.Need-returns-3
-unfolding readsTurn readsWith nextCell readAfter rowOf table rows rowIn
+unfolding readsTurn readsWith nextCell readAfter rowOf table rowIn
 returns-3 c = simp (not-letter (c .before .if1 .left), not-letter (c .if2 .left)) refl
 
 pub reads-turn-spec : {M : Type 1} → statement M

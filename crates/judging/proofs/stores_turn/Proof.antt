@@ -6,7 +6,7 @@ use Rattle.judging.specs.Computed.Turns.{storesWith, storesTurn}
 use Rattle.state.proofs.Letters.{not-letter}
 use borrow.Author.Needs.{needs}
 use mathlib.Core.Path.{refl}
-use Rattle.rules.specs.Rules.{rows, rowIn}
+use Rattle.rules.specs.Rules.{rowIn}
 use Rattle.judging.specs.Computed.Checks.{rowOf, table}
 use Rattle.judging.proofs.stores_turn.Statement.{statement}
 use Rattle.judging.proofs.stores_turn.Tie as tie
@@ -51,19 +51,19 @@ prescient-stored-requires : tie.Need-prescient-stored-requires
 prescient-stored-requires c κs = search needs
 
 returns : tie.Need-returns
-unfolding storesTurn storesWith nextCell storeAfter mainAfter rowOf table rows rowIn
+unfolding storesTurn storesWith nextCell storeAfter mainAfter rowOf table rowIn
 returns c = rw (c .has-written .ensures, c .before .first-of .ensures, c .before .before .row-at .ensures, c .before .before .before .write-checks .ensures, c .before .before .before .before .oldest .ensures, c .before .before .before .before .before .before .if1 .taken, toZ-ofZ valueWidth (c .before .before .before .before .before .before .before .args .x) (c .before .before .before .before .before .before .before .fits .x)) refl
 
 returns-2 : tie.Need-returns-2
-unfolding storesTurn storesWith nextCell storeAfter mainAfter rowOf table rows rowIn
+unfolding storesTurn storesWith nextCell storeAfter mainAfter rowOf table rowIn
 returns-2 c = rw (c .stored .ensures, c .before .first-of2 .ensures, c .before .before .row-at2 .ensures, c .before .before .before .store-checks .ensures, c .before .before .before .before .if2 .taken, toZ-ofZ valueWidth (c .before .before .before .before .before .before .args .x) (c .before .before .before .before .before .before .fits .x)) refl
 
 returns-3 : tie.Need-returns-3
-unfolding storesTurn storesWith nextCell storeAfter mainAfter rowOf table rows rowIn
+unfolding storesTurn storesWith nextCell storeAfter mainAfter rowOf table rowIn
 returns-3 c = rw (c .prescient-stored .ensures, c .before .first-of3 .ensures, c .before .before .row-at3 .ensures, c .before .before .before .prescient-store-checks .ensures, c .before .before .before .before .if3 .taken, toZ-ofZ valueWidth (c .before .before .before .before .before .before .before .args .x) (c .before .before .before .before .before .before .before .fits .x)) refl
 
 returns-4 : tie.Need-returns-4
-unfolding storesTurn storesWith nextCell storeAfter mainAfter rowOf table rows rowIn
+unfolding storesTurn storesWith nextCell storeAfter mainAfter rowOf table rowIn
 returns-4 c = simp (not-letter (c .before .before .if1 .left), not-letter (c .before .if2 .left), not-letter (c .if3 .left)) refl
 
 pub stores-turn-spec : {M : Type 1} → statement M

@@ -2,7 +2,7 @@
 use mathlib.Core.Path.{refl}
 use mir.ValLaws.{toZ-ofZ}
 use Rattle.rules.specs.Limits.{valueWidth}
-use Rattle.rules.specs.Rules.{rows, rowIn}
+use Rattle.rules.specs.Rules.{rowIn}
 use Rattle.judging.specs.Computed.Checks.{rowOf, table}
 use Rattle.judging.specs.Computed.Turns.{useRule}
 use borrow.Author.Needs.{needs}
@@ -19,7 +19,7 @@ first-of-requires : tie.Need-first-of-requires
 first-of-requires c κs = search needs
 
 returns : tie.Need-returns
-unfolding useRule rowOf table rows rowIn
+unfolding useRule rowOf table rowIn
 returns c = rw (c .first-of .ensures, c .before .row-at .ensures, c .before .before .use-checks .ensures, toZ-ofZ valueWidth (c .before .before .before .args .x) (c .before .before .before .fits .x)) refl
 
 pub use-rule-spec : {M : Type 1} → statement M

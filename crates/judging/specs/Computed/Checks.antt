@@ -1,14 +1,14 @@
 -- The checks of each row, from the parts of a state that an event looks at.
 use Prim.Native.Nat.{ℕ, _+_, _-_}
 use mathlib.Core.Bool.{Bool, false, not, cond, _&&_, _||_}
-use mathlib.Core.List.{List, _++_, map}
+use mathlib.Core.List.{List, [], _∷_, _++_, map}
 use lib.Dec.{eqb, ltb, leb}
 use lib.IntN.{ℤ}
 use lib.ListN.{length, getD, replicate}
 use Rattle.rules.specs.declared.Slot.{Slot}
 use Rattle.rules.specs.Events.{eqZ}
 use Rattle.rules.specs.Limits.{most}
-use Rattle.rules.specs.Rules.{rows, rowIn}
+use Rattle.rules.specs.Rules.{rowsBehind, rowIn}
 use Rattle.state.specs.declared.Ring.{Ring}
 use Rattle.state.specs.declared.Cell.{Cell}
 use Rattle.state.specs.declared.Hold.{Hold}
@@ -56,13 +56,17 @@ readChecks c m x = five (not (eqZ x (m .value))) (leb most (c .reads .len)) (not
 abbrev pub writeChecks : Cell → Slot → ℤ → Checks
 writeChecks c r x = five (eqb (c .stores .len) 0) (not (eqZ x (r .value))) false false false
 
--- K, of n threads; w is what some variable of the thread has
+-- K and C, of n threads; w is what some variable of the thread has
 abbrev pub lockChecks : Hold → ℕ → OnSome → ℕ → Checks
 lockChecks a n w t = five (othersHold a n t) (w .pending) false false false
 
--- N
+-- N and Y
 abbrev pub unlockChecks : Hold → OnSome → ℕ → Checks
 unlockChecks a w t = five (not (ltb 0 (depthOf a t))) (w .fresh) (w .stored) false false
+
+-- F
+abbrev pub notifyChecks : Hold → ℕ → Checks
+notifyChecks a t = five (not (ltb 0 (depthOf a t))) false false false false
 
 -- P
 abbrev pub prescientStoreChecks : Cell → Checks
@@ -72,18 +76,22 @@ prescientStoreChecks c = five (c .pending) (leb most (c .stores .len)) (not (eqb
 abbrev pub prescientAssignChecks : Cell → ℤ → Checks
 prescientAssignChecks c x = five (not (c .pending)) (not (eqZ x (c .announced))) false false false
 
--- a row with zeros up to eight
-abbrev pub filled : List ℕ → List ℕ
-filled ns = ns ++ replicate (8 - length ns) 0
+-- the numbers that lead each row
+abbrev pub lead : List ℕ
+lead = 29 ∷ 30 ∷ 26 ∷ 27 ∷ 28 ∷ []
 
--- the row of a letter, and the table of all rows
+-- a row with zeros up to five
+abbrev pub filled : List ℕ → List ℕ
+filled ns = ns ++ replicate (5 - length ns) 0
+
+-- the row of a letter behind them, and the table of all rows
 unfoldable pub rowOf : ℕ → List ℕ
-rowOf k = filled (rowIn rows k)
+rowOf k = filled (rowIn (rowsBehind []) k)
 
 unfoldable pub table : List (List ℕ)
-table = map (λ r. filled (r .checks)) rows
+table = map (λ r. filled (r .checks)) (rowsBehind [])
 
--- the rule of a row at its first broken check, the three that lead it left aside; 0 where none is
+-- the rule of a row at its first broken check; 0 where none is
 abbrev pub firstOf : Checks → List ℕ → ℕ
 firstOf b row =
-    cond (b .first) (getD row 3 0) (cond (b .second) (getD row 4 0) (cond (b .third) (getD row 5 0) (cond (b .fourth) (getD row 6 0) (cond (b .fifth) (getD row 7 0) 0))))
+    cond (b .first) (getD row 0 0) (cond (b .second) (getD row 1 0) (cond (b .third) (getD row 2 0) (cond (b .fourth) (getD row 3 0) (cond (b .fifth) (getD row 4 0) 0))))

@@ -1,20 +1,51 @@
--- The checks that lead each row, of an event on a volatile variable: 26, 27 and 28. What 27 asks of all variables is `orderAt`.
+-- The checks that lead each row: 29 and 30, of waiting threads; 26, 27 and 28, of an event on a volatile variable. What 27 asks of all variables is `orderAt`.
 use Prim.Native.Nat.{ℕ}
 use mathlib.Core.Bool.{Bool, not, cond, _&&_, _||_}
 use mathlib.Core.List.{List}
-use lib.Dec.{eqb, ltb}
+use lib.Dec.{eqb, ltb, leb}
+use lib.IntN.{ℤ}
 use lib.ListN.{getD}
 use Rattle.rules.specs.declared.Counts.{Counts}
 use Rattle.rules.specs.declared.Slot.{Slot}
-use Rattle.rules.specs.Events.{A, B, L, P, S, U, W}
+use Rattle.rules.specs.Events.{A, B, C, F, L, P, R, S, U, W, subjectOf}
 use Rattle.rules.specs.Limits.{volatile}
 use Rattle.rules.specs.Rules.{some, differ}
 use Rattle.state.specs.declared.Cell.{Cell}
+use Rattle.state.specs.declared.Waiting.{Waiting}
 use Rattle.state.specs.declared.State.{State}
-use Rattle.state.specs.State.{noSlot, blank}
+use Rattle.state.specs.State.{noSlot, noWait, blank, rememberedOf, notifiedOf}
 use Rattle.state.specs.Computed.Places.{cellPlace, slotPlace}
 use Rattle.judging.specs.declared.Lead.{Lead}
-use Rattle.judging.specs.Computed.Checks.{rowOf}
+use Rattle.judging.specs.Computed.Checks.{lead}
+
+-- ---- 29 and 30
+
+-- a thread waits on one of n locks
+unfoldable pub isWaiting : Waiting → ℕ → Bool
+isWaiting w n = ltb 0 (w .lock) && leb (w .lock) n && ltb 0 (w .depth)
+
+-- 29: letter k of a thread that waits as w says
+unfoldable pub isBarred : Waiting → ℕ → ℕ → Bool
+isBarred w n k = not (eqb k C || eqb k R || eqb k W) && isWaiting w n
+
+-- 30: letter k on lock l, whose subject waits as w says
+unfoldable pub isUntold : Waiting → ℕ → ℕ → Bool
+isUntold w l k =
+    eqb k F && (not (ltb 0 (rememberedOf w l)) || notifiedOf w l)
+    || eqb k C && not (ltb 0 (rememberedOf w l) && notifiedOf w l)
+
+-- the first of these that letter k breaks; 0 where none is. a is the waiting of its thread, w that of its subject, of n locks
+unfoldable pub aheadRule : Waiting → Waiting → ℕ → ℕ → ℕ → ℕ
+aheadRule a w n l k = cond (isBarred a n k) (getD lead 0 0) (cond (isUntold w l k) (getD lead 1 0) 0)
+
+-- of an event other than F and C, which alone break 30
+unfoldable pub barredRule : Waiting → ℕ → ℕ → ℕ
+barredRule w n k = cond (isBarred w n k) (getD lead 0 0) 0
+
+abbrev pub aheadAt : State → ℕ → ℕ → ℕ → ℤ → ℕ
+aheadAt s t l k x = aheadRule (getD (s .waits) t noWait) (getD (s .waits) (subjectOf k t x) noWait) (s .counts .locks) l k
+
+-- ---- 26, 27 and 28
 
 -- the letter of a thread's own event on a variable, R and W left aside
 unfoldable pub isAccess : ℕ → Bool
@@ -28,12 +59,12 @@ leadChecks c o k = record {
   prescient = eqb k P || eqb k B;
 }
 
--- the rule of a row at its first broken leading check, 0 where none is
-abbrev pub firstLead : Lead → List ℕ → ℕ
-firstLead b row = cond (b .neighbour) (getD row 0 0) (cond (b .order) (getD row 1 0) (cond (b .prescient) (getD row 2 0) 0))
+-- the first broken check of these, 0 where none is
+abbrev pub firstLead : Lead → ℕ
+firstLead b = cond (b .neighbour) (getD lead 2 0) (cond (b .order) (getD lead 3 0) (cond (b .prescient) (getD lead 4 0) 0))
 
 unfoldable pub leadRule : Cell → Bool → ℕ → ℕ
-leadRule c o k = firstLead (leadChecks c o k) (rowOf k)
+leadRule c o k = firstLead (leadChecks c o k)
 
 -- the volatile variable of cell c bars a use whose read is at r
 abbrev pub barsUse : Cell → ℕ → Bool

@@ -61,14 +61,20 @@ mul-hold c = search needs
 element-copy-out-hold : tie.Need-element-copy-out-hold
 element-copy-out-hold c = search needs
 
-mul-t20 : tie.Need-mul-t20
-mul-t20 c = search needs
+mul-wait : tie.Need-mul-wait
+mul-wait c = search needs
 
-element-copy-out-t43 : tie.Need-element-copy-out-t43
-element-copy-out-t43 c = search needs
+element-copy-out-wait : tie.Need-element-copy-out-wait
+element-copy-out-wait c = search needs
+
+mul-t22 : tie.Need-mul-t22
+mul-t22 c = search needs
+
+element-copy-out-t48 : tie.Need-element-copy-out-t48
+element-copy-out-t48 c = search needs
 
 returns : tie.Need-returns
-returns c = rw (c .before .before .before .before .before .before .before .slot-place4 .ensures .0, c .before .before .before .before .before .before .before .before .slot-place3 .ensures .0, c .before .before .before .before .before .before .before .before .before .slot-place2 .ensures .0, c .before .before .before .before .before .before .before .before .before .before .slot-place .ensures .0, c .before .before .before .before .before .before .before .before .before .before .before .before .before .before .cell-place .ensures .0) refl
+returns c = rw (c .before .before .before .before .before .before .before .before .slot-place4 .ensures .0, c .before .before .before .before .before .before .before .before .before .slot-place3 .ensures .0, c .before .before .before .before .before .before .before .before .before .before .slot-place2 .ensures .0, c .before .before .before .before .before .before .before .before .before .before .before .slot-place .ensures .0, c .before .before .before .before .before .before .before .before .before .before .before .before .before .before .before .cell-place .ensures .0) refl
 
 pub parts-of-spec : {M : Type 1} → statement M
 parts-of-spec =
@@ -93,6 +99,8 @@ parts-of-spec =
     element-copy-out-main
     mul-hold
     element-copy-out-hold
-    mul-t20
-    element-copy-out-t43
+    mul-wait
+    element-copy-out-wait
+    mul-t22
+    element-copy-out-t48
     returns)

@@ -1,4 +1,4 @@
--- How many of a thread's declared variables have what K and N ask for. The loop keeps these numbers beside the state.
+-- How many of a thread's declared variables have what lock events ask for. The loop keeps these numbers beside the state.
 use Prim.Native.Nat.{ℕ, zero, suc, _+_, _-_, _≤_}
 use mathlib.Core.Bool.{Bool, true, cond}
 use mathlib.Core.Path.{_≡_}

@@ -30,7 +30,7 @@ outcomeOf a = record { verdict = a .verdict; memories = elim (a .verdict) [ verd
 
 -- a state with these parts, on which alone its memories hang
 abbrev pub stateOf : List Cell → List ℕ → List Main → State
-stateOf cells locked main = record { counts = record { threads = 0; variables = 0; locks = 0; volatiles = noVolatiles }; events = 0; cells = cells; reads = []; stores = []; locked = locked; holds = []; memory = main }
+stateOf cells locked main = record { counts = record { threads = 0; variables = 0; locks = 0; volatiles = noVolatiles }; events = 0; cells = cells; reads = []; stores = []; locked = locked; holds = []; memory = main; waits = [] }
 
 -- a state in range with room for an event whose places are in it
 pub record Turnable (s : State) (e : Event) : Type 0 where

@@ -7,22 +7,22 @@ use denote.Ref.{now}
 use borrow.Author.Needs.{needs}
 use Rattle.rules.proofs.Bounds.{allowed-bounds}
 use Rattle.ordering.proofs.Rows.{row-few, reads-at}
-use Rattle.ordering.proofs.Denying.{Going, begins, ends-open, ends-fit, Turn, early, level-range, depth-range, stops, goes}
+use Rattle.ordering.proofs.Denying.{Going, begins, ends-open, ends-fit, Turn, early, holdable-here, stops, goes}
 use Rattle.ordering.proofs.deny.Statement.{statement}
 use Rattle.ordering.proofs.deny.Tie as tie
 
 abbrev Inv-loop : tie.InvT-loop
-Inv-loop h what value locks levels₀ pending₀ depths₀ late₀ i₀ levels pending depths late i = Going h locks what value levels pending depths late i
+Inv-loop h what value locks levels₀ pending₀ depths₀ remembered₀ late₀ i₀ levels pending depths remembered late i = Going h locks what value levels pending depths remembered late i
 
 abbrev μ-loop : tie.MeasureT-loop
-μ-loop h what value locks levels₀ pending₀ depths₀ late₀ i₀ levels pending depths late i = length what - i
+μ-loop h what value locks levels₀ pending₀ depths₀ remembered₀ late₀ i₀ levels pending depths remembered late i = length what - i
 
 -- ---- the event at i
 
 abbrev Here : Type 0
 Here = tie.After-place-in Inv-loop μ-loop
 
-turn : (c : Here) → Turn (c .before .before .before .before .before .before .before .args .h) (c .before .before .before .before .before .before .before .args .t2) (now (c .before .before .before .before .before .before .before .args .what)) (now (c .before .before .before .before .before .before .before .args .value)) (c .before .before .before .before .before .loop .levels) (c .before .before .before .before .before .loop .pending) (c .before .before .before .before .before .loop .depths) (c .before .before .before .before .before .loop .late) (c .before .before .before .before .before .loop .i) (c .before .before .letter-in .result) (c .before .thread-in .result) (c .place-in .result)
+turn : (c : Here) → Turn (c .before .before .before .before .before .before .before .args .h) (c .before .before .before .before .before .before .before .args .t2) (now (c .before .before .before .before .before .before .before .args .what)) (now (c .before .before .before .before .before .before .before .args .value)) (c .before .before .before .before .before .loop .levels) (c .before .before .before .before .before .loop .pending) (c .before .before .before .before .before .loop .depths) (c .before .before .before .before .before .loop .remembered) (c .before .before .before .before .before .loop .late) (c .before .before .before .before .before .loop .i) (c .before .before .letter-in .result) (c .before .thread-in .result) (c .place-in .result)
 turn c = record {
   fits = c .before .before .before .before .before .before .before .pre;
   going = c .before .before .before .before .before .loop .inv;
@@ -50,12 +50,6 @@ thread-in-requires c κs = search needs
 place-in-requires : tie.Need-place-in-requires Inv-loop μ-loop
 place-in-requires c κs = search needs
 
-mul-c : tie.Need-mul-c Inv-loop μ-loop
-mul-c c = omega (arith, turn c .reads .thread-low)
-
-add-c : tie.Need-add-c Inv-loop μ-loop
-add-c c = omega (arith, turn c .reads .thread-low, turn c .reads .place-low)
-
 mul-is-under : tie.Need-mul-is-under Inv-loop μ-loop
 mul-is-under c = omega (arith, turn (c .before) .reads .place-low)
 
@@ -77,50 +71,29 @@ refuse-requires c κs = early (turn (c .before .before .before .before))
 returns : tie.Need-returns Inv-loop μ-loop
 returns c = c .refuse .ensures ∙ stops (turn (c .before .before .before .before .before)) (c .before .before .before .is-under .ensures) (c .before .before .if1 .taken) (c .before .broken .ensures)
 
-mul-level-after : tie.Need-mul-level-after Inv-loop μ-loop
-mul-level-after c = omega (arith, turn (c .before .before .before) .reads .thread-low)
-
-array-read-level-after : tie.Need-array-read-level-after Inv-loop μ-loop
-array-read-level-after c = omega (arith, turn (c .before .before .before) .reads .thread-low, turn (c .before .before .before) .going .depths-are .long)
-
-level-after-requires : tie.Need-level-after-requires Inv-loop μ-loop
-level-after-requires c κs = depth-range (turn (c .before .before .before))
-
-mul-level-after-2 : tie.Need-mul-level-after-2 Inv-loop μ-loop
-mul-level-after-2 c = omega (arith, turn (c .before .before .before .before) .reads .thread-low, turn (c .before .before .before .before) .reads .place-low)
-
-array-read-level-after-2 : tie.Need-array-read-level-after-2 Inv-loop μ-loop
-array-read-level-after-2 c = omega (arith, turn (c .before .before .before .before) .reads .thread-low, turn (c .before .before .before .before) .reads .place-low, turn (c .before .before .before .before) .going .levels-are .long)
-
-level-after-requires-2 : tie.Need-level-after-requires-2 Inv-loop μ-loop
-level-after-requires-2 c κs = level-range (turn (c .before .before .before .before))
-
-mul-levels : tie.Need-mul-levels Inv-loop μ-loop
-mul-levels c = omega (arith, turn (c .before .before .before .before .before) .reads .thread-low, turn (c .before .before .before .before .before) .reads .place-low)
-
-array-write-levels : tie.Need-array-write-levels Inv-loop μ-loop
-array-write-levels c = omega (arith, turn (c .before .before .before .before .before) .reads .thread-low, turn (c .before .before .before .before .before) .reads .place-low, turn (c .before .before .before .before .before) .going .levels-are .long)
-
-mul-depths : tie.Need-mul-depths Inv-loop μ-loop
-mul-depths c = omega (arith, turn (c .before .before .before .before .before) .reads .thread-low)
-
-array-write-depths : tie.Need-array-write-depths Inv-loop μ-loop
-array-write-depths c = omega (arith, turn (c .before .before .before .before .before) .reads .thread-low, turn (c .before .before .before .before .before) .going .depths-are .long)
+hold-requires : tie.Need-hold-requires Inv-loop μ-loop
+hold-requires c κs = holdable-here (turn (c .before .before .before .before .before .before))
 
 late-after-requires : tie.Need-late-after-requires Inv-loop μ-loop
 late-after-requires c κs = search needs
 
 array-write-late : tie.Need-array-write-late Inv-loop μ-loop
-array-write-late c = omega (arith, turn (c .before .before .before .before .before .before) .reads .thread-low, turn (c .before .before .before .before .before .before) .going .late-are .long)
+array-write-late c = omega (arith, turn (c .before .before .before .before .before .before .before .before) .reads .thread-low, turn (c .before .before .before .before .before .before .before .before) .going .late-are .long)
+
+mul-c : tie.Need-mul-c Inv-loop μ-loop
+mul-c c = omega (arith, turn (c .before .before .before .before .before .before .before .before) .reads .thread-low)
+
+add-c : tie.Need-add-c Inv-loop μ-loop
+add-c c = omega (arith, turn (c .before .before .before .before .before .before .before .before) .reads .thread-low, turn (c .before .before .before .before .before .before .before .before) .reads .place-low)
 
 array-read-pending-after : tie.Need-array-read-pending-after Inv-loop μ-loop
-array-read-pending-after c = omega (arith, turn (c .before .before .before .before .before .before) .reads .thread-low, turn (c .before .before .before .before .before .before) .reads .place-low, turn (c .before .before .before .before .before .before) .going .owed-are .long)
+array-read-pending-after c = omega (arith, turn (c .before .before .before .before .before .before .before .before) .reads .thread-low, turn (c .before .before .before .before .before .before .before .before) .reads .place-low, turn (c .before .before .before .before .before .before .before .before) .going .owed-are .long)
 
 pending-after-requires : tie.Need-pending-after-requires Inv-loop μ-loop
 pending-after-requires c κs = search needs
 
 array-write-pending : tie.Need-array-write-pending Inv-loop μ-loop
-array-write-pending c = omega (arith, turn (c .before .before .before .before .before .before .before) .reads .thread-low, turn (c .before .before .before .before .before .before .before) .reads .place-low, turn (c .before .before .before .before .before .before .before) .going .owed-are .long)
+array-write-pending c = omega (arith, turn (c .before .before .before .before .before .before .before .before .before) .reads .thread-low, turn (c .before .before .before .before .before .before .before .before .before) .reads .place-low, turn (c .before .before .before .before .before .before .before .before .before) .going .owed-are .long)
 
 add-i : tie.Need-add-i Inv-loop μ-loop
 add-i c = search needs
@@ -129,19 +102,19 @@ loop-less : tie.Need-loop-less Inv-loop μ-loop
 loop-less c = search needs
 
 loop-again : tie.Need-loop-again Inv-loop μ-loop
-loop-again c = goes (turn (c .before .before .before .before .before .before .before)) (c .before .before .before .before .before .is-under .ensures) (c .before .before .before .before .if1 .left) (c .before .before .level-after2 .ensures) (c .before .before .before .level-after .ensures) (c .before .late-after .ensures) (c .pending-after .ensures)
+loop-again c = goes (turn (c .before .before .before .before .before .before .before .before .before)) (c .before .before .before .before .before .before .before .is-under .ensures) (c .before .before .before .before .before .before .if1 .left) (c .before .before .hold .ensures) (c .before .late-after .ensures) (c .pending-after .ensures)
 
 unfinished-requires : tie.Need-unfinished-requires Inv-loop μ-loop
-unfinished-requires c κs = let m = allowed-bounds _ (c .before .before .before .before .before .pre .accepted .head) in (m .0, m .1)
+unfinished-requires c κs = let m = allowed-bounds _ (c .before .before .before .before .before .before .pre .accepted .head) in (m .0, m .1)
 
 refuse-requires-2 : tie.Need-refuse-requires-2 Inv-loop μ-loop
-refuse-requires-2 c κs = omega (arith, c .before .before .before .before .before .loop .inv .upto, row-few _ _ _ (c .before .before .before .before .before .before .before .pre))
+refuse-requires-2 c κs = omega (arith, c .before .before .before .before .before .before .loop .inv .upto, row-few _ _ _ (c .before .before .before .before .before .before .before .before .pre))
 
 returns-2 : tie.Need-returns-2 Inv-loop μ-loop
-returns-2 c = c .refuse2 .ensures ∙ ends-open _ _ _ _ (c .before .before .before .before .before .before .before .before .pre) (c .before .before .before .before .before .before .loop .inv) (c .before .before .before .before .before .loop-test .left) (sym (c .before .before .unfinished .ensures) ∙ c .before .if2 .taken)
+returns-2 c = c .refuse2 .ensures ∙ ends-open _ _ _ _ (c .before .before .before .before .before .before .before .before .before .pre) (c .before .before .before .before .before .before .before .loop .inv) (c .before .before .before .before .before .before .loop-test .left) (sym (c .before .before .unfinished .ensures) ∙ c .before .if2 .taken)
 
 returns-3 : tie.Need-returns-3 Inv-loop μ-loop
-returns-3 c = ends-fit _ _ _ _ (c .before .before .before .before .before .before .before .pre) (c .before .before .before .before .before .loop .inv) (c .before .before .before .before .loop-test .left) (sym (c .before .unfinished .ensures) ∙ c .if2 .left)
+returns-3 c = ends-fit _ _ _ _ (c .before .before .before .before .before .before .before .before .pre) (c .before .before .before .before .before .before .loop .inv) (c .before .before .before .before .before .loop-test .left) (sym (c .before .unfinished .ensures) ∙ c .if2 .left)
 
 pub deny-spec : {M : Type 1} → statement M
 deny-spec =
@@ -155,8 +128,6 @@ deny-spec =
     letter-in-requires
     thread-in-requires
     place-in-requires
-    mul-c
-    add-c
     mul-is-under
     array-read-is-under
     is-under-requires
@@ -164,18 +135,11 @@ deny-spec =
     broken-requires
     refuse-requires
     returns
-    mul-level-after
-    array-read-level-after
-    level-after-requires
-    mul-level-after-2
-    array-read-level-after-2
-    level-after-requires-2
-    mul-levels
-    array-write-levels
-    mul-depths
-    array-write-depths
+    hold-requires
     late-after-requires
     array-write-late
+    mul-c
+    add-c
     array-read-pending-after
     pending-after-requires
     array-write-pending

@@ -5,38 +5,37 @@ use mathlib.Core.Path.{_≡_, refl, _∙_, ap}
 use lib.ListN.{length, length-set}
 use denote.Ref.{now}
 use borrow.Author.Needs.{needs}
-use borrow.Author.Tests.{eq-eqb, ne-eqb}
 use Rattle.rules.proofs.Bounds.{first-line-high, allowed-bounds}
 use Rattle.ordering.specs.Computed.Parts.{codeOf, idleOr}
 use Rattle.ordering.proofs.Rows.{locks-few, reads-at}
 use Rattle.ordering.proofs.Filling.{Filling, filling-start, filling-end}
-use Rattle.ordering.proofs.FillingTurn.{Turn, early, place-few, place-in, top-in, top-few, depth-fits, filling-lock, filling-unlock, filling-other}
+use Rattle.ordering.proofs.FillingTurn.{Turn, early, place-few, place-in, top-in, top-few, holdable-here, filling-lock, filling-unlock, filling-other}
 use Rattle.ordering.proofs.fill.Statement.{statement}
 use Rattle.ordering.proofs.fill.Tie as tie
 
 abbrev Inv-loop : tie.InvT-loop
-Inv-loop h what value scratch₀ depths₀ first₀ top₀ n₀ i₀ scratch depths first top n i = Filling h what value scratch depths first top n i × (length scratch ≡ length scratch₀)
+Inv-loop h what value scratch₀ levels₀ depths₀ remembered₀ first₀ top₀ n₀ i₀ scratch levels depths remembered first top n i = Filling h what value scratch levels depths remembered first top n i × (length scratch ≡ length scratch₀)
 
 abbrev μ-loop : tie.MeasureT-loop
-μ-loop h what value scratch₀ depths₀ first₀ top₀ n₀ i₀ scratch depths first top n i = length what - i
+μ-loop h what value scratch₀ levels₀ depths₀ remembered₀ first₀ top₀ n₀ i₀ scratch levels depths remembered first top n i = length what - i
 
 -- ---- the event at i
 
 abbrev Here : Type 0
-Here = tie.After-thread-in Inv-loop μ-loop
+Here = tie.After-place-in Inv-loop μ-loop
 
-turn : (c : Here) → Turn (c .before .before .before .before .before .before .before .args .h) (now (c .before .before .before .before .before .before .before .args .what)) (now (c .before .before .before .before .before .before .before .args .value)) (c .before .before .before .before .loop .scratch) (c .before .before .before .before .loop .depths) (c .before .before .before .before .loop .first) (c .before .before .before .before .loop .top) (c .before .before .before .before .loop .n) (c .before .before .before .before .loop .i) (c .before .letter-in .result) (c .thread-in .result)
+turn : (c : Here) → Turn (c .before .before .before .before .before .before .before .before .args .h) (now (c .before .before .before .before .before .before .before .before .args .what)) (now (c .before .before .before .before .before .before .before .before .args .value)) (c .before .before .before .before .before .loop .scratch) (c .before .before .before .before .before .loop .levels) (c .before .before .before .before .before .loop .depths) (c .before .before .before .before .before .loop .remembered) (c .before .before .before .before .before .loop .first) (c .before .before .before .before .before .loop .top) (c .before .before .before .before .before .loop .n) (c .before .before .before .before .before .loop .i) (c .before .before .letter-in .result) (c .before .thread-in .result) (c .place-in .result)
 turn c = record {
-  fits = c .before .before .before .before .before .before .before .pre .0;
-  filling = c .before .before .before .before .loop .inv .0;
-  more = c .before .before .before .loop-test .taken;
+  fits = c .before .before .before .before .before .before .before .before .pre .0;
+  filling = c .before .before .before .before .before .loop .inv .0;
+  more = c .before .before .before .before .loop-test .taken;
   room = omega (
     arith,
-    locks-few (c .before .before .before .before .before .before .before .args .h) (now (c .before .before .before .before .before .before .before .args .what)) (now (c .before .before .before .before .before .before .before .args .value)) (c .before .before .before .before .before .before .before .pre .0) (c .before .before .before .before .before .before .before .pre .1 .0),
-    c .before .before .before .before .before .before .before .pre .1 .1,
-    c .before .before .before .before .loop .inv .1,
+    locks-few (c .before .before .before .before .before .before .before .before .args .h) (now (c .before .before .before .before .before .before .before .before .args .what)) (now (c .before .before .before .before .before .before .before .before .args .value)) (c .before .before .before .before .before .before .before .before .pre .0) (c .before .before .before .before .before .before .before .before .pre .1 .0),
+    c .before .before .before .before .before .before .before .before .pre .1 .1,
+    c .before .before .before .before .before .loop .inv .1,
   );
-  reads = reads-at (c .before .before .before .before .before .before .before .args .h) (now (c .before .before .before .before .before .before .before .args .what)) (now (c .before .before .before .before .before .before .before .args .value)) (c .before .before .before .before .before .before .before .pre .0) (c .before .before .before .before .loop .i) (c .before .before .before .loop-test .taken) (c .before .letter-in .result) (c .thread-in .result) _ (c .before .letter-in .ensures) (c .thread-in .ensures) refl;
+  reads = reads-at (c .before .before .before .before .before .before .before .before .args .h) (now (c .before .before .before .before .before .before .before .before .args .what)) (now (c .before .before .before .before .before .before .before .before .args .value)) (c .before .before .before .before .before .before .before .before .pre .0) (c .before .before .before .before .before .loop .i) (c .before .before .before .before .loop-test .taken) (c .before .before .letter-in .result) (c .before .thread-in .result) (c .place-in .result) (c .before .before .letter-in .ensures) (c .before .thread-in .ensures) (c .place-in .ensures);
 }
 
 -- ---- the answers
@@ -56,23 +55,26 @@ letter-in-requires c κs = search needs
 thread-in-requires : tie.Need-thread-in-requires Inv-loop μ-loop
 thread-in-requires c κs = search needs
 
+place-in-requires : tie.Need-place-in-requires Inv-loop μ-loop
+place-in-requires c κs = search needs
+
 cast-line-after : tie.Need-cast-line-after Inv-loop μ-loop
 cast-line-after c = record { fits = omega (arith, early (turn c)) }
 
 line-after-requires : tie.Need-line-after-requires Inv-loop μ-loop
 line-after-requires c κs = search needs
 
-mul-depth : tie.Need-mul-depth Inv-loop μ-loop
-mul-depth c = omega (arith, turn (c .before .before) .reads .thread-low)
-
-array-read-depth : tie.Need-array-read-depth Inv-loop μ-loop
-array-read-depth c = omega (arith, turn (c .before .before) .reads .thread-low, turn (c .before .before) .filling .depths-are .long)
-
 mul-idle-or : tie.Need-mul-idle-or Inv-loop μ-loop
 mul-idle-or c = omega (arith, turn (c .before .before) .reads .thread-low)
 
 array-read-idle-or : tie.Need-array-read-idle-or Inv-loop μ-loop
-array-read-idle-or c = omega (arith, turn (c .before .before) .reads .thread-low, turn (c .before .before) .filling .first-long)
+array-read-idle-or c = omega (arith, turn (c .before .before) .reads .thread-low, turn (c .before .before) .filling .grips-are .depths-long)
+
+mul-idle-or-2 : tie.Need-mul-idle-or-2 Inv-loop μ-loop
+mul-idle-or-2 c = omega (arith, turn (c .before .before) .reads .thread-low)
+
+array-read-idle-or-2 : tie.Need-array-read-idle-or-2 Inv-loop μ-loop
+array-read-idle-or-2 c = omega (arith, turn (c .before .before) .reads .thread-low, turn (c .before .before) .filling .first-long)
 
 idle-or-requires : tie.Need-idle-or-requires Inv-loop μ-loop
 idle-or-requires c κs = search needs
@@ -83,29 +85,23 @@ mul-first c = omega (arith, turn (c .before .before .before) .reads .thread-low)
 array-write-first : tie.Need-array-write-first Inv-loop μ-loop
 array-write-first c = omega (arith, turn (c .before .before .before) .reads .thread-low, turn (c .before .before .before) .filling .first-long)
 
-level-after-requires : tie.Need-level-after-requires Inv-loop μ-loop
-level-after-requires c κs = depth-fits (turn (c .before .before .before))
-
-mul-depths : tie.Need-mul-depths Inv-loop μ-loop
-mul-depths c = omega (arith, turn (c .before .before .before .before) .reads .thread-low)
-
-array-write-depths : tie.Need-array-write-depths Inv-loop μ-loop
-array-write-depths c = omega (arith, turn (c .before .before .before .before) .reads .thread-low, turn (c .before .before .before .before) .filling .depths-are .long)
+hold-requires : tie.Need-hold-requires Inv-loop μ-loop
+hold-requires c κs = holdable-here (turn (c .before .before .before .before .before .before))
 
 mul-scratch : tie.Need-mul-scratch Inv-loop μ-loop
-mul-scratch c = omega (arith, place-few (turn (c .before .before .before .before)))
+mul-scratch c = omega (arith, place-few (turn (c .before .before .before .before .before .before .before)))
 
 slice-write-scratch : tie.Need-slice-write-scratch Inv-loop μ-loop
-slice-write-scratch c = place-in (turn (c .before .before .before .before)) (eq-eqb _ _ (c .before .before .if1 .taken))
+slice-write-scratch c = place-in (turn (c .before .before .before .before .before .before .before)) (c .before .before .before .before .before .if1 .taken)
 
 mul-top : tie.Need-mul-top Inv-loop μ-loop
-mul-top c = omega (arith, turn (c .before .before .before .before) .reads .thread-low)
+mul-top c = omega (arith, turn (c .before .before .before .before .before .before .before) .reads .thread-low)
 
 array-write-top : tie.Need-array-write-top Inv-loop μ-loop
-array-write-top c = omega (arith, turn (c .before .before .before .before) .reads .thread-low, turn (c .before .before .before .before) .filling .top-long)
+array-write-top c = omega (arith, turn (c .before .before .before .before .before .before .before) .reads .thread-low, turn (c .before .before .before .before .before .before .before) .filling .top-long)
 
 add-n : tie.Need-add-n Inv-loop μ-loop
-add-n c = omega (arith, place-few (turn (c .before .before .before .before)))
+add-n c = omega (arith, place-few (turn (c .before .before .before .before .before .before .before)))
 
 add-i : tie.Need-add-i Inv-loop μ-loop
 add-i c = search needs
@@ -114,52 +110,40 @@ loop-less : tie.Need-loop-less Inv-loop μ-loop
 loop-less c = search needs
 
 loop-again : tie.Need-loop-again Inv-loop μ-loop
-loop-again c = (filling-lock (turn (c .before .before .before .before)) (c .level-after .ensures) (eq-eqb _ _ (c .before .before .if1 .taken)) (c .before .idle-or .ensures ∙ ap (idleOr _ _) (c .before .before .before .line-after .ensures)) (omega arith) (omega arith), length-set (c .before .before .before .before .before .before .before .before .loop .scratch) (c .before .before .before .before .before .before .before .before .loop .n) _ ∙ c .before .before .before .before .before .before .before .before .loop .inv .1)
+loop-again c = (filling-lock (turn (c .before .before .before .before .before .before .before)) (c .hold .ensures) (c .before .before .before .before .before .if1 .taken) (c .before .before .before .before .idle-or .ensures ∙ ap (idleOr _ _) (c .before .before .before .before .before .before .line-after .ensures)) (omega arith) (omega arith), length-set (c .before .before .before .before .before .before .before .before .before .before .before .before .loop .scratch) (c .before .before .before .before .before .before .before .before .before .before .before .before .loop .n) _ ∙ c .before .before .before .before .before .before .before .before .before .before .before .before .loop .inv .1)
 
-mul-level-after : tie.Need-mul-level-after Inv-loop μ-loop
-mul-level-after c = omega (arith, turn (c .before .before .before) .reads .thread-low)
-
-array-read-level-after : tie.Need-array-read-level-after Inv-loop μ-loop
-array-read-level-after c = omega (arith, turn (c .before .before .before) .reads .thread-low, turn (c .before .before .before) .filling .depths-are .long)
-
-level-after-requires-2 : tie.Need-level-after-requires-2 Inv-loop μ-loop
-level-after-requires-2 c κs = depth-fits (turn (c .before .before .before))
+hold-requires-2 : tie.Need-hold-requires-2 Inv-loop μ-loop
+hold-requires-2 c κs = holdable-here (turn (c .before .before .before .before .before .before))
 
 mul-j : tie.Need-mul-j Inv-loop μ-loop
-mul-j c = omega (arith, turn (c .before .before .before .before) .reads .thread-low)
+mul-j c = omega (arith, turn (c .before .before .before .before .before .before .before) .reads .thread-low)
 
 array-read-j : tie.Need-array-read-j Inv-loop μ-loop
-array-read-j c = omega (arith, turn (c .before .before .before .before) .reads .thread-low, turn (c .before .before .before .before) .filling .top-long)
+array-read-j c = omega (arith, turn (c .before .before .before .before .before .before .before) .reads .thread-low, turn (c .before .before .before .before .before .before .before) .filling .top-long)
 
 mul-encode : tie.Need-mul-encode Inv-loop μ-loop
-mul-encode c = omega (arith, turn (c .before .before .before .before) .reads .thread-low)
+mul-encode c = omega (arith, turn (c .before .before .before .before .before .before .before) .reads .thread-low)
 
 array-read-encode : tie.Need-array-read-encode Inv-loop μ-loop
-array-read-encode c = omega (arith, turn (c .before .before .before .before) .reads .thread-low, turn (c .before .before .before .before) .filling .first-long)
+array-read-encode c = omega (arith, turn (c .before .before .before .before .before .before .before) .reads .thread-low, turn (c .before .before .before .before .before .before .before) .filling .first-long)
 
 encode-requires : tie.Need-encode-requires Inv-loop μ-loop
-encode-requires c κs = (turn (c .before .before .before .before) .reads .thread-low, (turn (c .before .before .before .before) .filling .firsts _ (turn (c .before .before .before .before) .reads .thread-low), omega (arith, c .before .before .before .line-after .ensures, early (turn (c .before .before .before .before)), first-line-high (c .before .before .before .before .before .before .before .before .before .before .before .args .h))))
+encode-requires c κs = (turn (c .before .before .before .before .before .before .before) .reads .thread-low, (turn (c .before .before .before .before .before .before .before) .filling .firsts _ (turn (c .before .before .before .before .before .before .before) .reads .thread-low), omega (arith, c .before .before .before .before .before .before .line-after .ensures, early (turn (c .before .before .before .before .before .before .before)), first-line-high (c .before .before .before .before .before .before .before .before .before .before .before .before .before .before .before .args .h))))
 
-mul-idle-or-2 : tie.Need-mul-idle-or-2 Inv-loop μ-loop
-mul-idle-or-2 c = omega (arith, top-few (turn (c .before .before .before .before .before)) (ne-eqb _ _ (c .before .before .before .if1 .left)) (eq-eqb _ _ (c .before .before .if2 .taken)))
+mul-idle-or-3 : tie.Need-mul-idle-or-3 Inv-loop μ-loop
+mul-idle-or-3 c = omega (arith, top-few (turn (c .before .before .before .before .before .before .before .before)) (c .before .before .before .before .before .before .if1 .left) (c .before .before .before .before .before .if2 .taken))
 
 slice-read-idle-or : tie.Need-slice-read-idle-or Inv-loop μ-loop
-slice-read-idle-or c = top-in (turn (c .before .before .before .before .before .before)) (ne-eqb _ _ (c .before .before .before .before .if1 .left)) (eq-eqb _ _ (c .before .before .before .if2 .taken))
+slice-read-idle-or c = top-in (turn (c .before .before .before .before .before .before .before .before .before)) (c .before .before .before .before .before .before .before .if1 .left) (c .before .before .before .before .before .before .if2 .taken)
 
 idle-or-requires-2 : tie.Need-idle-or-requires-2 Inv-loop μ-loop
 idle-or-requires-2 c κs = search needs
 
 mul-scratch-2 : tie.Need-mul-scratch-2 Inv-loop μ-loop
-mul-scratch-2 c = omega (arith, top-few (turn (c .before .before .before .before .before .before .before)) (ne-eqb _ _ (c .before .before .before .before .before .if1 .left)) (eq-eqb _ _ (c .before .before .before .before .if2 .taken)))
+mul-scratch-2 c = omega (arith, top-few (turn (c .before .before .before .before .before .before .before .before .before .before)) (c .before .before .before .before .before .before .before .before .if1 .left) (c .before .before .before .before .before .before .before .if2 .taken))
 
 slice-write-scratch-2 : tie.Need-slice-write-scratch-2 Inv-loop μ-loop
-slice-write-scratch-2 c = top-in (turn (c .before .before .before .before .before .before .before)) (ne-eqb _ _ (c .before .before .before .before .before .if1 .left)) (eq-eqb _ _ (c .before .before .before .before .if2 .taken))
-
-mul-depths-2 : tie.Need-mul-depths-2 Inv-loop μ-loop
-mul-depths-2 c = omega (arith, turn (c .before .before .before .before .before .before .before) .reads .thread-low)
-
-array-write-depths-2 : tie.Need-array-write-depths-2 Inv-loop μ-loop
-array-write-depths-2 c = omega (arith, turn (c .before .before .before .before .before .before .before) .reads .thread-low, turn (c .before .before .before .before .before .before .before) .filling .depths-are .long)
+slice-write-scratch-2 c = top-in (turn (c .before .before .before .before .before .before .before .before .before .before)) (c .before .before .before .before .before .before .before .before .if1 .left) (c .before .before .before .before .before .before .before .if2 .taken)
 
 add-i-2 : tie.Need-add-i-2 Inv-loop μ-loop
 add-i-2 c = search needs
@@ -168,7 +152,7 @@ loop-less-2 : tie.Need-loop-less-2 Inv-loop μ-loop
 loop-less-2 c = search needs
 
 loop-again-2 : tie.Need-loop-again-2 Inv-loop μ-loop
-loop-again-2 c = (filling-unlock (turn (c .before .before .before .before .before .before .before)) (c .before .before .before .level-after2 .ensures) (ne-eqb _ _ (c .before .before .before .before .before .if1 .left)) (eq-eqb _ _ (c .before .before .before .before .if2 .taken)) (c .before .before .encode .ensures ∙ ap (codeOf _ _) (c .before .before .before .before .before .before .line-after .ensures)) (c .idle-or2 .ensures), length-set (c .before .before .before .before .before .before .before .before .before .before .before .loop .scratch) _ _ ∙ c .before .before .before .before .before .before .before .before .before .before .before .loop .inv .1)
+loop-again-2 c = (filling-unlock (turn (c .before .before .before .before .before .before .before .before .before .before)) (c .before .before .before .hold2 .ensures) (c .before .before .before .before .before .before .before .before .if1 .left) (c .before .before .before .before .before .before .before .if2 .taken) (c .before .before .encode .ensures ∙ ap (codeOf _ _) (c .before .before .before .before .before .before .before .before .before .line-after .ensures)) (c .idle-or2 .ensures), length-set (c .before .before .before .before .before .before .before .before .before .before .before .before .before .before .before .loop .scratch) _ _ ∙ c .before .before .before .before .before .before .before .before .before .before .before .before .before .before .before .loop .inv .1)
 
 add-i-3 : tie.Need-add-i-3 Inv-loop μ-loop
 add-i-3 c = search needs
@@ -177,7 +161,7 @@ loop-less-3 : tie.Need-loop-less-3 Inv-loop μ-loop
 loop-less-3 c = search needs
 
 loop-again-3 : tie.Need-loop-again-3 Inv-loop μ-loop
-loop-again-3 c = (filling-other (turn (c .before .before .before)) (ne-eqb _ _ (c .before .if1 .left)) (ne-eqb _ _ (c .if2 .left)), c .before .before .before .before .before .before .before .loop .inv .1)
+loop-again-3 c = (filling-other (turn (c .before .before .before)) (c .before .if1 .left) (c .if2 .left), c .before .before .before .before .before .before .before .before .loop .inv .1)
 
 same-length : tie.Need-same-length Inv-loop μ-loop
 same-length c = c .before .loop .inv .1
@@ -198,18 +182,17 @@ fill-spec =
     shared-slice-read-w
     letter-in-requires
     thread-in-requires
+    place-in-requires
     cast-line-after
     line-after-requires
-    mul-depth
-    array-read-depth
     mul-idle-or
     array-read-idle-or
+    mul-idle-or-2
+    array-read-idle-or-2
     idle-or-requires
     mul-first
     array-write-first
-    level-after-requires
-    mul-depths
-    array-write-depths
+    hold-requires
     mul-scratch
     slice-write-scratch
     mul-top
@@ -218,21 +201,17 @@ fill-spec =
     add-i
     loop-less
     loop-again
-    mul-level-after
-    array-read-level-after
-    level-after-requires-2
+    hold-requires-2
     mul-j
     array-read-j
     mul-encode
     array-read-encode
     encode-requires
-    mul-idle-or-2
+    mul-idle-or-3
     slice-read-idle-or
     idle-or-requires-2
     mul-scratch-2
     slice-write-scratch-2
-    mul-depths-2
-    array-write-depths-2
     add-i-2
     loop-less-2
     loop-again-2

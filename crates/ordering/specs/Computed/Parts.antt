@@ -1,17 +1,18 @@
 -- What the parts of the two passes compute. A level is how often a thread holds a lock, at 16 * thread + lock; a depth is how
--- often it holds on all locks.
-use Prim.Native.Nat.{ℕ, zero, suc, pred, _+_, _*_, _≤_, _<_}
+-- often it holds on all locks. What is remembered are the holds that a waiting thread gave up; it waits on one lock. Where a K is meant C counts too, and where
+-- an N is meant Y, but in `levelAfter`.
+use Prim.Native.Nat.{ℕ, zero, suc, pred, _+_, _-_, _*_, _≤_, _<_}
 use mathlib.Core.Path.{_≡_}
 use mathlib.Core.Bool.{Bool, true, false, not, cond, _&&_, _||_}
 use mathlib.Core.List.{List, [], _∷_, _++_}
 use lib.Dec.{eqb, ltb}
 use lib.IntN.{ℤ}
-use lib.ListN.{length, getD, take, drop, replicate}
+use lib.ListN.{length, getD, set, take, drop, replicate}
 use Rattle.rules.specs.declared.Event.{Event}
 use Rattle.rules.specs.declared.Counts.{Counts}
 use Rattle.rules.specs.declared.Verdict.{Verdict}
 use Rattle.rules.specs.declared.Verdict.the-variants.{Accepted, Refused}
-use Rattle.rules.specs.Events.{B, K, N, P, isLetter, locks}
+use Rattle.rules.specs.Events.{B, C, K, N, P, Y, isLetter, locks}
 use Rattle.rules.specs.Limits.{full}
 use Rattle.rules.specs.Words.{count}
 use Rattle.rules.specs.Rules.{some}
@@ -41,6 +42,17 @@ past events (suc i) = events i ∷ past events i
 unfoldable pub guardCell : ℕ → ℕ → ℕ
 guardCell t g = cond (ltb g 16) (t * 16 + g) 0
 
+abbrev pub takesHold : ℕ → Bool
+takesHold k = eqb k K || eqb k C
+
+abbrev pub givesHold : ℕ → Bool
+givesHold k = eqb k N || eqb k Y
+
+-- with a Y or C the level and what is remembered change places, for one of them is 0
+abbrev pub exchanges : ℕ → Bool
+exchanges k = eqb k Y || eqb k C
+
+-- one hold more with a K, one less with an N
 unfoldable pub levelAfter : ℕ → ℕ → ℕ
 levelAfter x k = cond (eqb k K) (suc x) (cond (eqb k N) (pred x) x)
 
@@ -48,9 +60,26 @@ unfoldable pub pendingAfter : Bool → ℕ → Bool
 pendingAfter b k = eqb k P || (b && not (eqb k B))
 
 unfoldable pub lateAfter : Bool → ℕ → Bool → Bool
-lateAfter b k any = cond (eqb k N) any b
+lateAfter b k any = any && (givesHold k || b)
 
 -- ---- over the arrays
+
+-- levels, depths and what is remembered before an event of thread t on p
+pub record Holdable (levels depths remembered : List ℕ) (t p k : ℕ) : Type 0 where
+  pub thread-low : t < 8
+  pub place-low : p < 16
+  pub level-low : getD levels (t * 16 + p) 0 < 65536
+  pub depth-low : getD depths t 0 < 65536
+  pub remembered-low : getD remembered t 0 < 65536
+  pub held : k ≡ N → (0 < getD levels (t * 16 + p) 0) × (getD levels (t * 16 + p) 0 ≤ getD depths t 0)
+  pub part : exchanges k ≡ true → getD levels (t * 16 + p) 0 ≤ getD depths t 0
+
+-- and after it; r is t's depth then
+pub record Held (levels depths remembered : List ℕ) (t p k r : ℕ) (levels′ depths′ remembered′ : List ℕ) : Type 0 where
+  pub depth-is : r ≡ cond (exchanges k) (getD depths t 0 - getD levels (t * 16 + p) 0 + getD remembered t 0) (levelAfter (getD depths t 0) k)
+  pub levels-are : levels′ ≡ set levels (t * 16 + p) (cond (exchanges k) (getD remembered t 0) (levelAfter (getD levels (t * 16 + p) 0) k))
+  pub depths-are : depths′ ≡ set depths t r
+  pub remembered-are : remembered′ ≡ set remembered t (cond (exchanges k) (getD levels (t * 16 + p) 0) (getD remembered t 0))
 
 -- thread t holds its variable's guard g
 unfoldable pub underIn : List ℕ → ℕ → ℕ → Bool
@@ -59,8 +88,8 @@ underIn levels t g = ltb g 16 && ltb 0 (getD levels (guardCell t g) 0)
 unfoldable pub pendingIn : List Bool → ℕ → ℕ → Bool
 pendingIn pending t v = getD pending (t * 16 + v) false
 
-unfoldable pub unfinishedIn : Counts → List ℕ → List Bool → Bool
-unfinishedIn h depths pending = some (h .threads) (λ t. ltb 0 (getD depths t 0) || some (h .variables) (pendingIn pending t))
+unfoldable pub unfinishedIn : Counts → List ℕ → List Bool → List ℕ → Bool
+unfinishedIn h depths pending remembered = some (h .threads) (λ t. ltb 0 (getD depths t 0) || (some (h .variables) (pendingIn pending t) || ltb 0 (getD remembered t 0)))
 
 -- a denial as the first pass answers it
 unfoldable pub toldAs : Denial → Verdict

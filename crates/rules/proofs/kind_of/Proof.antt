@@ -1,11 +1,13 @@
--- `rules::kind_of` meets its contract: one match over the ten letters. Assumes nothing.
+-- `rules::kind_of` meets its contract: one match over the thirteen letters. Assumes nothing.
 use mathlib.Core.Path.{ap}
 use lib.IntN.{ℤ}
+use mir.ValLaws.{toZ-ofZ}
 use borrow.Author.Tests.{ne-eqb}
 use borrow.Author.Needs.{needs}
 use Rattle.rules.specs.declared.Kind.the-variants as kind
 use Rattle.rules.specs.declared.Named.the-variants as named
-use Rattle.rules.specs.Events.{kindOf}
+use Rattle.rules.specs.Events.{threadOf, kindOf}
+use Rattle.rules.specs.Limits.{valueWidth}
 use Rattle.rules.proofs.kind_of.Statement.{statement}
 use Rattle.rules.proofs.kind_of.Tie as tie
 
@@ -51,12 +53,28 @@ returns-10 c = rw (c .match .keys10) (ap (λ (z : ℤ). named.Of (kind.Prescient
 
 returns-11 : tie.Need-returns-11
 unfolding kindOf
-returns-11 c = simp (ne-eqb _ _ (c .match .rest .0 .0 .0 .0 .0 .0 .0 .0 .0 .1), ne-eqb _ _ (c .match .rest .0 .0 .0 .0 .0 .0 .0 .0 .1), ne-eqb _ _ (c .match .rest .0 .0 .0 .0 .0 .0 .0 .1), ne-eqb _ _ (c .match .rest .0 .0 .0 .0 .0 .0 .1), ne-eqb _ _ (c .match .rest .0 .0 .0 .0 .0 .1), ne-eqb _ _ (c .match .rest .0 .0 .0 .0 .1), ne-eqb _ _ (c .match .rest .0 .0 .0 .1), ne-eqb _ _ (c .match .rest .0 .0 .1), ne-eqb _ _ (c .match .rest .0 .1), ne-eqb _ _ (c .match .rest .1))
+returns-11 c = rw (c .match .keys11)
+
+returns-12 : tie.Need-returns-12
+unfolding kindOf
+returns-12 c = rw (c .before .match .keys12, c .thread-of .ensures) (ap (λ (z : ℤ). named.Of (kind.Notify (c .before .before .args .place) (threadOf z))) (toZ-ofZ valueWidth (c .before .before .args .value) (c .before .before .fits .value)))
+
+returns-13 : tie.Need-returns-13
+unfolding kindOf
+returns-13 c = rw (c .match .keys13)
+
+returns-14 : tie.Need-returns-14
+unfolding kindOf
+returns-14 c = simp (ne-eqb _ _ (c .match .rest .0 .0 .0 .0 .0 .0 .0 .0 .0 .0 .0 .0 .1), ne-eqb _ _ (c .match .rest .0 .0 .0 .0 .0 .0 .0 .0 .0 .0 .0 .1), ne-eqb _ _ (c .match .rest .0 .0 .0 .0 .0 .0 .0 .0 .0 .0 .1), ne-eqb _ _ (c .match .rest .0 .0 .0 .0 .0 .0 .0 .0 .0 .1), ne-eqb _ _ (c .match .rest .0 .0 .0 .0 .0 .0 .0 .0 .1), ne-eqb _ _ (c .match .rest .0 .0 .0 .0 .0 .0 .0 .1), ne-eqb _ _ (c .match .rest .0 .0 .0 .0 .0 .0 .1), ne-eqb _ _ (c .match .rest .0 .0 .0 .0 .0 .1), ne-eqb _ _ (c .match .rest .0 .0 .0 .0 .1), ne-eqb _ _ (c .match .rest .0 .0 .0 .1), ne-eqb _ _ (c .match .rest .0 .0 .1), ne-eqb _ _ (c .match .rest .0 .1), ne-eqb _ _ (c .match .rest .1))
+
+thread-of-requires : tie.Need-thread-of-requires
+thread-of-requires c κs = search needs
 
 pub kind-of-spec : {M : Type 1} → statement M
 kind-of-spec =
     tie.close
     (tie.spec
+    thread-of-requires
     returns
     returns-2
     returns-3
@@ -67,4 +85,7 @@ kind-of-spec =
     returns-8
     returns-9
     returns-10
-    returns-11)
+    returns-11
+    returns-12
+    returns-13
+    returns-14)

@@ -1,7 +1,10 @@
 -- `rules::value_of` meets its contract. Assumes nothing.
 use mathlib.Core.Path.{refl}
-use mir.ValLaws.{toZ-ofZ}
+use native.Mathlib.Omega.{arith}
+use mir.ValLaws.{toZ-pos, toZ-ofZ}
+use Rattle.rules.specs.Events.{capped}
 use Rattle.rules.specs.Limits.{valueWidth}
+use Rattle.rules.proofs.Letters.{capped-low}
 use borrow.Author.Needs.{needs}
 use Rattle.rules.proofs.value_of.Statement.{statement}
 use Rattle.rules.proofs.value_of.Tie as tie
@@ -38,6 +41,21 @@ enum-known-k-7 c = search needs
 enum-known-k-8 : tie.Need-enum-known-k-8
 enum-known-k-8 c = search needs
 
+enum-told-3 : tie.Need-enum-told-3
+enum-told-3 c = search needs
+
+enum-known-k-9 : tie.Need-enum-known-k-9
+enum-known-k-9 c = search needs
+
+cap-requires : tie.Need-cap-requires
+cap-requires c κs = search needs
+
+cast-result : tie.Need-cast-result
+cast-result c = search needs
+
+enum-told-4 : tie.Need-enum-told-4
+enum-told-4 c = search needs
+
 returns : tie.Need-returns
 returns c = rw (c .before .k .given .1, toZ-ofZ valueWidth (c .before .k .given .0 .1 .0) (search needs)) refl
 
@@ -68,6 +86,15 @@ returns-9 c = rw (c .before .k7 .given .1, toZ-ofZ valueWidth (c .before .k7 .gi
 returns-10 : tie.Need-returns-10
 returns-10 c = rw (c .before .k8 .given .1, toZ-ofZ valueWidth (c .before .k8 .given .0 .1 .0) (search needs)) refl
 
+returns-11 : tie.Need-returns-11
+returns-11 c = rw (c .enum-told3 .given .1)
+
+returns-12 : tie.Need-returns-12
+returns-12 c = let u = c .before .before .k9 .given .0 .1 .0 in rw (c .before .before .k9 .given .1, c .cap .ensures) (toZ-pos valueWidth (capped u) (omega (arith, capped-low u)))
+
+returns-13 : tie.Need-returns-13
+returns-13 c = rw (c .enum-told4 .given .1)
+
 pub value-of-spec : {M : Type 1} → statement M
 value-of-spec =
     tie.close
@@ -82,6 +109,11 @@ value-of-spec =
     enum-told-2
     enum-known-k-7
     enum-known-k-8
+    enum-told-3
+    enum-known-k-9
+    cap-requires
+    cast-result
+    enum-told-4
     returns
     returns-2
     returns-3
@@ -91,4 +123,7 @@ value-of-spec =
     returns-7
     returns-8
     returns-9
-    returns-10)
+    returns-10
+    returns-11
+    returns-12
+    returns-13)

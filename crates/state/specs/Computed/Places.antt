@@ -28,3 +28,4 @@ pub record Shape (s : State) : Type 0 where
   pub locked : length (s .locked) ≡ 8
   pub holds : length (s .holds) ≡ 8
   pub memory : length (s .memory) ≡ 16
+  pub waits : length (s .waits) ≡ 8

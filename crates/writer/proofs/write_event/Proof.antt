@@ -1,10 +1,13 @@
--- `writer::write_event` meets its contract: by its letter, a lock event or one with a value.
+-- `writer::write_event` meets its contract: by its letter, a lock event or one with a value or a thread behind its place.
 use mathlib.Core.Path.{sym, ap, _∙_}
+use mathlib.Core.Bool.{Bool, not, _&&_}
 use mathlib.Core.List.{[], _∷_}
 use native.Mathlib.Omega.{arith}
 use denote.Ref.{now}
+use lib.Dec.{eqb}
 use mir.Val.{toZ, ofZ}
 use mir.ValLaws.{toZ-ofZ}
+use Rattle.rules.specs.Events.{F}
 use Rattle.rules.specs.Limits.{valueWidth}
 use Rattle.decimal.specs.Text.{wordRow, wordValue, ended, room}
 use Rattle.decimal.proofs.TextLaws.{wrote-none, wrote-same, wrote-line}
@@ -58,7 +61,7 @@ returns-2 c =
     let k = c .before .before .before .before .before .before .before .before .before .letter-of in
     let p = c .before .before .before .before .before .before .before .before .place-of in
     wrote-line 66 98 (ended (wordRow (k .result ∷ []) (a .e .thread ∷ p .result ∷ []))) (ended (eventLine (a .e))) (now (a .out)) _ _ (omega arith) (omega (arith, c .before .before .before .before .before .before .before .before .before .before .if1 .left))
-    (lock-text (a .e) (k .result) (p .result) (k .ensures) (p .ensures) (sym (c .before .before .before .before .before .before .before .is-lock-letter .ensures) ∙ c .before .before .before .before .before .before .if2 .taken)) (c .before .before .write-row-line .ensures)
+    (lock-text (a .e) (k .result) (p .result) (k .ensures) (p .ensures) (sym (ap (λ (b : Bool). b && not (eqb (k .result) F)) (c .before .before .before .before .before .before .before .is-lock-letter .ensures)) ∙ c .before .before .before .before .before .before .if2 .taken)) (c .before .before .write-row-line .ensures)
 
 same-length-2 : tie.Need-same-length-2
 same-length-2 c = search needs
@@ -71,7 +74,7 @@ returns-3 c =
     let x = c .before .before .before .value-of in
     wrote-same (room 98 (ended (wordValue (k .result ∷ []) (e .thread ∷ p .result ∷ []) (toZ valueWidth (ofZ valueWidth (x .result)))))) (room 98 (ended (eventLine e))) _ _ _
     (ap (room 98)
-    (plain-text e (k .result) (p .result) (k .ensures) (p .ensures) (toZ valueWidth (ofZ valueWidth (x .result))) (toZ-ofZ valueWidth (x .result) (search needs) ∙ x .ensures) (sym (c .before .before .before .before .before .before .before .before .is-lock-letter .ensures) ∙ c .before .before .before .before .before .before .before .if2 .left)))
+    (plain-text e (k .result) (p .result) (k .ensures) (p .ensures) (toZ valueWidth (ofZ valueWidth (x .result))) (toZ-ofZ valueWidth (x .result) (search needs) ∙ x .ensures) (sym (ap (λ (b : Bool). b && not (eqb (k .result) F)) (c .before .before .before .before .before .before .before .before .is-lock-letter .ensures)) ∙ c .before .before .before .before .before .before .before .if2 .left)))
     (c .before .before .write-value-line .ensures)
 
 pub write-event-spec : {M : Type 1} → statement M

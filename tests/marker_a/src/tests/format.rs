@@ -313,7 +313,7 @@ fn h6_other_letters() {
         expect_refused(&one_line(line), 3, 4);
     }
     for byte in 0..=255u8 {
-        let letter = b"UALSRWKNPB".contains(&byte);
+        let letter = b"UALSRWKNPBYFC".contains(&byte);
         let four = [TRACE_HEAD.as_bytes(), &[byte], b" 0 0 0\n"].concat();
         let three = [TRACE_HEAD.as_bytes(), &[byte], b" 0 0\n"].concat();
         if byte == b'V' {
@@ -323,7 +323,8 @@ fn h6_other_letters() {
             continue;
         }
         let malformed = |paper: &[u8]| first_line(paper) == "refused 3 4";
-        let lock_letter = b"KN".contains(&byte);
+        // An F has the notified thread where other kinds have a value.
+        let lock_letter = b"KNYC".contains(&byte);
         assert_eq!(malformed(&with_trailer(&four)), !letter || lock_letter);
         assert_eq!(malformed(&with_trailer(&three)), !lock_letter);
     }

@@ -16,12 +16,14 @@ mod traces;
 mod values;
 mod volatile_lists;
 mod volatiles;
+mod waiting;
+mod waiting_lists;
 mod walks;
 
 use std::str::FromStr;
 
 use crate::rules::{copy, main_memory, outstanding_reads, outstanding_stores};
-use crate::Kind::{self, A, B, K, L, N, P, R, S, U, W};
+use crate::Kind::{self, A, B, C, F, K, L, N, P, R, S, U, W, Y};
 use crate::{demand3, judge, line_of, mark, outcome, paper, Counts, Event, Order, Value, MAX_VARIABLES};
 
 /// The head and `G` line of the short traces: "Two threads, variables and locks."
@@ -124,7 +126,8 @@ fn printed_sections(head: &str, events: &str) -> Vec<String> {
     print(&paper).lines().filter(|l| l.starts_with("section")).map(String::from).collect()
 }
 
-/// The event with the value that 18 asks for; an A or P has the value `free`.
+/// The event with the value that 18 asks for; an A or P has the value `free`, and an F notifies the
+/// thread `free`.
 fn fitting(es: &[Event], kind: Kind, thread: u32, target: u32, free: Value) -> Event {
     let first = |places: Vec<usize>| places.first().map_or(0, |&i| es[i].value);
     let value = match kind {
@@ -132,9 +135,9 @@ fn fitting(es: &[Event], kind: Kind, thread: u32, target: u32, free: Value) -> E
         L => first(outstanding_reads(es, thread, target)),
         W => first(outstanding_stores(es, thread, target)),
         R => main_memory(es, target),
-        A | P => free,
+        A | P | F => free,
         B => es.iter().rev().find(|e| e.kind == P && e.thread == thread && e.target == target).map_or(0, |e| e.value),
-        K | N => 0,
+        K | N | Y | C => 0,
     };
     Event { kind, thread, target, value }
 }
@@ -142,7 +145,7 @@ fn fitting(es: &[Event], kind: Kind, thread: u32, target: u32, free: Value) -> E
 /// The events parted by `;`, as `paper_of` takes them.
 fn text_of(es: &[Event]) -> String {
     let line = |e: &Event| match e.kind {
-        K | N => format!("{:?} {} {}", e.kind, e.thread, e.target),
+        K | N | Y | C => format!("{:?} {} {}", e.kind, e.thread, e.target),
         _ => format!("{:?} {} {} {}", e.kind, e.thread, e.target, e.value),
     };
     es.iter().map(line).collect::<Vec<_>>().join(";")

@@ -250,10 +250,10 @@ fn an_unused_volatile_variable() {
 
 // ---- rows ----
 
-/// "these lead each row, in that order", and what follows them is the row without them.
+/// "these lead each row, in that order", after 29 and 30, and what follows them is the row without them.
 #[test]
 fn rows_with_26_27_28() {
-    let behind: [(Kind, &[u32]); 10] = [
+    let behind: [(Kind, &[u32]); 13] = [
         (U, &[17, 18]),
         (A, &[23]),
         (L, &[10, 13, 15, 16, 18]),
@@ -264,9 +264,12 @@ fn rows_with_26_27_28() {
         (N, &[12, 15, 16]),
         (P, &[13, 19, 23]),
         (B, &[10, 18]),
+        (Y, &[12, 15, 16]),
+        (F, &[12]),
+        (C, &[11, 13]),
     ];
     for ((kind, row), (other, behind)) in ROWS.into_iter().zip(behind) {
-        assert_eq!((kind, &row[..3], &row[3..]), (other, &[26, 27, 28][..], behind));
+        assert_eq!((kind, &row[..5], &row[5..]), (other, &[29, 30, 26, 27, 28][..], behind));
     }
 }
 

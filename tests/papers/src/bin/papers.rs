@@ -1,7 +1,7 @@
 //! Writes papers and their listings, NAME.txt, NAME.out and, for the short course, NAME.short: `papers DIR [RANDOM]`, the papers with known
 //! listings and some random ones. The listings that are not known are marker A's.
 
-use papers::{by_a, expected, generate, short_course, volatiles, Course};
+use papers::{by_a, expected, generate, short_course, volatiles, waiting, Course};
 use std::path::Path;
 
 fn main() {
@@ -19,7 +19,7 @@ fn main() {
         let short = short(&e.paper);
         (e, short)
     });
-    for (e, short) in plain.chain(short_course::papers()).chain(volatiles::papers()) {
+    for (e, short) in plain.chain(short_course::papers()).chain(volatiles::papers()).chain(waiting::papers()) {
         let words: Vec<String> =
             e.name.split(|c: char| !c.is_ascii_alphanumeric()).filter(|w| !w.is_empty()).map(str::to_ascii_lowercase).collect();
         write(&words.join("-"), &e.paper, &e.listing, &short);
