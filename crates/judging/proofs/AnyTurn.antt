@@ -62,38 +62,24 @@ module _ (s : State) (t line : ℕ) where
   judged (kind.Notify l u) w h = either-none _ ∙ either-none _ ∙ wait-rule s (of (kind.Notify l u)) (by (kind.Notify l u)) w tt refl _ refl refl h
   judged (kind.Resume l) w h = either-none _ ∙ either-none _ ∙ wait-rule s (of (kind.Resume l)) (by (kind.Resume l)) w tt refl _ refl refl h
 
-  next : (k : Kind) → turnIn s (of k) .cell ≡ nextCell (s .events + 1) (oldestOf (cellIn s (of k) .reads) (getD (s .reads) (slotPlace (at s (of k)) (cellIn s (of k) .reads) 0) noSlot)) (letter k) (value k) (cellIn s (of k))
-  unfolding turnOf cellTurn readsTurn readsWith storesTurn storesWith nextCell
-  next (kind.Use v x) = refl
-  next (kind.Assign v x) = refl
-  next (kind.Load v x) = refl
-  next (kind.Store v x) = refl
-  next (kind.Read v x) = refl
-  next (kind.Write v x) = refl
-  next (kind.Lock l) = refl
-  next (kind.Unlock l) = refl
-  next (kind.PrescientStore v x) = refl
-  next (kind.PrescientAssign v x) = refl
-  next (kind.Wait l) = refl
-  next (kind.Notify l u) = refl
-  next (kind.Resume l) = refl
-
-  -- the place behind the last store: S has the position that the cell has before the event
-  sent : (k : Kind) → turnIn s (of k) .store ≡ storeAfter (partsAt s t (varOf k) (lockOf k) t .stores .behind) (letter k) (value k) (cellIn s (of k) .assigned) (s .events + 1)
+  -- what is put back of a cell, and behind its last store: S has the position that the cell has before the event
+  next : (k : Kind)
+      → (turnIn s (of k) .cell ≡ nextCell (s .events + 1) (oldestOf (cellIn s (of k) .reads) (getD (s .reads) (slotPlace (at s (of k)) (cellIn s (of k) .reads) 0) noSlot)) (letter k) (value k) (cellIn s (of k)))
+      × (turnIn s (of k) .store ≡ storeAfter (partsAt s t (varOf k) (lockOf k) t .stores .behind) (letter k) (value k) (cellIn s (of k) .assigned) (s .events + 1))
   unfolding turnOf cellTurn readsTurn readsWith storesTurn storesWith storeAfter nextCell
-  sent (kind.Use v x) = refl
-  sent (kind.Assign v x) = refl
-  sent (kind.Load v x) = refl
-  sent (kind.Store v x) = refl
-  sent (kind.Read v x) = refl
-  sent (kind.Write v x) = refl
-  sent (kind.Lock l) = refl
-  sent (kind.Unlock l) = refl
-  sent (kind.PrescientStore v x) = refl
-  sent (kind.PrescientAssign v x) = refl
-  sent (kind.Wait l) = refl
-  sent (kind.Notify l u) = refl
-  sent (kind.Resume l) = refl
+  next (kind.Use v x) = (refl, refl)
+  next (kind.Assign v x) = (refl, refl)
+  next (kind.Load v x) = (refl, refl)
+  next (kind.Store v x) = (refl, refl)
+  next (kind.Read v x) = (refl, refl)
+  next (kind.Write v x) = (refl, refl)
+  next (kind.Lock l) = (refl, refl)
+  next (kind.Unlock l) = (refl, refl)
+  next (kind.PrescientStore v x) = (refl, refl)
+  next (kind.PrescientAssign v x) = (refl, refl)
+  next (kind.Wait l) = (refl, refl)
+  next (kind.Notify l u) = (refl, refl)
+  next (kind.Resume l) = (refl, refl)
 
   -- what is put back of a lock event
   put : (k : Kind) → Within t k → getD (s .holds) (lockOf k) noHold .depth < 2000
@@ -152,12 +138,12 @@ module _ (s : State) (e : Event) (w : Within (e .thread) (e .kind)) where
         waits = set (s .waits) (subject e) (turnIn s e .wait);
       }) (stepState s e)
   unfolding stepState turnOf readsTurn readsWith storesTurn storesWith
-  any-put deep = let put = put s (e .thread) (e .line) (e .kind) w deep in λ j. record {
+  any-put deep = let put = put s (e .thread) (e .line) (e .kind) w deep in let next = next s (e .thread) (e .line) (e .kind) in λ j. record {
     counts = s .counts;
     events = s .events + 1;
-    cells = ((λ j. set (s .cells) (at s e) (next s (e .thread) (e .line) (e .kind) j)) ∙ (λ j. set (s .cells) (number j) (nextCell (s .events + 1) (oldest j) (letter (e .kind)) (value (e .kind)) (cell-is j)))) j;
+    cells = ((λ j. set (s .cells) (at s e) (next .0 j)) ∙ (λ j. set (s .cells) (number j) (nextCell (s .events + 1) (oldest j) (letter (e .kind)) (value (e .kind)) (cell-is j)))) j;
     reads = set (s .reads) (read-end j) (readAfter (getD (s .reads) (read-end j) noSlot) (letter (e .kind)) (value (e .kind)) (s .events + 1));
-    stores = ((λ j. set (s .stores) (slotPlace (at s e) (cellIn s e .stores) (cellIn s e .stores .len)) (sent s (e .thread) (e .line) (e .kind) j)) ∙ (λ j. set (s .stores) (store-end j) (storeAfter (getD (s .stores) (store-end j) noSlot) (letter (e .kind)) (value (e .kind)) (cell-is j .assigned) (s .events + 1)))) j;
+    stores = ((λ j. set (s .stores) (slotPlace (at s e) (cellIn s e .stores) (cellIn s e .stores .len)) (next .1 j)) ∙ (λ j. set (s .stores) (store-end j) (storeAfter (getD (s .stores) (store-end j) noSlot) (letter (e .kind)) (value (e .kind)) (cell-is j .assigned) (s .events + 1)))) j;
     locked = set (s .locked) (e .thread) (put .0 j);
     holds = set (s .holds) (lockOf (e .kind)) (put .1 j);
     memory = set (s .memory) (varOf (e .kind)) (mainAfter (getD (s .memory) (varOf (e .kind)) noMain) (letter (e .kind)) (value (e .kind)));

@@ -37,7 +37,7 @@ use state::Hold;
 use state::Ring;
 use state::Waiting;
 
-// What some variable of a thread has: a pending prescient store, a fresh assign, an outstanding store that N counts.
+// What some variable of a thread has: a pending prescient store, a fresh assign, an outstanding store that N and Y count.
 pub struct OnSome {
     pub pending: bool,
     pub fresh: bool,

@@ -59,7 +59,7 @@ fn one(b: bool) -> u32
     if b { 1 } else { 0 }
 }
 
-// Whether a store that N counts is outstanding: with an assign owed the latest is left aside.
+// Whether a store that N and Y count is outstanding: with an assign owed the latest is left aside.
 fn awaits_write(c: Cell) -> bool
     ensures { λ r. ⌜ r ≡ awaitsWrite c ⌝ }
 {
@@ -302,7 +302,7 @@ fn run(start: State, counted: [Tally; 8], what: &[u32], value: &[Value]) -> Outc
             let any = some_in(tally);
             let own = s.waits[t];
             if (k == b'K') | (k == b'N') {
-                // A lock, and what the variables of the thread have.
+                // K, N: a lock, and what the variables of the thread have.
                 let barred = judging::barred_rule(own, h.locks, k);
                 if barred != 0 {
                     return refuse_after(barred, declared, n);
@@ -317,7 +317,7 @@ fn run(start: State, counted: [Tally; 8], what: &[u32], value: &[Value]) -> Outc
                 s.holds[v] = held;
                 i += 1;
             } else {
-                // These, and who waits.
+                // Y, F, C: these, and who waits.
                 let subject = rules::subject_of(k, t, x);
                 if h.threads <= subject {
                     return refuse_after(5, declared, n);

@@ -115,7 +115,7 @@ pub record Grip : Type 0 where
   pub remembered : ℕ
 
 -- After one event more: one hold more with its K, one less with its N. Document 02 (i): "Y .. gives up every hold on the lock and remembers their
--- number", "C .. takes all the holds again".
+-- number", "C .. takes all the holds again". (A C with none to take, which is 30, changes nothing.)
 unfoldable pub gripAfter : ℕ → ℕ → Event → Grip → Grip
 gripAfter t l e g = record {
   held =

@@ -137,11 +137,11 @@ turnOf a n w t l k x p =
       locked = wait .locked;
     }
 
--- a store that N counts is outstanding: with an assign owed the latest is left aside
+-- a store that N and Y count is outstanding: with an assign owed the latest is left aside
 abbrev pub awaitsWrite : Cell → Bool
 awaitsWrite c = ltb (cond (c .pending) 1 0) (c .stores .len)
 
--- of the first n variables of thread t: whether one has a pending prescient store, a fresh assign, an outstanding store that N counts
+-- of the first n variables of thread t: whether one has a pending prescient store, a fresh assign, an outstanding store that N and Y count
 unfoldable pub someOf : State → ℕ → ℕ → OnSome
 someOf s t n = record {
   pending = some n (λ v. cellAt s t v .pending);
