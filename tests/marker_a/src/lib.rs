@@ -1,10 +1,6 @@
-//! A naive marker for the papers of document 01, with requests (a), (d), (e), (f), (g), (i) and (k) of document 02.
-//!
-//! Every word of 01 is computed anew from the list of earlier events.
-//! The quoted sentences are 01's, for 23 those of 02 (a), for 16 at N also those of 02 (d), for the
-//! short course and 25 those of 02 (e), for the `V` line, the lines of events and 26 to 28 those of
-//! 02 (f), for the width of values those of 02 (g), and for Y, F, C, 29 and 30 those of 02 (i). 02 (k)
-//! asks for "the same order" and changes only a limit of 7, which cannot arise here.
+//! A naive marker, written from documents 01 and 02, requests (a), (b), (d) to (g), (i) and (k).
+//! Every word is computed anew from the list of earlier events. (b) and (k) change no answer here: there is no table
+//! of cells and no scratch.
 
 pub mod listing;
 pub mod order;
@@ -19,7 +15,7 @@ pub use rules::{judge, judge_short};
 
 /// "Paper over 65,536 bytes".
 pub const MAX_BYTES: usize = 65_536;
-/// "0 to 2,000 event lines".
+/// "Then 0 to 2,000 event lines."
 pub const MAX_EVENTS: usize = 2_000;
 /// "threads 1 to 8".
 pub const MAX_THREADS: u32 = 8;
@@ -27,86 +23,53 @@ pub const MAX_THREADS: u32 = 8;
 pub const MAX_VARIABLES: u32 = 16;
 /// "locks 0 to 8".
 pub const MAX_LOCKS: u32 = 8;
-/// "at most 8 outstanding reads and 8 outstanding stores for each thread and variable".
-pub const MAX_OUTSTANDING: usize = 8;
 
-/// "Values become signed 64-bit whole numbers in lines, records, copies, queues and listings."
+/// "Values become signed 64-bit whole numbers".
 pub type Value = i64;
 
-/// What a paper declares: "`H t v l`", and "An optional line `V` with rising variable numbers".
+/// What the head declares, and what the `V` line names.
 #[derive(Clone, Copy, Debug, PartialEq, Eq)]
 pub struct Counts {
     pub threads: u32,
     pub variables: u32,
     pub locks: u32,
-    /// Whether the `V` line names the variable; all false without the line.
-    pub volatiles: [bool; MAX_VARIABLES as usize],
+    /// What the `V` line names; all false without the line.
+    pub volatiles: [bool; 16],
 }
 
 impl Counts {
-    /// The counts of a head, without a `V` line.
+    /// Counts of a paper without a `V` line.
     pub const fn plain(threads: u32, variables: u32, locks: u32) -> Counts {
-        Counts { threads, variables, locks, volatiles: [false; MAX_VARIABLES as usize] }
+        Counts { threads, variables, locks, volatiles: [false; 16] }
     }
 }
 
-/// The limits of a course: "Both limits stay in force, each for its own entry".
-#[derive(Clone, Copy, Debug, PartialEq, Eq)]
-struct Limits {
-    /// The most that a head may declare.
-    counts: Counts,
-    /// The most events.
-    events: usize,
-    /// The number of an event over them.
-    number: u32,
-}
-
-/// The limits of 01, with 9 for an event over them.
-const FULL: Limits = Limits { counts: Counts::plain(MAX_THREADS, MAX_VARIABLES, MAX_LOCKS), events: MAX_EVENTS, number: 9 };
-/// "at most 2 threads, 4 variables, 2 locks and 200 events", with 25 "in place of 9 for events".
-const SHORT: Limits = Limits { counts: Counts::plain(2, 4, 2), events: 200, number: 25 };
-
-/// "An event is one of ten kinds", and of the three of 02 (i), named by its letter.
+/// The ten kinds of 01 and the three of (i).
 #[derive(Clone, Copy, Debug, PartialEq, Eq)]
 pub enum Kind {
-    /// Use.
     U,
-    /// Assign.
     A,
-    /// Load.
     L,
-    /// Store.
     S,
-    /// Read.
     R,
-    /// Write.
     W,
-    /// Lock.
     K,
-    /// Unlock.
     N,
-    /// Early store.
     P,
-    /// The assign that an early store announced.
     B,
-    /// "`Y t l` waits".
     Y,
-    /// "`F t l u` notifies thread u".
     F,
-    /// "`C t l` comes back".
     C,
 }
 
 impl Kind {
-    /// A lock event: its `target` is a lock, and of every other kind it is a variable.
+    /// Whether the second number of the event is a lock.
     pub fn on_lock(self) -> bool {
         matches!(self, Kind::K | Kind::N | Kind::Y | Kind::F | Kind::C)
     }
 }
 
-/// One event. `target` is the lock of a K, N, Y, F or C and the variable of every other kind.
-/// "a lock event has no value": the `value` of a K, N, Y or C is 0 and is never read; that of an F is
-/// the notified thread u.
+/// `target` is the event's second number (lock or variable); `value` its third, 0 where the form has none.
 #[derive(Clone, Copy, Debug, PartialEq, Eq)]
 pub struct Event {
     pub kind: Kind,
@@ -130,7 +93,7 @@ pub enum Verdict {
     Refused(Refusal),
 }
 
-/// A usable copy: "thread, variable and value of each usable copy".
+/// "thread, variable and value of each usable copy".
 #[derive(Clone, Copy, Debug, PartialEq, Eq)]
 pub struct UsableCopy {
     pub thread: u32,
@@ -138,92 +101,100 @@ pub struct UsableCopy {
     pub value: Value,
 }
 
-/// The order of an accepted paper.
+/// The order of a paper.
 #[derive(Clone, Debug, PartialEq, Eq)]
 pub enum Order {
     /// The paper is refused, or has `G -`.
     None,
-    /// The sections in order of their last K or C.
     Sections(Vec<Section>),
     /// 20, 21 or 22, and its line.
-    Denied { number: u32, line: usize },
+    Denied {
+        number: u32,
+        line: usize,
+    },
 }
 
-/// Everything about a paper. A refused paper has no counts, guards, events, main memory,
-/// copies or order.
+/// Everything about a paper. A refused one has no counts, guards, events, main memory, copies or order.
 #[derive(Clone, Debug, PartialEq, Eq)]
 pub struct Outcome {
     pub verdict: Verdict,
     pub counts: Option<Counts>,
-    /// One lock number per variable; none for `G -`.
     pub guards: Option<Vec<u32>>,
     pub events: Vec<Event>,
-    /// Main memory of each declared variable after the last event.
     pub main: Vec<Value>,
-    /// "by thread then variable".
     pub copies: Vec<UsableCopy>,
     pub order: Order,
 }
 
-/// The line of the event at place `index` (from 0) of the list; the trailer's line for the
-/// list's length. "For one step the line is the events so far plus 3". "With it events start at
-/// line 4, for a step too."
+/// The limits of a course: "Both limits stay in force, each for its own entry".
+#[derive(Clone, Copy, Debug, PartialEq, Eq)]
+struct Limits {
+    /// The most that a head may declare.
+    counts: Counts,
+    /// The most events.
+    events: usize,
+    /// The number of an event over them.
+    number: u32,
+}
+
+/// The limits of 01, with 9 for an event over them.
+const FULL: Limits = Limits { counts: Counts::plain(MAX_THREADS, MAX_VARIABLES, MAX_LOCKS), events: MAX_EVENTS, number: 9 };
+/// "at most 2 threads, 4 variables, 2 locks and 200 events", with 25 "in place of 9 for events".
+const SHORT: Limits = Limits { counts: Counts::plain(2, 4, 2), events: 200, number: 25 };
+
+/// "For one step the line is the events so far plus 3"; "With it [the `V` line] events start at line 4, for a step too."
 pub fn line_of(counts: Counts, index: usize) -> usize {
-    index + if has_v_line(counts) { 4 } else { 3 }
+    let first = if counts.volatiles.contains(&true) { 4 } else { 3 };
+    index.saturating_add(first)
 }
 
-/// The paper has a `V` line. "a wrong or empty one is 6", so a right one names a variable.
-fn has_v_line(counts: Counts) -> bool {
-    counts.volatiles.contains(&true)
-}
-
-/// What the program `mark` prints for these bytes.
+/// What the program prints.
 pub fn mark(paper: &[u8]) -> Vec<u8> {
     listing::listing(&outcome(paper))
 }
 
-/// What the short course's entry prints for these bytes.
+/// What the program prints in the short course.
 pub fn mark_short(paper: &[u8]) -> Vec<u8> {
     listing::listing(&outcome_short(paper))
 }
 
-/// "Whole paper: 1, 2, 3, 6, then line by line 4, 9, 5 and the row". 7 cannot arise here:
-/// nothing is lent.
+/// Everything about a paper in the full course.
 pub fn outcome(paper: &[u8]) -> Outcome {
     outcome_within(paper, FULL)
 }
 
-/// The same in the short course, with 25 "after 3 for the head (line 1) and in place of 9 for
-/// events": 1, 2, 3, 25, 6, then line by line 4, 25, 5 and the row.
+/// Everything about a paper in the short course.
 pub fn outcome_short(paper: &[u8]) -> Outcome {
     outcome_within(paper, SHORT)
 }
 
 /// The outcome in a course with these limits.
 fn outcome_within(paper: &[u8], limits: Limits) -> Outcome {
-    let marked = paper::find_within(paper, limits).and_then(|parts| {
-        let events = accepted_events(parts.body, parts.counts, limits)?;
-        Ok(accepted(parts.counts, parts.guards, events))
-    });
-    match marked {
-        Ok(outcome) => outcome,
+    match marked(paper, limits) {
+        Ok(accepted) => accepted,
         Err(refusal) => refused(refusal),
     }
 }
 
+/// "Whole paper: 1, 2, 3, 6, then line by line".
+fn marked(paper: &[u8], limits: Limits) -> Result<Outcome, Refusal> {
+    let parts = paper::find_within(paper, limits)?;
+    let events = read_events(parts.body, parts.counts, limits)?;
+    Ok(accepted(parts.counts, parts.guards, events))
+}
+
 /// "line by line 4, 9, 5 and the row".
-fn accepted_events(body: &[u8], counts: Counts, limits: Limits) -> Result<Vec<Event>, Refusal> {
+fn read_events(body: &[u8], counts: Counts, limits: Limits) -> Result<Vec<Event>, Refusal> {
     let mut events = Vec::new();
     let mut rest = body;
-    while let Some((line, after)) = paper::take_line(rest) {
-        let place = line_of(counts, events.len());
-        let event = paper::event(line).ok_or(Refusal { line: place, number: 4 })?;
-        let number = rules::judge_within(&events, counts, &event, limits);
-        if number != 0 {
-            return Err(Refusal { line: place, number });
+    while let Some((text, behind)) = paper::take_line(rest) {
+        let line = line_of(counts, events.len());
+        let event = paper::event(text).ok_or(Refusal { line, number: 4 })?;
+        match rules::judge_within(&events, counts, &event, limits) {
+            0 => events.push(event),
+            number => return Err(Refusal { line, number }),
         }
-        events.push(event);
-        rest = after;
+        rest = behind;
     }
     Ok(events)
 }
@@ -257,58 +228,65 @@ fn usable_copies(counts: Counts, events: &[Event]) -> Vec<UsableCopy> {
     let mut copies = Vec::new();
     for thread in 0..counts.threads {
         for variable in 0..counts.variables {
-            if !rules::usable(events, thread, variable) {
-                continue;
-            }
-            if let Some(value) = rules::copy(events, thread, variable) {
-                copies.push(UsableCopy { thread, variable, value });
+            if rules::usable(events, thread, variable) {
+                if let Some(value) = rules::copy(events, thread, variable) {
+                    copies.push(UsableCopy { thread, variable, value });
+                }
             }
         }
     }
     copies
 }
 
-/// "Then, with guards, 20 and 21 event by event, 22 last."
+/// "Then, with guards, 20 and 21 event by event, 22 last." "20 to 22 refuse no paper, only its order".
 fn order_of(counts: Counts, guards: Option<&[u32]>, events: &[Event]) -> Order {
-    match guards {
-        None => Order::None,
-        Some(guards) => match denial(counts, guards, events) {
-            Some((number, line)) => Order::Denied { number, line },
-            None => Order::Sections(sections(counts, events)),
-        },
+    let Some(guards) = guards else { return Order::None };
+    match denial(counts, guards, events) {
+        Some((number, line)) => Order::Denied { number, line },
+        None => Order::Sections(sections(counts, events)),
     }
 }
 
-/// Demand 3: "What each U is given equals the value in its line; what each variable has at
-/// the end equals its main memory after the last event." "without an order nothing is run".
+/// Demand 3, asked of this outcome's own order, events and main memory.
 pub fn demand3(o: &Outcome) -> Result<(), String> {
-    let Order::Sections(order) = &o.order else {
-        return Ok(());
-    };
-    let counts = o.counts.ok_or("an order without counts")?;
-    let (uses, memory) = plain_run(counts, order, &o.events);
-    every_use_is_given(counts, &uses, &o.events)?;
-    for u in &uses {
-        if u.given != u.stated {
-            return Err(format!("line {}: given {}, stated {}", u.line, u.given, u.stated));
+    let Some(counts) = o.counts else { return Ok(()) };
+    match &o.order {
+        Order::Sections(list) => same_as_plain_memory(counts, list, o),
+        _ => no_fit_order(counts, o),
+    }
+}
+
+/// "An order that omits sections, or none given to a fit paper, fails demand 3".
+fn no_fit_order(counts: Counts, o: &Outcome) -> Result<(), String> {
+    match &o.guards {
+        Some(guards) if denial(counts, guards, &o.events).is_none() => Err("a fit paper has no order".to_string()),
+        _ => Ok(()),
+    }
+}
+
+/// "What each U is given equals the value in its line; what each variable has at the end equals its main memory
+/// after the last event."
+fn same_as_plain_memory(counts: Counts, list: &[Section], o: &Outcome) -> Result<(), String> {
+    let (given, memory) = plain_run(counts, list, &o.events);
+    for (index, event) in o.events.iter().enumerate() {
+        if event.kind == Kind::U {
+            use_is_right(line_of(counts, index), &given)?;
         }
     }
-    for (v, main) in o.main.iter().enumerate() {
-        if memory.get(v) != Some(main) {
-            return Err(format!("variable {v}: plain {:?}, main {main}", memory.get(v)));
+    for v in 0..counts.variables as usize {
+        if memory.get(v) != o.main.get(v) {
+            return Err(format!("variable {v}: plain memory {:?}, main memory {:?}", memory.get(v), o.main.get(v)));
         }
     }
     Ok(())
 }
 
-/// "each U": every U of the paper is run exactly once.
-fn every_use_is_given(counts: Counts, uses: &[Given], events: &[Event]) -> Result<(), String> {
-    let mut run: Vec<usize> = uses.iter().map(|u| u.line).collect();
-    run.sort_unstable();
-    let all: Vec<usize> = (0..events.len()).filter(|&i| events[i].kind == Kind::U).map(|i| line_of(counts, i)).collect();
-    if run == all {
-        Ok(())
-    } else {
-        Err(format!("uses in lines {all:?}, run {run:?}"))
+/// The use in this line is given one value, the one stated.
+fn use_is_right(line: usize, given: &[Given]) -> Result<(), String> {
+    let here: Vec<&Given> = given.iter().filter(|g| g.line == line).collect();
+    match here[..] {
+        [g] if g.given == g.stated => Ok(()),
+        [g] => Err(format!("line {line}: use is given {}, states {}", g.given, g.stated)),
+        _ => Err(format!("line {line}: use is given {} values", here.len())),
     }
 }

@@ -1,77 +1,38 @@
-//! The lines that the program `mark` prints.
+//! What the program prints.
 
-use crate::{Order, Outcome, Value, Verdict};
+use crate::{Order, Outcome, Section, Verdict};
 
-/// The listing of a paper.
+/// The listing of an outcome.
 pub fn listing(o: &Outcome) -> Vec<u8> {
-    let mut out = Vec::new();
-    match o.verdict {
-        // "Otherwise it prints only `refused line number`".
-        Verdict::Refused(r) => write_line(&mut out, b"refused", &[r.line as Value, r.number.into()]),
-        Verdict::Accepted(n) => {
-            write_line(&mut out, b"accepted", &[n as Value]);
-            write_main(&mut out, o);
-            write_copies(&mut out, o);
-            write_order(&mut out, o);
-        }
-    }
-    out
+    let text = match o.verdict {
+        Verdict::Refused(refusal) => format!("refused {} {}\n", refusal.line, refusal.number),
+        Verdict::Accepted(events) => accepted(events, o),
+    };
+    text.into_bytes()
 }
 
-/// "each declared variable, rising, and its value in main memory".
-fn write_main(out: &mut Vec<u8>, o: &Outcome) {
-    for (variable, &value) in o.main.iter().enumerate() {
-        write_line(out, b"main", &[variable as Value, value]);
+/// "Events; each declared variable, rising, and its value in main memory; thread, variable and value of each usable
+/// copy, by thread then variable; thread, first and last line of each section."
+fn accepted(events: usize, o: &Outcome) -> String {
+    let mut text = format!("accepted {events}\n");
+    for (variable, value) in o.main.iter().enumerate() {
+        text += &format!("main {variable} {value}\n");
     }
+    for copy in &o.copies {
+        text += &format!("copy {} {} {}\n", copy.thread, copy.variable, copy.value);
+    }
+    text + &order(&o.order)
 }
 
-/// "thread, variable and value of each usable copy, by thread then variable".
-fn write_copies(out: &mut Vec<u8>, o: &Outcome) {
-    for c in &o.copies {
-        write_line(out, b"copy", &[c.thread.into(), c.variable.into(), c.value]);
-    }
-}
-
-/// "thread, first and last line of each section"; "for 20 to 22 the sections give way to
-/// `unordered line number`. With `G -` there are neither."
-fn write_order(out: &mut Vec<u8>, o: &Outcome) {
-    match &o.order {
-        Order::None => {}
-        Order::Denied { number, line } => {
-            write_line(out, b"unordered", &[*line as Value, (*number).into()]);
-        }
-        Order::Sections(sections) => {
-            for s in sections {
-                write_line(out, b"section", &[s.thread.into(), s.first as Value, s.last as Value]);
-            }
-        }
+/// "for 20 to 22 the sections give way to `unordered line number`. With `G -` there are neither."
+fn order(order: &Order) -> String {
+    match order {
+        Order::None => String::new(),
+        Order::Sections(list) => list.iter().map(section).collect(),
+        Order::Denied { number, line } => format!("unordered {line} {number}\n"),
     }
 }
 
-/// A word and numbers parted by one space, ended by byte 10. Every printed number is within a
-/// value's width.
-fn write_line(out: &mut Vec<u8>, word: &[u8], numbers: &[Value]) {
-    out.extend_from_slice(word);
-    for &n in numbers {
-        out.push(b' ');
-        write_number(out, n);
-    }
-    out.push(10);
-}
-
-/// Base ten, a minus before a negative number.
-fn write_number(out: &mut Vec<u8>, n: Value) {
-    if n < 0 {
-        out.push(b'-');
-    }
-    write_digits(out, n);
-}
-
-/// The digits without the minus. The last digit is taken by itself, so the least value, which has
-/// no opposite, is written too.
-fn write_digits(out: &mut Vec<u8>, n: Value) {
-    if n / 10 != 0 {
-        write_digits(out, n / 10);
-    }
-    out.push(b'0' + (n % 10).unsigned_abs() as u8);
+fn section(s: &Section) -> String {
+    format!("section {} {} {}\n", s.thread, s.first, s.last)
 }

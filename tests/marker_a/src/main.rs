@@ -1,17 +1,18 @@
-//! Reads a paper from standard input and writes its listing. With `--short` it is a paper of the
-//! short course.
+//! Reads a paper from standard input and prints its listing; `--short` selects the short course.
 
-use std::env;
-use std::io::{self, Read, Write};
+use std::io::{Read, Write};
 
-fn main() -> io::Result<()> {
-    let short = env::args_os().skip(1).any(|arg| arg == "--short");
-    // One byte over the limit is enough to tell that a paper is too long.
-    let limit = marker_a::MAX_BYTES as u64 + 1;
+fn main() {
+    let short = std::env::args_os().skip(1).any(|argument| argument == "--short");
     let mut paper = Vec::new();
-    io::stdin().lock().take(limit).read_to_end(&mut paper)?;
-    let listing = if short { marker_a::mark_short(&paper) } else { marker_a::mark(&paper) };
-    let mut out = io::stdout().lock();
-    out.write_all(&listing)?;
-    out.flush()
+    let read = std::io::stdin().take(marker_a::MAX_BYTES as u64 + 1).read_to_end(&mut paper);
+    if let Err(error) = read {
+        eprintln!("standard input: {error}");
+        std::process::exit(1);
+    }
+    let text = if short { marker_a::mark_short(&paper) } else { marker_a::mark(&paper) };
+    if let Err(error) = std::io::stdout().write_all(&text) {
+        eprintln!("standard output: {error}");
+        std::process::exit(1);
+    }
 }

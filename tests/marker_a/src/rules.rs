@@ -1,15 +1,11 @@
-//! The words about earlier events, rules 5, 9 to 19, 23, 25 for events, 26 to 30, and the rows.
-//!
-//! Every function here reads the list of earlier events and keeps nothing.
-//! T is `t`, V is `v`, the list is `es`.
+//! The words about earlier events, the rules and the rows.
+//! Positions are indices into the list of earlier events.
 
-use crate::Kind::{self, A, B, C, F, K, L, N, P, R, S, U, W, Y};
-use crate::{Counts, Event, Limits, Value, FULL, MAX_OUTSTANDING, MAX_VARIABLES, SHORT};
+use crate::{Counts, Event, Kind, Limits, Value, FULL, MAX_LOCKS, MAX_THREADS, MAX_VARIABLES, SHORT};
+use Kind::*;
 
-/// "the ten rows of this table are fixed", with "23, dead read, after 19 in the rows of R, A
-/// and P" and "26, wrong neighbour; 27, volatile order; 28, early store or its assign on a
-/// volatile; these lead each row, in that order". The three rows of 02 (i): "Y is checked as N is", "F
-/// needs the lock held, else 12", "C is checked as K is"; 29 and 30 are "both ahead of 26".
+/// The ten rows of 01 with 23 from (a), and the rows of Y, F and C from (i).
+/// 26, 27, 28 "lead each row, in that order"; 29 and 30 "both ahead of 26".
 pub const ROWS: [(Kind, &[u32]); 13] = [
     (U, &[29, 30, 26, 27, 28, 17, 18]),
     (A, &[29, 30, 26, 27, 28, 23]),
@@ -26,477 +22,481 @@ pub const ROWS: [(Kind, &[u32]); 13] = [
     (C, &[29, 30, 26, 27, 28, 11, 13]),
 ];
 
-/// 0, or the number of the first rule that `e` breaks after the earlier events:
-/// "9, 5 and the row".
+/// 0, or the number that this event gets after these.
 pub fn judge(earlier: &[Event], counts: Counts, e: &Event) -> u32 {
     judge_within(earlier, counts, e, FULL)
 }
 
-/// The same in the short course: 25 "in place of 9", 5 and the row.
+/// The same in the short course.
 pub fn judge_short(earlier: &[Event], counts: Counts, e: &Event) -> u32 {
     judge_within(earlier, counts, e, SHORT)
 }
 
-/// The same in a course with these limits.
+/// The same in a course with these limits: "9, 5 and the row", with 25 "in place of 9 for events" in the short one.
 pub(crate) fn judge_within(earlier: &[Event], counts: Counts, e: &Event, limits: Limits) -> u32 {
-    if rule_9(earlier, limits) {
+    if earlier.len() >= limits.events {
         return limits.number;
     }
-    if rule_5(counts, e) {
+    if undeclared(counts, e) {
         return 5;
     }
-    for &number in row(e.kind) {
-        if breaks(number, earlier, counts, e) {
-            return number;
-        }
-    }
-    0
+    row(e.kind).iter().copied().find(|&number| breaks(number, earlier, counts, e)).unwrap_or(0)
 }
 
-/// "What is checked hangs on the kind".
+/// "Thread, variable or lock not declared."
+fn undeclared(counts: Counts, e: &Event) -> bool {
+    let targets = if e.kind.on_lock() { counts.locks } else { counts.variables };
+    let notified_undeclared = e.kind == F && (e.value < 0 || e.value >= Value::from(counts.threads));
+    e.thread >= counts.threads || e.target >= targets || notified_undeclared
+}
+
+/// The row of a kind.
 fn row(kind: Kind) -> &'static [u32] {
     ROWS.iter().find(|(k, _)| *k == kind).map_or(&[], |(_, numbers)| numbers)
 }
 
-/// Whether `e` breaks the rule of this number.
-pub fn breaks(number: u32, es: &[Event], counts: Counts, e: &Event) -> bool {
+/// Whether `e` breaks this one rule of the rows; never where its kind's row does not have the number.
+pub fn breaks(number: u32, earlier: &[Event], counts: Counts, e: &Event) -> bool {
+    row(e.kind).contains(&number) && broken(number, earlier, counts, e)
+}
+
+fn broken(number: u32, earlier: &[Event], counts: Counts, e: &Event) -> bool {
     match number {
-        10 => rule_10(es, e),
-        11 => rule_11(es, counts, e),
-        12 => rule_12(es, e),
-        13 => rule_13(es, counts, e),
-        14 => rule_14(es, e),
-        15 => rule_15(es, counts, e),
-        16 => rule_16(es, counts, e),
-        17 => rule_17(es, e),
-        18 => rule_18(es, e),
-        19 => rule_19(es, e),
-        23 => rule_23(es, e),
-        26 => rule_26(es, counts, e),
-        27 => rule_27(es, counts, e),
-        28 => rule_28(counts, e),
-        29 => rule_29(es, counts, e),
-        30 => rule_30(es, e),
+        10 => rule_10(earlier, counts, e),
+        11 => rule_11(earlier, counts, e),
+        12 => rule_12(earlier, counts, e),
+        13 => rule_13(earlier, counts, e),
+        14 => rule_14(earlier, counts, e),
+        15 => rule_15(earlier, counts, e),
+        16 => rule_16(earlier, counts, e),
+        17 => rule_17(earlier, counts, e),
+        18 => rule_18(earlier, counts, e),
+        19 => rule_19(earlier, counts, e),
+        23 => rule_23(earlier, counts, e),
+        26 => rule_26(earlier, counts, e),
+        27 => rule_27(earlier, counts, e),
+        28 => rule_28(earlier, counts, e),
+        29 => rule_29(earlier, counts, e),
+        30 => rule_30(earlier, counts, e),
         _ => false,
     }
 }
 
-// ---- the words ----
+// ---- finding events ----
 
-/// Whether `e` is an event of one of these kinds by T on V; where they are kinds of lock events, on
-/// the lock `v`.
-fn is(e: &Event, kinds: &[Kind], t: u32, v: u32) -> bool {
-    e.thread == t && e.target == v && kinds.contains(&e.kind)
+/// Whether this event is by `t` on `target` and of one of these kinds.
+fn is(e: &Event, t: u32, target: u32, kinds: &[Kind]) -> bool {
+    e.thread == t && e.target == target && kinds.contains(&e.kind)
 }
 
-/// The places of the events of these kinds by T on V, rising.
-fn places(es: &[Event], kinds: &[Kind], t: u32, v: u32) -> Vec<usize> {
-    (0..es.len()).filter(|&i| is(&es[i], kinds, t, v)).collect()
+/// The positions of T's events of these kinds on this variable or lock.
+fn positions(es: &[Event], t: u32, target: u32, kinds: &[Kind]) -> Vec<usize> {
+    (0..es.len()).filter(|&i| is(&es[i], t, target, kinds)).collect()
 }
 
-/// The latest event of these kinds by T on V.
-fn latest<'a>(es: &'a [Event], kinds: &[Kind], t: u32, v: u32) -> Option<&'a Event> {
-    es.iter().rev().find(|e| is(e, kinds, t, v))
+/// The position of the latest of them.
+fn latest(es: &[Event], t: u32, target: u32, kinds: &[Kind]) -> Option<usize> {
+    es.iter().rposition(|e| is(e, t, target, kinds))
 }
 
-/// "The n-th load pairs with the n-th read of T on V": the places of load and read.
-pub fn loads_and_reads(es: &[Event], t: u32, v: u32) -> Vec<(usize, usize)> {
-    let loads = places(es, &[L], t, v);
-    let reads = places(es, &[R], t, v);
-    loads.into_iter().zip(reads).collect()
+/// The kind of the latest of them.
+fn latest_kind(es: &[Event], t: u32, target: u32, kinds: &[Kind]) -> Option<Kind> {
+    latest(es, t, target, kinds).map(|i| es[i].kind)
 }
 
-/// "the n-th store (S or P) with the n-th write": the places of store and write.
-pub fn stores_and_writes(es: &[Event], t: u32, v: u32) -> Vec<(usize, usize)> {
-    let stores = places(es, &[S, P], t, v);
-    let writes = places(es, &[W], t, v);
-    stores.into_iter().zip(writes).collect()
+fn declared_threads(counts: Counts) -> std::ops::Range<u32> {
+    0..counts.threads.min(MAX_THREADS)
 }
 
-/// "Unpaired reads and stores are *outstanding*": the places of the unpaired reads.
+fn declared_variables(counts: Counts) -> std::ops::Range<u32> {
+    0..counts.variables.min(MAX_VARIABLES)
+}
+
+fn declared_locks(counts: Counts) -> std::ops::Range<u32> {
+    0..counts.locks.min(MAX_LOCKS)
+}
+
+// ---- words of 01 ----
+
+/// The reads of T on V, in order.
+fn reads(es: &[Event], t: u32, v: u32) -> Vec<usize> {
+    positions(es, t, v, &[R])
+}
+
+/// The loads of T on V, in order.
+fn loads(es: &[Event], t: u32, v: u32) -> Vec<usize> {
+    positions(es, t, v, &[L])
+}
+
+/// The stores (S or P) of T on V, in order.
+fn stores(es: &[Event], t: u32, v: u32) -> Vec<usize> {
+    positions(es, t, v, &[S, P])
+}
+
+/// The writes of T on V, in order.
+fn writes(es: &[Event], t: u32, v: u32) -> Vec<usize> {
+    positions(es, t, v, &[W])
+}
+
+/// "The n-th load pairs with the n-th read of T on V"; "Unpaired reads and stores are outstanding."
 pub fn outstanding_reads(es: &[Event], t: u32, v: u32) -> Vec<usize> {
-    let loads = places(es, &[L], t, v).len();
-    places(es, &[R], t, v).into_iter().skip(loads).collect()
+    let paired = loads(es, t, v).len();
+    reads(es, t, v).into_iter().skip(paired).collect()
 }
 
-/// "the n-th store (S or P) with the n-th write. Unpaired reads and stores are
-/// *outstanding*": the places of the unpaired stores.
+/// "the n-th store (S or P) with the n-th write. Unpaired reads and stores are outstanding."
 pub fn outstanding_stores(es: &[Event], t: u32, v: u32) -> Vec<usize> {
-    let writes = places(es, &[W], t, v).len();
-    places(es, &[S, P], t, v).into_iter().skip(writes).collect()
+    let paired = writes(es, t, v).len();
+    stores(es, t, v).into_iter().skip(paired).collect()
 }
 
-/// "*Copy*: the value of T's latest A, B or L on V." "copies are absent" at the start.
+/// "Copy: the value of T's latest A, B or L on V."
 pub fn copy(es: &[Event], t: u32, v: u32) -> Option<Value> {
-    latest(es, &[A, B, L], t, v).map(|e| e.value)
+    latest(es, t, v, &[A, B, L]).map(|i| es[i].value)
 }
 
-/// "*Fresh*: the latest of A, B, S is A."
+/// "Fresh: the latest of A, B, S is A."
 pub fn fresh(es: &[Event], t: u32, v: u32) -> bool {
-    latest(es, &[A, B, S], t, v).is_some_and(|e| e.kind == A)
+    latest_kind(es, t, v, &[A, B, S]) == Some(A)
 }
 
-/// "*Owed*: the latest of P, B is P."
+/// "Owed: the latest of P, B is P."
 pub fn owed(es: &[Event], t: u32, v: u32) -> bool {
-    latest(es, &[P, B], t, v).is_some_and(|e| e.kind == P)
+    latest_kind(es, t, v, &[P, B]) == Some(P)
 }
 
-/// "a store whose assign is owed": the store at this place is a P, and it is the latest of P, B
-/// of its thread on its variable.
-pub fn assign_owed(es: &[Event], store: usize) -> bool {
-    let e = &es[store];
-    e.kind == P && places(es, &[P, B], e.thread, e.target).last() == Some(&store)
+/// The store whose assign is owed: the latest P while V is owed.
+pub fn owed_store(es: &[Event], t: u32, v: u32) -> Option<usize> {
+    if owed(es, t, v) {
+        latest(es, t, v, &[P])
+    } else {
+        None
+    }
 }
 
-/// The places of the outstanding stores of T on V that count in 16 at N: all but "a store
-/// whose assign is owed".
-pub fn stores_counted_at_unlock(es: &[Event], t: u32, v: u32) -> Vec<usize> {
-    outstanding_stores(es, t, v).into_iter().filter(|&store| !assign_owed(es, store)).collect()
+/// The first position after "T's last K, on whichever lock (or the start)"; C "spoils copies as K does".
+fn since_last_lock(es: &[Event], t: u32) -> usize {
+    es.iter().rposition(|e| e.thread == t && matches!(e.kind, K | C)).map_or(0, |k| k + 1)
 }
 
-/// "*Usable*: since T's last K, on whichever lock (or the start), there is an A or B of V,
-/// or an L whose read came after that K." C "spoils copies as K does".
+/// "Usable: since T's last K, on whichever lock (or the start), there is an A or B of V, or an L whose read came
+/// after that K."
 pub fn usable(es: &[Event], t: u32, v: u32) -> bool {
-    let since = match es.iter().rposition(|e| matches!(e.kind, K | C) && e.thread == t) {
-        Some(last_lock) => last_lock + 1,
-        None => 0,
-    };
-    let assigned = es[since..].iter().any(|e| is(e, &[A, B], t, v));
-    let loaded = loads_and_reads(es, t, v).into_iter().any(|(load, read)| load >= since && read >= since);
-    assigned || loaded
+    let since = since_last_lock(es, t);
+    let assigned = latest(es, t, v, &[A, B]).is_some_and(|i| i >= since);
+    assigned || loads(es, t, v).into_iter().zip(reads(es, t, v)).any(|(load, read)| load >= since && read >= since)
 }
 
-/// "*Held* by T: more K than N by T on that lock." "for what is held, Y counts as an unlock of each
-/// hold given up and C as a lock of each taken again".
+/// "Held by T: more K than N by T on that lock."
 pub fn held(es: &[Event], t: u32, lock: u32) -> bool {
     depth(es, t, lock) > 0
 }
 
-/// How many holds T has on the lock: as many as there are more K than N.
+/// How many holds T has on the lock.
 pub fn depth(es: &[Event], t: u32, lock: u32) -> usize {
-    let tally = tally(es, t, lock);
-    tally.locks.saturating_sub(tally.unlocks)
+    usize::try_from(locks_over_unlocks(es, t, lock).0).unwrap_or(0)
 }
 
-/// The holds that T gave up at its Y on the lock and has not taken again; 0 where it does not wait
-/// on it.
+/// The number that T's Y on the lock remembers until T's C on it; 0 where T does not wait on it.
 pub fn remembered(es: &[Event], t: u32, lock: u32) -> usize {
-    tally(es, t, lock).given_up
+    usize::try_from(locks_over_unlocks(es, t, lock).1).unwrap_or(0)
 }
 
-/// T's locks and unlocks of a lock, and the number that its Y remembers until its C.
-#[derive(Default)]
-struct Tally {
-    locks: usize,
-    unlocks: usize,
-    given_up: usize,
-}
-
-/// What T's K, N, Y and C on the lock come to. A Y "gives up every hold on the lock and remembers
-/// their number", a C "takes all the holds again". What a Y gives up hangs on the events before it,
-/// so they are gone through from the first.
-fn tally(es: &[Event], t: u32, lock: u32) -> Tally {
-    let mut tally = Tally::default();
-    for e in es.iter().filter(|e| is(e, &[K, N, Y, C], t, lock)) {
-        match e.kind {
-            K => tally.locks += 1,
-            N => tally.unlocks += 1,
-            Y => {
-                tally.given_up = tally.locks.saturating_sub(tally.unlocks);
-                tally.unlocks += tally.given_up;
-            }
-            _ => {
-                tally.locks += tally.given_up;
-                tally.given_up = 0;
-            }
-        }
+/// K less N by T on the lock, and what is remembered.
+/// "Y counts as an unlock of each hold given up and C as a lock of each taken again".
+fn locks_over_unlocks(es: &[Event], t: u32, lock: u32) -> (i64, i64) {
+    let (mut over, mut kept) = (0, 0);
+    for e in es.iter().filter(|e| is(e, t, lock, &[K, N, Y, C])) {
+        (over, kept) = match e.kind {
+            K => (over + 1, kept),
+            N => (over - 1, kept),
+            Y => (over.min(0), over.max(0)),
+            _ => (over + kept, 0),
+        };
     }
-    tally
+    (over, kept)
 }
 
-/// "*Under* V's guard: T holds the lock that the `G` line names for V."
+/// "Under V's guard: T holds the lock that the `G` line names for V."
 pub fn under(es: &[Event], guards: &[u32], t: u32, v: u32) -> bool {
     guards.get(v as usize).is_some_and(|&lock| held(es, t, lock))
 }
 
-/// "*Main memory* of V: the value of the latest W on V, by any thread; 0 before one."
+/// "Main memory of V: the value of the latest W on V, by any thread; 0 before one."
 pub fn main_memory(es: &[Event], v: u32) -> Value {
-    es.iter().rev().find(|e| e.kind == W && e.target == v).map_or(0, |e| e.value)
+    es.iter().rfind(|e| e.kind == W && e.target == v).map_or(0, |e| e.value)
 }
 
-// ---- the words about waiting ----
+// ---- words of (i) ----
 
-/// "A thread waits from its Y to its C": T's latest Y or C on the lock, if it is a Y; its place.
-fn latest_wait(es: &[Event], t: u32, lock: u32) -> Option<usize> {
-    let place = es.iter().rposition(|e| is(e, &[Y, C], t, lock))?;
-    (es[place].kind == Y).then_some(place)
-}
-
-/// T waits on the lock.
+/// "A thread waits from its Y to its C."
 pub fn waits_on(es: &[Event], t: u32, lock: u32) -> bool {
-    latest_wait(es, t, lock).is_some()
+    latest_kind(es, t, lock, &[Y, C]) == Some(Y)
 }
 
-/// T waits, on whichever lock.
+/// Whether T waits on some lock.
 pub fn waits(es: &[Event], counts: Counts, t: u32) -> bool {
-    (0..counts.locks).any(|lock| waits_on(es, t, lock))
+    declared_locks(counts).any(|lock| waits_on(es, t, lock))
 }
 
-/// T waits on the lock and has been notified on it: since its Y there is an F on the lock, by
-/// whichever thread, that notifies T.
+/// T waits on the lock, and since its Y there is an F for it on that lock.
 pub fn notified(es: &[Event], t: u32, lock: u32) -> bool {
-    let notifies = |e: &Event| e.kind == F && e.target == lock && e.value == Value::from(t);
-    latest_wait(es, t, lock).is_some_and(|place| es[place..].iter().any(notifies))
+    match latest(es, t, lock, &[Y, C]) {
+        Some(y) if es[y].kind == Y => es[y..].iter().any(|e| e.kind == F && e.target == lock && e.value == Value::from(t)),
+        _ => false,
+    }
 }
 
-// ---- the words about volatile variables ----
+// ---- words of (f) ----
 
-/// The `V` line names V.
+/// What the `V` line names.
 pub fn volatile(counts: Counts, v: u32) -> bool {
-    counts.volatiles.get(v as usize) == Some(&true)
+    counts.volatiles.get(v as usize).is_some_and(|&named| named)
 }
 
-/// The variables that the `V` line names, rising.
-fn volatile_variables(counts: Counts) -> Vec<u32> {
-    (0..MAX_VARIABLES).filter(|&v| volatile(counts, v)).collect()
+/// The event is on a volatile variable.
+fn on_volatile(counts: Counts, e: &Event) -> bool {
+    !e.kind.on_lock() && volatile(counts, e.target)
 }
 
-/// "that thread's own events on it, R and W left aside": their places, rising.
-pub fn own_events(es: &[Event], t: u32, v: u32) -> Vec<usize> {
-    places(es, &[U, A, L, S, P, B], t, v)
+fn volatile_variables(counts: Counts) -> impl Iterator<Item = u32> {
+    (0..MAX_VARIABLES).filter(move |&v| volatile(counts, v))
 }
 
-/// The places of each event of kind `first` and of the event of kind `second` that directly
-/// follows it among T's own events on V.
-fn neighbours(es: &[Event], first: Kind, second: Kind, t: u32, v: u32) -> Vec<(usize, usize)> {
-    let own = own_events(es, t, v);
-    let pairs = own.windows(2).map(|pair| (pair[0], pair[1]));
-    pairs.filter(|&(before, after)| es[before].kind == first && es[after].kind == second).collect()
+/// "that thread's own events on it, R and W left aside".
+fn own(es: &[Event], t: u32, v: u32) -> Vec<usize> {
+    positions(es, t, v, &[U, A, L, S, P, B])
 }
 
-/// What is paired with this first place.
-fn partner(pairs: &[(usize, usize)], first: usize) -> Option<usize> {
-    pairs.iter().find(|pair| pair.0 == first).map(|pair| pair.1)
+/// The pairs of T's own events on V, the second directly following the first, with these two kinds.
+fn neighbours(es: &[Event], t: u32, v: u32, first: Kind, second: Kind) -> Vec<(usize, usize)> {
+    let own = own(es, t, v);
+    let pairs = own.iter().copied().zip(own.iter().copied().skip(1));
+    pairs.filter(|&(i, j)| es[i].kind == first && es[j].kind == second).collect()
 }
 
-/// 001, 4.1: "The use action is said to be "associated" with the read action that corresponds
-/// to the load." The places of T's uses of V and of their reads.
-pub fn uses_and_reads(es: &[Event], t: u32, v: u32) -> Vec<(usize, usize)> {
-    let reads = loads_and_reads(es, t, v);
-    let used = neighbours(es, L, U, t, v);
-    used.into_iter().filter_map(|(load, usage)| partner(&reads, load).map(|read| (usage, read))).collect()
+/// The place of a position in a rising list of positions.
+fn place_in(list: &[usize], position: usize) -> Option<usize> {
+    list.binary_search(&position).ok()
 }
 
-/// 001, 4.2: "The assign action is said to be "associated" with the write action that
-/// corresponds to the store." The places of T's assigns of V and of their writes; an assign
-/// without a write is unwritten.
-pub fn assigns_and_writes(es: &[Event], t: u32, v: u32) -> Vec<(usize, Option<usize>)> {
-    let stores = neighbours(es, A, S, t, v);
-    let writes = stores_and_writes(es, t, v);
-    let write = |assign| partner(&stores, assign).and_then(|store| partner(&writes, store));
-    places(es, &[A], t, v).into_iter().map(|assign| (assign, write(assign))).collect()
+/// The read that pairs with the load at this position.
+fn read_of_load(es: &[Event], t: u32, v: u32, load: usize) -> Option<usize> {
+    let n = place_in(&loads(es, t, v), load)?;
+    reads(es, t, v).get(n).copied()
 }
 
-/// The uses and their reads on every volatile variable.
-fn volatile_uses(es: &[Event], counts: Counts, t: u32) -> Vec<(usize, usize)> {
-    volatile_variables(counts).into_iter().flat_map(|v| uses_and_reads(es, t, v)).collect()
+/// The read of a use that would come now: that of the load which it directly follows.
+fn read_of_next_use(es: &[Event], t: u32, v: u32) -> Option<usize> {
+    let last = *own(es, t, v).last()?;
+    if es[last].kind == L {
+        read_of_load(es, t, v, last)
+    } else {
+        None
+    }
 }
 
-/// The assigns and their writes on every volatile variable.
-fn volatile_assigns(es: &[Event], counts: Counts, t: u32) -> Vec<(usize, Option<usize>)> {
-    volatile_variables(counts).into_iter().flat_map(|v| assigns_and_writes(es, t, v)).collect()
+/// The reads of T's uses of the volatile V: a use's read is that of the load which it directly follows.
+fn reads_of_uses(es: &[Event], t: u32, v: u32) -> Vec<usize> {
+    let (loads, reads) = (loads(es, t, v), reads(es, t, v));
+    let read_of = |load| reads.get(place_in(&loads, load)?).copied();
+    neighbours(es, t, v, L, U).into_iter().filter_map(|(load, _)| read_of(load)).collect()
 }
 
-/// "the one being written" at a W of T on V: the assign that the first outstanding store
-/// directly follows.
-fn being_written(es: &[Event], t: u32, v: u32) -> Option<usize> {
+/// T's assigns of the volatile V, each with its write: that of the store which directly follows it.
+fn assigns_with_writes(es: &[Event], t: u32, v: u32) -> Vec<(usize, Option<usize>)> {
+    let (stores, writes) = (stores(es, t, v), writes(es, t, v));
+    let stored = neighbours(es, t, v, A, S);
+    let write_of = |assign| {
+        let (_, store) = *stored.iter().find(|(a, _)| *a == assign)?;
+        writes.get(place_in(&stores, store)?).copied()
+    };
+    positions(es, t, v, &[A]).into_iter().map(|assign| (assign, write_of(assign))).collect()
+}
+
+/// The assign being written by a W that would come now: the one directly before the first outstanding store.
+fn assign_being_written(es: &[Event], t: u32, v: u32) -> Option<usize> {
     let store = *outstanding_stores(es, t, v).first()?;
-    neighbours(es, A, S, t, v).into_iter().find(|pair| pair.1 == store).map(|pair| pair.0)
+    neighbours(es, t, v, A, S).into_iter().find(|&(_, s)| s == store).map(|(assign, _)| assign)
 }
 
 // ---- the rules ----
 
-/// "9. 2,000 events are already in." In the short course "200 events", with 25.
-fn rule_9(es: &[Event], limits: Limits) -> bool {
-    es.len() >= limits.events
-}
-
-/// "5. Thread, variable or lock not declared." The thread that an F notifies is one too.
-fn rule_5(counts: Counts, e: &Event) -> bool {
-    let targets = if e.kind.on_lock() { counts.locks } else { counts.variables };
-    let notified = e.kind != F || (0..Value::from(counts.threads)).contains(&e.value);
-    e.thread >= counts.threads || e.target >= targets || !notified
-}
-
-/// "10. No partner: L without an outstanding read, W without an outstanding store, B when
-/// nothing is owed."
-fn rule_10(es: &[Event], e: &Event) -> bool {
+/// "No partner: L without an outstanding read, W without an outstanding store, B when nothing is owed."
+fn rule_10(earlier: &[Event], _counts: Counts, e: &Event) -> bool {
     match e.kind {
-        L => outstanding_reads(es, e.thread, e.target).is_empty(),
-        W => outstanding_stores(es, e.thread, e.target).is_empty(),
-        B => !owed(es, e.thread, e.target),
+        L => outstanding_reads(earlier, e.thread, e.target).is_empty(),
+        W => outstanding_stores(earlier, e.thread, e.target).is_empty(),
+        B => !owed(earlier, e.thread, e.target),
         _ => false,
     }
 }
 
-/// "11. Lock held by another thread."
-fn rule_11(es: &[Event], counts: Counts, e: &Event) -> bool {
-    (0..counts.threads).any(|t| t != e.thread && held(es, t, e.target))
+/// "Lock held by another thread." "C is checked as K is".
+fn rule_11(earlier: &[Event], counts: Counts, e: &Event) -> bool {
+    matches!(e.kind, K | C) && declared_threads(counts).any(|t| t != e.thread && held(earlier, t, e.target))
 }
 
-/// "12. Unlock of a lock that T does not hold." "F needs the lock held, else 12."
-fn rule_12(es: &[Event], e: &Event) -> bool {
-    !held(es, e.thread, e.target)
+/// "Unlock of a lock that T does not hold." "Y is checked as N is"; "F needs the lock held, else 12."
+fn rule_12(earlier: &[Event], _counts: Counts, e: &Event) -> bool {
+    matches!(e.kind, N | Y | F) && !held(earlier, e.thread, e.target)
 }
 
-/// "13. An owed assign bars it: K while T owes on some variable; L, S, P on V while T owes
-/// on V." "C is checked as K is".
-fn rule_13(es: &[Event], counts: Counts, e: &Event) -> bool {
+/// "An owed assign bars it: K while T owes on some variable; L, S, P on V while T owes on V." "C is checked as K is".
+fn rule_13(earlier: &[Event], counts: Counts, e: &Event) -> bool {
     match e.kind {
-        K | C => (0..counts.variables).any(|v| owed(es, e.thread, v)),
-        L | S | P => owed(es, e.thread, e.target),
+        K | C => declared_variables(counts).any(|v| owed(earlier, e.thread, v)),
+        L | S | P => owed(earlier, e.thread, e.target),
         _ => false,
     }
 }
 
-/// "14. Store without a fresh assign."
-fn rule_14(es: &[Event], e: &Event) -> bool {
-    !fresh(es, e.thread, e.target)
+/// "Store without a fresh assign."
+fn rule_14(earlier: &[Event], _counts: Counts, e: &Event) -> bool {
+    e.kind == S && !fresh(earlier, e.thread, e.target)
 }
 
-/// "15. Fresh assign not stored: L on V; N while T has a fresh assign on some variable." "Y is checked
-/// as N is".
-fn rule_15(es: &[Event], counts: Counts, e: &Event) -> bool {
+/// "Fresh assign not stored: L on V; N while T has a fresh assign on some variable." "Y is checked as N is".
+fn rule_15(earlier: &[Event], counts: Counts, e: &Event) -> bool {
     match e.kind {
-        L => fresh(es, e.thread, e.target),
-        N | Y => (0..counts.variables).any(|v| fresh(es, e.thread, v)),
+        L => fresh(earlier, e.thread, e.target),
+        N | Y => declared_variables(counts).any(|v| fresh(earlier, e.thread, v)),
         _ => false,
     }
 }
 
-/// "16. Store not written: L with an outstanding store of T on V, or whose read came before
-/// a write of T on V; N while T has an outstanding store. The syllabus counts an early store
-/// here like the others." "In 16 at N, a store whose assign is owed counts no longer." "Y is checked as
-/// N is".
-fn rule_16(es: &[Event], counts: Counts, e: &Event) -> bool {
+/// "Store not written: L with an outstanding store of T on V, or whose read came before a write of T on V; N while
+/// T has an outstanding store." "Y is checked as N is".
+fn rule_16(earlier: &[Event], counts: Counts, e: &Event) -> bool {
     match e.kind {
-        L => !outstanding_stores(es, e.thread, e.target).is_empty() || read_before_write(es, e.thread, e.target),
-        N | Y => (0..counts.variables).any(|v| !stores_counted_at_unlock(es, e.thread, v).is_empty()),
+        L => !outstanding_stores(earlier, e.thread, e.target).is_empty() || read_before_a_write(earlier, e),
+        N | Y => declared_variables(counts).any(|v| store_bars_unlock(earlier, e.thread, v)),
         _ => false,
     }
 }
 
-/// An L on V now has a "read [that] came before a write of T on V".
-fn read_before_write(es: &[Event], t: u32, v: u32) -> bool {
-    match outstanding_reads(es, t, v).first() {
-        Some(&read) => es[read..].iter().any(|e| is(e, &[W], t, v)),
-        None => false,
+/// L "whose read came before a write of T on V".
+fn read_before_a_write(earlier: &[Event], e: &Event) -> bool {
+    let read = outstanding_reads(earlier, e.thread, e.target).first().copied();
+    let last_write = latest(earlier, e.thread, e.target, &[W]);
+    read.is_some_and(|r| last_write.is_some_and(|w| r < w))
+}
+
+/// "In 16 at N, a store whose assign is owed counts no longer."
+fn store_bars_unlock(earlier: &[Event], t: u32, v: u32) -> bool {
+    let exempt = owed_store(earlier, t, v);
+    outstanding_stores(earlier, t, v).into_iter().any(|store| Some(store) != exempt)
+}
+
+/// "Copy not usable." In the rows of U and S.
+fn rule_17(earlier: &[Event], _counts: Counts, e: &Event) -> bool {
+    matches!(e.kind, U | S) && !usable(earlier, e.thread, e.target)
+}
+
+/// "Value differs: U and S from the copy, L from its read, W from its store, R from main memory, B from the announced
+/// value." Where there is nothing to differ from, it does not differ.
+fn rule_18(earlier: &[Event], _counts: Counts, e: &Event) -> bool {
+    expected(earlier, e).is_some_and(|value| value != e.value)
+}
+
+/// The value that 18 compares with.
+fn expected(earlier: &[Event], e: &Event) -> Option<Value> {
+    let at = |position: Option<usize>| position.map(|i| earlier[i].value);
+    match e.kind {
+        U | S => copy(earlier, e.thread, e.target),
+        L => at(outstanding_reads(earlier, e.thread, e.target).first().copied()),
+        W => at(outstanding_stores(earlier, e.thread, e.target).first().copied()),
+        R => Some(main_memory(earlier, e.target)),
+        B => at(owed_store(earlier, e.thread, e.target)),
+        _ => None,
     }
 }
 
-/// "17. Copy not usable."
-fn rule_17(es: &[Event], e: &Event) -> bool {
-    !usable(es, e.thread, e.target)
-}
-
-/// "18. Value differs: U and S from the copy, L from its read, W from its store, R from main
-/// memory, B from the announced value."
-fn rule_18(es: &[Event], e: &Event) -> bool {
-    let first = |places: Vec<usize>| places.first().map(|&i| es[i].value);
-    let expected = match e.kind {
-        U | S => copy(es, e.thread, e.target),
-        L => first(outstanding_reads(es, e.thread, e.target)),
-        W => first(outstanding_stores(es, e.thread, e.target)),
-        R => Some(main_memory(es, e.target)),
-        B => latest(es, &[P], e.thread, e.target).map(|p| p.value),
-        A | P | K | N | Y | F | C => return false,
-    };
-    expected != Some(e.value)
-}
-
-/// "19. Eight outstanding already: R, or S and P."
-fn rule_19(es: &[Event], e: &Event) -> bool {
+/// "Eight outstanding already: R, or S and P."
+fn rule_19(earlier: &[Event], _counts: Counts, e: &Event) -> bool {
     match e.kind {
-        R => outstanding_reads(es, e.thread, e.target).len() >= MAX_OUTSTANDING,
-        S | P => outstanding_stores(es, e.thread, e.target).len() >= MAX_OUTSTANDING,
+        R => outstanding_reads(earlier, e.thread, e.target).len() >= 8,
+        S | P => outstanding_stores(earlier, e.thread, e.target).len() >= 8,
         _ => false,
     }
 }
 
-/// "23, dead read": "the event that leaves T an outstanding read of V which can never be
-/// loaded: an R while T has an outstanding store on V, or a fresh assign with V not owed; an
-/// A with V not owed, or a P, while T has an outstanding read of V. While V is owed and its
-/// store written, the coming B clears a fresh assign, so a read may yet be loaded."
-fn rule_23(es: &[Event], e: &Event) -> bool {
+/// "an R while T has an outstanding store on V, or a fresh assign with V not owed; an A with V not owed, or a P,
+/// while T has an outstanding read of V."
+fn rule_23(earlier: &[Event], _counts: Counts, e: &Event) -> bool {
     let (t, v) = (e.thread, e.target);
+    let store_waits = || !outstanding_stores(earlier, t, v).is_empty();
+    let read_waits = || !outstanding_reads(earlier, t, v).is_empty();
     match e.kind {
-        R => !outstanding_stores(es, t, v).is_empty() || (fresh(es, t, v) && !owed(es, t, v)),
-        A => !owed(es, t, v) && !outstanding_reads(es, t, v).is_empty(),
-        P => !outstanding_reads(es, t, v).is_empty(),
+        R => store_waits() || (fresh(earlier, t, v) && !owed(earlier, t, v)),
+        A => !owed(earlier, t, v) && read_waits(),
+        P => read_waits(),
         _ => false,
     }
 }
 
-/// "26, wrong neighbour": "On a volatile variable, U must directly follow L and S directly
-/// follow A among that thread's own events on it, R and W left aside, and after L or A nothing
-/// else may come."
-fn rule_26(es: &[Event], counts: Counts, e: &Event) -> bool {
-    if matches!(e.kind, R | W) || e.kind.on_lock() || !volatile(counts, e.target) {
+/// "On a volatile variable, U must directly follow L and S directly follow A among that thread's own events on it,
+/// R and W left aside, and after L or A nothing else may come."
+fn rule_26(earlier: &[Event], counts: Counts, e: &Event) -> bool {
+    if !on_volatile(counts, e) || matches!(e.kind, R | W) {
         return false;
     }
-    let before = own_events(es, e.thread, e.target).last().map(|&place| es[place].kind);
+    let before = latest_kind(earlier, e.thread, e.target, &[U, A, L, S, P, B]);
     match e.kind {
         U => before != Some(L),
         S => before != Some(A),
-        _ => matches!(before, Some(L | A)),
+        _ => before == Some(L) || before == Some(A),
     }
 }
 
-/// "27, volatile order".
-fn rule_27(es: &[Event], counts: Counts, e: &Event) -> bool {
+/// The two sentences of (f) about volatile order.
+fn rule_27(earlier: &[Event], counts: Counts, e: &Event) -> bool {
     match e.kind {
-        U => volatile(counts, e.target) && use_out_of_order(es, counts, e),
-        W => volatile(counts, e.target) && write_out_of_order(es, counts, e),
+        U => on_volatile(counts, e) && use_out_of_order(earlier, counts, e),
+        W => on_volatile(counts, e) && write_out_of_order(earlier, counts, e),
         _ => false,
     }
 }
 
-/// "At U, its read must follow the writes of all the thread's earlier volatile assigns and the
-/// reads of its earlier volatile uses."
-fn use_out_of_order(es: &[Event], counts: Counts, e: &Event) -> bool {
-    let with_use = [es, &[*e]].concat();
-    let Some(read) = partner(&uses_and_reads(&with_use, e.thread, e.target), es.len()) else {
-        return false;
-    };
-    let follows_writes = volatile_assigns(es, counts, e.thread).iter().all(|assign| assign.1.is_some_and(|write| read > write));
-    let follows_reads = volatile_uses(es, counts, e.thread).iter().all(|usage| read > usage.1);
-    !(follows_writes && follows_reads)
+/// "At U, its read must follow the writes of all the thread's earlier volatile assigns and the reads of its earlier
+/// volatile uses." A write that has not come is not followed; a use without a read asks nothing.
+fn use_out_of_order(earlier: &[Event], counts: Counts, e: &Event) -> bool {
+    let t = e.thread;
+    let Some(read) = read_of_next_use(earlier, t, e.target) else { return false };
+    let follows = |write: Option<usize>| write.is_some_and(|w| w < read);
+    volatile_variables(counts).any(|v| {
+        assigns_with_writes(earlier, t, v).into_iter().any(|(_, write)| !follows(write))
+            || reads_of_uses(earlier, t, v).into_iter().any(|other| other >= read)
+    })
 }
 
-/// "At W on a volatile variable with a store outstanding, no volatile assign of the thread
-/// before the one being written may be unwritten."
-fn write_out_of_order(es: &[Event], counts: Counts, e: &Event) -> bool {
-    let Some(assign) = being_written(es, e.thread, e.target) else {
-        return false;
-    };
-    volatile_assigns(es, counts, e.thread).iter().any(|&(earlier, write)| earlier < assign && write.is_none())
+/// "At W on a volatile variable with a store outstanding, no volatile assign of the thread before the one being
+/// written may be unwritten."
+fn write_out_of_order(earlier: &[Event], counts: Counts, e: &Event) -> bool {
+    let t = e.thread;
+    let Some(being_written) = assign_being_written(earlier, t, e.target) else { return false };
+    volatile_variables(counts)
+        .any(|v| assigns_with_writes(earlier, t, v).into_iter().any(|(assign, write)| assign < being_written && write.is_none()))
 }
 
 /// "28, early store or its assign on a volatile".
-fn rule_28(counts: Counts, e: &Event) -> bool {
-    matches!(e.kind, P | B) && volatile(counts, e.target)
+fn rule_28(_earlier: &[Event], counts: Counts, e: &Event) -> bool {
+    matches!(e.kind, P | B) && on_volatile(counts, e)
 }
 
 /// "29, event other than C, R or W of a waiting thread".
-fn rule_29(es: &[Event], counts: Counts, e: &Event) -> bool {
-    !matches!(e.kind, C | R | W) && waits(es, counts, e.thread)
+fn rule_29(earlier: &[Event], counts: Counts, e: &Event) -> bool {
+    !matches!(e.kind, C | R | W) && waits(earlier, counts, e.thread)
 }
 
 /// "30, F for a thread not waiting on that lock or already notified, C by one not notified on it".
-fn rule_30(es: &[Event], e: &Event) -> bool {
+fn rule_30(earlier: &[Event], _counts: Counts, e: &Event) -> bool {
     match e.kind {
-        F => !u32::try_from(e.value).is_ok_and(|u| waits_on(es, u, e.target) && !notified(es, u, e.target)),
-        C => !notified(es, e.thread, e.target),
+        F => match u32::try_from(e.value) {
+            Ok(u) => !waits_on(earlier, u, e.target) || notified(earlier, u, e.target),
+            Err(_) => true,
+        },
+        C => !notified(earlier, e.thread, e.target),
         _ => false,
     }
 }

@@ -67,11 +67,20 @@ impl After {
         Some(marker_a::judge(&self.earlier, self.counts, &event(e))).filter(|&number| number != 0)
     }
 
-    /// Every rule of its row that the declared event breaks, in the row's order.
+    /// Every rule of its row that the declared event breaks, in the row's order. Marker A has no 18 where there is nothing to differ from; a B
+    /// for which nothing is owed has it here, beside its 10, where it differs from the value announced last, or from 0.
     pub fn broken(&self, e: &Event) -> Vec<u32> {
         let e = event(e);
         let (_, row) = rules::ROWS.iter().find(|(kind, _)| *kind == e.kind).expect("a row for each kind");
-        row.iter().copied().filter(|&number| rules::breaks(number, &self.earlier, self.counts, &e)).collect()
+        let breaks =
+            |number| rules::breaks(number, &self.earlier, self.counts, &e) || number == 18 && self.announced_otherwise(&e);
+        row.iter().copied().filter(|&number| breaks(number)).collect()
+    }
+
+    /// Whether a B differs from the value of its thread's latest early store on the variable, owed or not; 0 where there is none.
+    fn announced_otherwise(&self, e: &marker_a::Event) -> bool {
+        let latest = self.last(e.thread as usize, e.target as usize, &[Kind::P]);
+        e.kind == Kind::B && latest.map_or(0, |i| self.earlier[i].value) != e.value
     }
 
     pub fn variables(&self) -> std::ops::Range<usize> {

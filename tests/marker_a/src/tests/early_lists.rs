@@ -1,7 +1,7 @@
 //! Every short list: 16 at N beside 16 at N with every outstanding store counted.
 
 use super::*;
-use crate::rules::{breaks, owed, stores_counted_at_unlock, ROWS};
+use crate::rules::{breaks, owed, ROWS};
 
 /// The lists to look at: the declared counts, and the kinds of their events.
 struct Scope {
@@ -127,8 +127,10 @@ fn check_number(es: &[Event], e: &Event, number: u32, counted: u32, seen: &mut S
 }
 
 /// Where V is owed and T has an outstanding store on V, the latest one is the last P, and only
-/// it does not count. Where V is not owed every one counts.
+/// it does not count. Where V is not owed every one counts. 16 at an N of T is broken exactly where
+/// one counts, on whichever variable.
 fn check_stores(scope: &Scope, es: &[Event], seen: &mut Seen) {
+    let mut counted = [false; 2];
     for (t, v) in scope.cells() {
         let mut stores = outstanding_stores(es, t, v);
         if owed(es, t, v) && !stores.is_empty() {
@@ -136,7 +138,11 @@ fn check_stores(scope: &Scope, es: &[Event], seen: &mut Seen) {
             assert_eq!(stores.pop(), last_p, "{es:?}");
             *(if stores.is_empty() { &mut seen.one } else { &mut seen.several }) += 1;
         }
-        assert_eq!(stores_counted_at_unlock(es, t, v), stores, "{es:?}");
+        counted[t as usize] |= !stores.is_empty();
+    }
+    for thread in 0..scope.counts.threads {
+        let unlock = Event { kind: N, thread, target: 0, value: 0 };
+        assert_eq!(breaks(16, es, scope.counts, &unlock), counted[thread as usize], "{es:?}");
     }
 }
 

@@ -1,7 +1,7 @@
 //! 16 at N: "a store whose assign is owed counts no longer".
 
 use super::*;
-use crate::rules::{assign_owed, stores_counted_at_unlock, ROWS};
+use crate::rules::{breaks, owed_store, ROWS};
 use crate::{plain_run, sections, Given, Outcome};
 
 fn ok(events: &str) {
@@ -18,21 +18,26 @@ fn row_of_n() {
     assert_eq!(row, Some((N, &[29, 30, 26, 27, 28, 12, 15, 16][..])));
 }
 
-/// Which of the outstanding stores of thread 0 on variable 0 count, by their places.
+/// Whether an outstanding store of thread 0 on variable 0 counts. A W takes the oldest away.
 #[test]
 fn which_store_counts() {
-    let counted = |events: &str| stores_counted_at_unlock(&events_of(events), 0, 0);
-    assert_eq!(counted("P 0 0 5"), []);
-    assert_eq!(counted("P 0 0 5; B 0 0 5"), [0]);
-    assert_eq!(counted("P 0 0 5; B 0 0 5; W 0 0 5"), []);
-    assert_eq!(counted("P 0 0 5; B 0 0 5; P 0 0 6"), [0]);
-    assert_eq!(counted("P 0 0 5; B 0 0 5; P 0 0 6; B 0 0 6"), [0, 2]);
-    assert_eq!(counted("A 0 0 4; S 0 0 4; P 0 0 5"), [1]);
-    assert_eq!(counted("A 0 0 4; S 0 0 4; P 0 0 5; W 0 0 4"), []);
-    assert_eq!(counted("A 0 0 4; S 0 0 4; P 0 0 5; B 0 0 5"), [1, 2]);
+    let unlock = Event { kind: N, thread: 0, target: 0, value: 0 };
+    let counted = |events: &str| breaks(16, &events_of(events), Counts::plain(1, 1, 1), &unlock);
+    assert!(!counted("P 0 0 5"));
+    assert!(counted("P 0 0 5; B 0 0 5"));
+    assert!(!counted("P 0 0 5; B 0 0 5; W 0 0 5"));
+    assert!(counted("P 0 0 5; B 0 0 5; P 0 0 6"));
+    assert!(!counted("P 0 0 5; B 0 0 5; P 0 0 6; W 0 0 5"));
+    assert!(counted("P 0 0 5; B 0 0 5; P 0 0 6; B 0 0 6"));
+    assert!(counted("P 0 0 5; B 0 0 5; P 0 0 6; B 0 0 6; W 0 0 5"));
+    assert!(!counted("P 0 0 5; B 0 0 5; P 0 0 6; B 0 0 6; W 0 0 5; W 0 0 6"));
+    assert!(counted("A 0 0 4; S 0 0 4; P 0 0 5"));
+    assert!(!counted("A 0 0 4; S 0 0 4; P 0 0 5; W 0 0 4"));
+    assert!(counted("A 0 0 4; S 0 0 4; P 0 0 5; B 0 0 5"));
+    assert!(counted("A 0 0 4; S 0 0 4; P 0 0 5; B 0 0 5; W 0 0 4"));
     // Only a P and B of the same thread and variable matter.
     let other = events_of("P 0 0 5; P 1 0 5; B 1 0 5; P 0 1 5; B 0 1 5");
-    assert!(assign_owed(&other, 0) && !assign_owed(&other, 1) && !assign_owed(&other, 3));
+    assert_eq!([(0, 0), (1, 0), (0, 1)].map(|(t, v)| owed_store(&other, t, v)), [Some(0), None, None]);
 }
 
 #[test]

@@ -2,6 +2,8 @@
 
 mod compared_values;
 mod dead_reads;
+mod each_request;
+mod each_rule;
 mod early_lists;
 mod early_stores;
 mod format;
@@ -19,6 +21,7 @@ mod volatiles;
 mod waiting;
 mod waiting_lists;
 mod walks;
+mod whole_papers;
 
 use std::str::FromStr;
 
@@ -62,6 +65,17 @@ fn paper_of(head: &str, events: &str) -> Vec<u8> {
     with_trailer(text.as_bytes())
 }
 
+/// A paper of these lines parted by `;`, blank ones too, and a right trailer.
+fn paper_of_lines(lines: &str) -> Vec<u8> {
+    let text: String = lines.split(';').map(|line| format!("{}\n", line.trim())).collect();
+    with_trailer(text.as_bytes())
+}
+
+/// What `mark` prints for a paper of these lines.
+fn printed(lines: &str) -> String {
+    print(&paper_of_lines(lines))
+}
+
 /// What `mark` prints, as text.
 fn print(paper: &[u8]) -> String {
     String::from_utf8(mark(paper)).expect("ASCII")
@@ -101,6 +115,18 @@ fn judged_in(counts: Counts, events: &str) -> u32 {
     let list = events_of(events);
     let (e, earlier) = list.split_last().expect("an event");
     judge(earlier, counts, e)
+}
+
+/// The first refusal of an event after those before it: number and event, from 1; (0, n) where all n are accepted.
+fn verdict_with(counts: Counts, trace: &str) -> (u32, usize) {
+    let list = events_of(trace);
+    let mut numbers = (0..list.len()).map(|i| (judge(&list[..i], counts, &list[i]), i + 1));
+    numbers.find(|&(number, _)| number != 0).unwrap_or((0, list.len()))
+}
+
+/// The same in a paper with the counts of the short traces.
+fn verdict(trace: &str) -> (u32, usize) {
+    verdict_with(TWO, trace)
 }
 
 /// The bytes are refused with this line and number.

@@ -1,7 +1,7 @@
 //! Papers made step by step from accepted events; demand 3 is checked on those with an order.
 
 use super::*;
-use crate::rules::{assign_owed, fresh, held, owed};
+use crate::rules::{fresh, held, owed, owed_store};
 use crate::{Outcome, Verdict};
 
 /// Kinds that finish something are drawn more often, so that sections are short.
@@ -71,8 +71,8 @@ pub(super) fn walk(seed: u64, scope: &Scope, steps: usize) -> (Vec<Event>, usize
 /// How many N have an early store that waits over them: outstanding, and its assign owed.
 fn waits(counts: Counts, es: &[Event]) -> usize {
     let waiting = |before: &[Event], t| {
-        let stores = (0..counts.variables).flat_map(|v| outstanding_stores(before, t, v));
-        stores.into_iter().any(|store| assign_owed(before, store))
+        (0..counts.variables)
+            .any(|v| owed_store(before, t, v).is_some_and(|store| outstanding_stores(before, t, v).contains(&store)))
     };
     (0..es.len()).filter(|&i| es[i].kind == N && waiting(&es[..i], es[i].thread)).count()
 }
