@@ -62,44 +62,27 @@ module _ (s : State) (t line : ℕ) where
   judged (kind.Notify l u) w h = either-none _ ∙ either-none _ ∙ wait-rule s (of (kind.Notify l u)) (by (kind.Notify l u)) w tt refl _ refl refl h
   judged (kind.Resume l) w h = either-none _ ∙ either-none _ ∙ wait-rule s (of (kind.Resume l)) (by (kind.Resume l)) w tt refl _ refl refl h
 
-  -- what is put back of a cell, and behind its last store: S has the position that the cell has before the event
-  next : (k : Kind)
+  -- what is put back of a cell, behind its last store (S has the position that the cell has before the event), and of a lock event
+  put : (k : Kind) → Within t k → getD (s .holds) (lockOf k) noHold .depth < 2000
       → (turnIn s (of k) .cell ≡ nextCell (s .events + 1) (oldestOf (cellIn s (of k) .reads) (getD (s .reads) (slotPlace (at s (of k)) (cellIn s (of k) .reads) 0) noSlot)) (letter k) (value k) (cellIn s (of k)))
       × (turnIn s (of k) .store ≡ storeAfter (partsAt s t (varOf k) (lockOf k) t .stores .behind) (letter k) (value k) (cellIn s (of k) .assigned) (s .events + 1))
-  unfolding turnOf cellTurn readsTurn readsWith storesTurn storesWith storeAfter nextCell
-  next (kind.Use v x) = (refl, refl)
-  next (kind.Assign v x) = (refl, refl)
-  next (kind.Load v x) = (refl, refl)
-  next (kind.Store v x) = (refl, refl)
-  next (kind.Read v x) = (refl, refl)
-  next (kind.Write v x) = (refl, refl)
-  next (kind.Lock l) = (refl, refl)
-  next (kind.Unlock l) = (refl, refl)
-  next (kind.PrescientStore v x) = (refl, refl)
-  next (kind.PrescientAssign v x) = (refl, refl)
-  next (kind.Wait l) = (refl, refl)
-  next (kind.Notify l u) = (refl, refl)
-  next (kind.Resume l) = (refl, refl)
-
-  -- what is put back of a lock event
-  put : (k : Kind) → Within t k → getD (s .holds) (lockOf k) noHold .depth < 2000
-      → (turnIn s (of k) .locked ≡ lockedAfter (getD (s .locked) t 0) (letter k) (s .events + 1))
+      × (turnIn s (of k) .locked ≡ lockedAfter (getD (s .locked) t 0) (letter k) (s .events + 1))
       × (turnIn s (of k) .hold ≡ holdAfter (getD (s .holds) (lockOf k) noHold) (getD (s .waits) (subject (of k)) noWait) t (letter k))
       × (turnIn s (of k) .wait ≡ waitAfter (getD (s .waits) (subject (of k)) noWait) (getD (s .holds) (lockOf k) noHold) (lockOf k) t (letter k))
-  unfolding turnOf lockTurn waitTurn lockedAfter holdAfter waitAfter
-  put (kind.Use v x) w deep = (refl, refl, wait-same _ _ _ t _ (w .lock))
-  put (kind.Assign v x) w deep = (refl, refl, wait-same _ _ _ t _ (w .lock))
-  put (kind.Load v x) w deep = (refl, refl, wait-same _ _ _ t _ (w .lock))
-  put (kind.Store v x) w deep = (refl, refl, wait-same _ _ _ t _ (w .lock))
-  put (kind.Read v x) w deep = (refl, refl, wait-same _ _ _ t _ (w .lock))
-  put (kind.Write v x) w deep = (refl, refl, wait-same _ _ _ t _ (w .lock))
-  put (kind.Lock l) w deep = (refl, hold-same _ _ t _ (w .thread) deep, wait-same _ _ _ t _ (w .lock))
-  put (kind.Unlock l) w deep = (refl, hold-same _ _ t _ (w .thread) deep, wait-same _ _ _ t _ (w .lock))
-  put (kind.PrescientStore v x) w deep = (refl, refl, wait-same _ _ _ t _ (w .lock))
-  put (kind.PrescientAssign v x) w deep = (refl, refl, wait-same _ _ _ t _ (w .lock))
-  put (kind.Wait l) w deep = (refl, hold-same _ _ t _ (w .thread) deep, wait-same _ _ _ t _ (w .lock))
-  put (kind.Notify l u) w deep = (refl, refl, wait-same _ _ _ t _ (w .lock))
-  put (kind.Resume l) w deep = (refl, hold-same _ _ t _ (w .thread) deep, wait-same _ _ _ t _ (w .lock))
+  unfolding turnOf cellTurn readsTurn readsWith storesTurn storesWith storeAfter nextCell lockTurn waitTurn lockedAfter holdAfter waitAfter
+  put (kind.Use v x) w deep = (refl, refl, refl, refl, wait-same _ _ _ t _ (w .lock))
+  put (kind.Assign v x) w deep = (refl, refl, refl, refl, wait-same _ _ _ t _ (w .lock))
+  put (kind.Load v x) w deep = (refl, refl, refl, refl, wait-same _ _ _ t _ (w .lock))
+  put (kind.Store v x) w deep = (refl, refl, refl, refl, wait-same _ _ _ t _ (w .lock))
+  put (kind.Read v x) w deep = (refl, refl, refl, refl, wait-same _ _ _ t _ (w .lock))
+  put (kind.Write v x) w deep = (refl, refl, refl, refl, wait-same _ _ _ t _ (w .lock))
+  put (kind.Lock l) w deep = (refl, refl, refl, hold-same _ _ t _ (w .thread) deep, wait-same _ _ _ t _ (w .lock))
+  put (kind.Unlock l) w deep = (refl, refl, refl, hold-same _ _ t _ (w .thread) deep, wait-same _ _ _ t _ (w .lock))
+  put (kind.PrescientStore v x) w deep = (refl, refl, refl, refl, wait-same _ _ _ t _ (w .lock))
+  put (kind.PrescientAssign v x) w deep = (refl, refl, refl, refl, wait-same _ _ _ t _ (w .lock))
+  put (kind.Wait l) w deep = (refl, refl, refl, hold-same _ _ t _ (w .thread) deep, wait-same _ _ _ t _ (w .lock))
+  put (kind.Notify l u) w deep = (refl, refl, refl, refl, wait-same _ _ _ t _ (w .lock))
+  put (kind.Resume l) w deep = (refl, refl, refl, hold-same _ _ t _ (w .thread) deep, wait-same _ _ _ t _ (w .lock))
 
 module _ (s : State) (e : Event) (w : Within (e .thread) (e .kind)) where
   pub any-rule : s .counts .threads ≤ 8 → s .counts .variables ≤ 16
@@ -138,14 +121,14 @@ module _ (s : State) (e : Event) (w : Within (e .thread) (e .kind)) where
         waits = set (s .waits) (subject e) (turnIn s e .wait);
       }) (stepState s e)
   unfolding stepState turnOf readsTurn readsWith storesTurn storesWith
-  any-put deep = let put = put s (e .thread) (e .line) (e .kind) w deep in let next = next s (e .thread) (e .line) (e .kind) in λ j. record {
+  any-put deep = let put = put s (e .thread) (e .line) (e .kind) w deep in λ j. record {
     counts = s .counts;
     events = s .events + 1;
-    cells = ((λ j. set (s .cells) (at s e) (next .0 j)) ∙ (λ j. set (s .cells) (number j) (nextCell (s .events + 1) (oldest j) (letter (e .kind)) (value (e .kind)) (cell-is j)))) j;
+    cells = ((λ j. set (s .cells) (at s e) (put .0 j)) ∙ (λ j. set (s .cells) (number j) (nextCell (s .events + 1) (oldest j) (letter (e .kind)) (value (e .kind)) (cell-is j)))) j;
     reads = set (s .reads) (read-end j) (readAfter (getD (s .reads) (read-end j) noSlot) (letter (e .kind)) (value (e .kind)) (s .events + 1));
-    stores = ((λ j. set (s .stores) (slotPlace (at s e) (cellIn s e .stores) (cellIn s e .stores .len)) (next .1 j)) ∙ (λ j. set (s .stores) (store-end j) (storeAfter (getD (s .stores) (store-end j) noSlot) (letter (e .kind)) (value (e .kind)) (cell-is j .assigned) (s .events + 1)))) j;
-    locked = set (s .locked) (e .thread) (put .0 j);
-    holds = set (s .holds) (lockOf (e .kind)) (put .1 j);
+    stores = ((λ j. set (s .stores) (slotPlace (at s e) (cellIn s e .stores) (cellIn s e .stores .len)) (put .1 j)) ∙ (λ j. set (s .stores) (store-end j) (storeAfter (getD (s .stores) (store-end j) noSlot) (letter (e .kind)) (value (e .kind)) (cell-is j .assigned) (s .events + 1)))) j;
+    locked = set (s .locked) (e .thread) (put .2 j);
+    holds = set (s .holds) (lockOf (e .kind)) (put .3 j);
     memory = set (s .memory) (varOf (e .kind)) (mainAfter (getD (s .memory) (varOf (e .kind)) noMain) (letter (e .kind)) (value (e .kind)));
-    waits = set (s .waits) (subject e) (put .2 j);
+    waits = set (s .waits) (subject e) (put .4 j);
   }

@@ -117,35 +117,30 @@ module _ (s : State) (t line : ℕ) (ht : t < 8) (hn : s .counts .variables ≤ 
   quiet : (v k : ℕ) → eqb k U ≡ false → eqb k W ≡ false → orderAt h (s .cells) (s .stores) t v k ≡ false
   quiet v k p q = no-order h (s .cells) (s .stores) t v k p q
 
-  checks-in : (k : Kind) → place k < 16 → volatile h (place k) ≡ true → (o : Bool)
+  checks-in : (k : Kind) → T (not (among lockLetters (letter k))) → place k < 16 → volatile h (place k) ≡ true → (o : Bool)
       → (leadChecks (at (place k)) o (letter k) .neighbour ≡ wrongNeighbour h w (of k)) × (order k ≡ volatileOrder h w (of k)) × (leadChecks (at (place k)) o (letter k) .prescient ≡ prescientVolatile h (of k))
   unfolding isAccess wrongNeighbour volatileOrder useBarred writeBarred prescientVolatile is wordsIn
-  checks-in (kind.Use v x) l q o = (rw (q, cell-in v l) refl, use-order v l ∙ sym (rw (q, or-false) refl), refl)
-  checks-in (kind.Assign v x) l q o = (rw (q, cell-in v l) refl, quiet v A refl refl, refl)
-  checks-in (kind.Load v x) l q o = (rw (q, cell-in v l) refl, quiet v L refl refl, refl)
-  checks-in (kind.Store v x) l q o = (rw (q, cell-in v l) refl, quiet v S refl refl, refl)
-  checks-in (kind.Read v x) l q o = (refl, quiet v R refl refl, refl)
-  checks-in (kind.Write v x) l q o = (refl, write-order v l ∙ sym (rw q refl), refl)
-  checks-in (kind.Lock v) l q o = (refl, quiet v K refl refl, refl)
-  checks-in (kind.Unlock v) l q o = (refl, quiet v N refl refl, refl)
-  checks-in (kind.PrescientStore v x) l q o = (rw (q, cell-in v l) refl, quiet v P refl refl, rw q refl)
-  checks-in (kind.PrescientAssign v x) l q o = (rw (q, cell-in v l) refl, quiet v B refl refl, rw q refl)
-  checks-in (kind.Wait v) l q o = (refl, quiet v Y refl refl, refl)
-  checks-in (kind.Notify v u) l q o = (refl, quiet v F refl refl, refl)
-  checks-in (kind.Resume v) l q o = (refl, quiet v C refl refl, refl)
+  checks-in (kind.Use v x) m l q o = (rw (q, cell-in v l) refl, use-order v l ∙ sym (rw (q, or-false) refl), refl)
+  checks-in (kind.Assign v x) m l q o = (rw (q, cell-in v l) refl, quiet v A refl refl, refl)
+  checks-in (kind.Load v x) m l q o = (rw (q, cell-in v l) refl, quiet v L refl refl, refl)
+  checks-in (kind.Store v x) m l q o = (rw (q, cell-in v l) refl, quiet v S refl refl, refl)
+  checks-in (kind.Read v x) m l q o = (refl, quiet v R refl refl, refl)
+  checks-in (kind.Write v x) m l q o = (refl, write-order v l ∙ sym (rw q refl), refl)
+  checks-in (kind.PrescientStore v x) m l q o = (rw (q, cell-in v l) refl, quiet v P refl refl, rw q refl)
+  checks-in (kind.PrescientAssign v x) m l q o = (rw (q, cell-in v l) refl, quiet v B refl refl, rw q refl)
 
   -- ---- the number
 
-  lead-volatile : (k : Kind) → place k < 16 → volatile h (place k) ≡ true → leadRule (at (place k)) (order k) (letter k) ≡ leading h w (of k)
+  lead-volatile : (k : Kind) → T (not (among lockLetters (letter k))) → place k < 16 → volatile h (place k) ≡ true → leadRule (at (place k)) (order k) (letter k) ≡ leading h w (of k)
   unfolding leadRule firstBroken breaks
-  lead-volatile k l q = let c = checks-in k l q (order k) in λ j. cond (c .0 j) 26 (cond (c .1 j) 27 (cond (c .2 j) 28 0))
+  lead-volatile k m l q = let c = checks-in k m l q (order k) in λ j. cond (c .0 j) 26 (cond (c .1 j) 27 (cond (c .2 j) 28 0))
 
-  lead-variable : (k : Kind) → place k < 16 → leadAt s t (place k) (letter k) ≡ leading h w (of k)
+  lead-variable : (k : Kind) → T (not (among lockLetters (letter k))) → place k < 16 → leadAt s t (place k) (letter k) ≡ leading h w (of k)
   unfolding leadWith
-  lead-variable k l = go (volatile h (place k)) refl
+  lead-variable k m l = go (volatile h (place k)) refl
     where
       go : (b : Bool) → volatile h (place k) ≡ b → cond b (leadRule (at (place k)) (order k) (letter k)) 0 ≡ leading h w (of k)
-      go true q = lead-volatile k l q
+      go true q = lead-volatile k m l q
       go false q = sym (unled-plain h w (of k) q)
 
   -- of a lock event: none
@@ -159,7 +154,7 @@ module _ (s : State) (t line : ℕ) (ht : t < 8) (hn : s .counts .variables ≤ 
   lead-in : (k : Kind) → varOf k < 16 → leadAt s t (varOf k) (letter k) ≡ leading h w (of k)
   lead-in k l = cases (among lockLetters (letter k))
       (λ q. lead-lock (letter k) (subst T (sym q) tt) (varOf k) ∙ sym (unled-lock h w (of k) (subst T (sym q) tt)))
-      (λ q. let p : varOf k ≡ place k = unfold varOf in rw q refl in ap (λ (v : ℕ). leadAt s t v (letter k)) p ∙ lead-variable k (subst (λ (v : ℕ). v < 16) p l))
+      (λ q. let p : varOf k ≡ place k = unfold varOf in rw q refl in ap (λ (v : ℕ). leadAt s t v (letter k)) p ∙ lead-variable k (rw q tt) (subst (λ (v : ℕ). v < 16) p l))
 
 module _ (s : State) (e : Event) (w : Within (e .thread) (e .kind)) (hn : s .counts .variables ≤ 16) where
   pub lead-is : leadAt s (e .thread) (varOf (e .kind)) (letter (e .kind)) ≡ leading (s .counts) (wordsIn s) e

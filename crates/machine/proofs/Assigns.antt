@@ -6,16 +6,16 @@ use mathlib.Core.Bool.{true, false≢true}
 use mathlib.Core.List.{List, [], _∷_}
 use lib.Dec.{T}
 use Rattle.rules.specs.declared.Kind.{Kind}
-use Rattle.rules.specs.declared.Kind.the-variants.{Use, Assign, Load, Store, Read, Write, Lock, Unlock, PrescientStore, PrescientAssign, Wait, Notify, Resume}
+use Rattle.rules.specs.declared.Kind.the-variants.{Assign, Load, Store, Read, Write, PrescientStore, PrescientAssign}
 use Rattle.rules.specs.declared.Event.{Event}
 use Rattle.rules.specs.declared.Counts.{Counts}
-use Rattle.rules.specs.Events.{place}
+use Rattle.rules.specs.Events.{place, is}
 use Rattle.rules.specs.Words.{latest, letterIn, lastAt, count, inOrder, reads, stores, fresh, pending, lastWrite, lastAssign}
 use Rattle.rules.specs.Rules.{Words, wordsOf, judge, legal}
 use Rattle.rules.proofs.Laws.{legal-row, legal-before}
 use Rattle.rules.proofs.Next.{next}
 use Rattle.rules.proofs.Simulation.{legal-next}
-use Rattle.rules.proofs.Cells.{eventBy, Cell, cellOf, changed, cell-cases}
+use Rattle.rules.proofs.Cells.{eventBy, Cell, cellOf, changed, changing, cell-cases}
 use Rattle.rules.proofs.Rows.{Kept, row-of}
 use Rattle.rules.proofs.Live.{Placed, placed-later, placed-others, placed-append}
 
@@ -28,29 +28,23 @@ pub record Assigned (c : Cell) (n : ℕ) : Type 0 where
 assigned-later : (c : Cell) (n : ℕ) → Assigned c n → Assigned c (suc n)
 assigned-later c n a = record { fresh = a .fresh; last = omega (arith, a .last); stores = placed-later 1 n (c .stores) (a .stores) }
 
-assigned-change : (h : Counts) (w : Words) (t : ℕ) (k : Kind) → Kept h w t k → Assigned (cellOf w t (place k)) (w .events) → Assigned (changed (suc (w .events)) k (cellOf w t (place k))) (suc (w .events))
-unfolding cellOf
-assigned-change h w t (Use v x) r a = assigned-later (cellOf w t v) (w .events) a
-assigned-change h w t (Assign v x) r a = record { fresh = λ q. omega arith; last = omega arith; stores = placed-later 1 (w .events) (w .stores t v) (a .stores) }
-assigned-change h w t (Load v x) r a = record { fresh = a .fresh; last = omega (arith, a .last); stores = placed-later 1 (w .events) (w .stores t v) (a .stores) }
-assigned-change h w t (Store v x) r a = record {
+assigned-change : (h : Counts) (w : Words) (t n : ℕ) (k : Kind) → T (is changing (eventBy t n k)) → Kept h w t k → Assigned (cellOf w t (place k)) (w .events) → Assigned (changed (suc (w .events)) k (cellOf w t (place k))) (suc (w .events))
+unfolding cellOf is
+assigned-change h w t n (Assign v x) o r a = record { fresh = λ q. omega arith; last = omega arith; stores = placed-later 1 (w .events) (w .stores t v) (a .stores) }
+assigned-change h w t n (Load v x) o r a = record { fresh = a .fresh; last = omega (arith, a .last); stores = placed-later 1 (w .events) (w .stores t v) (a .stores) }
+assigned-change h w t n (Store v x) o r a = record {
   fresh = λ q. absurd (false≢true q);
   last = omega (arith, a .last);
   stores = placed-append 1 (suc (w .events)) (w .lastAssign t v) x (w .stores t v) (a .fresh (r .0 .fresh)) (omega (arith, a .last)) (placed-later 1 (w .events) (w .stores t v) (a .stores));
 }
-assigned-change h w t (Read v x) r a = record { fresh = a .fresh; last = omega (arith, a .last); stores = placed-later 1 (w .events) (w .stores t v) (a .stores) }
-assigned-change h w t (Write v x) r a = record { fresh = a .fresh; last = omega (arith, a .last); stores = placed-others 1 (suc (w .events)) (w .stores t v) (placed-later 1 (w .events) (w .stores t v) (a .stores)) }
-assigned-change h w t (Lock m) r a = assigned-later (cellOf w t m) (w .events) a
-assigned-change h w t (Unlock m) r a = assigned-later (cellOf w t m) (w .events) a
-assigned-change h w t (Wait m) r a = assigned-later (cellOf w t m) (w .events) a
-assigned-change h w t (Notify m u) r a = assigned-later (cellOf w t m) (w .events) a
-assigned-change h w t (Resume m) r a = assigned-later (cellOf w t m) (w .events) a
-assigned-change h w t (PrescientStore v x) r a = record {
+assigned-change h w t n (Read v x) o r a = record { fresh = a .fresh; last = omega (arith, a .last); stores = placed-later 1 (w .events) (w .stores t v) (a .stores) }
+assigned-change h w t n (Write v x) o r a = record { fresh = a .fresh; last = omega (arith, a .last); stores = placed-others 1 (suc (w .events)) (w .stores t v) (placed-later 1 (w .events) (w .stores t v) (a .stores)) }
+assigned-change h w t n (PrescientStore v x) o r a = record {
   fresh = a .fresh;
   last = omega (arith, a .last);
   stores = placed-append 1 (suc (w .events)) (suc (w .events)) x (w .stores t v) (omega arith) (omega arith) (placed-later 1 (w .events) (w .stores t v) (a .stores));
 }
-assigned-change h w t (PrescientAssign v x) r a = record { fresh = λ q. absurd (false≢true q); last = omega (arith, a .last); stores = placed-later 1 (w .events) (w .stores t v) (a .stores) }
+assigned-change h w t n (PrescientAssign v x) o r a = record { fresh = λ q. absurd (false≢true q); last = omega (arith, a .last); stores = placed-later 1 (w .events) (w .stores t v) (a .stores) }
 
 -- of each thread and variable
 abbrev pub AllAssigned : Words → Type 0
@@ -60,7 +54,7 @@ assigned-next : (h : Counts) (w : Words) (t n : ℕ) (k : Kind) → judge h w (e
 unfolding next
 assigned-next h w t n k p a u m =
     cell-cases (λ c. Assigned c (suc (w .events))) w t n k u m
-    (λ x y. assigned-change h w t k (row-of h w t n k p) (a t (place k)))
+    (λ o x y. assigned-change h w t n k o (row-of h w t n k p) (a t (place k)))
     (λ q. assigned-later (cellOf w u m) (w .events) (a u m))
 
 assigned-start : AllAssigned (wordsOf [])

@@ -14,17 +14,11 @@ use Rattle.serial.specs.Lists.{All}
 use Rattle.serial.specs.Sections.{Section, opened, grown, raised, push, current, without}
 use Rattle.serial.proofs.Lines.{either}
 use Rattle.sections.specs.Order.{lineOf}
+use Rattle.sections.proofs.Viewed.{shape}
 use Rattle.ordering.specs.Computed.Parts.{bucket}
 
 abbrev pub Below : ℕ → List (Section ℤ) → Type 0
 Below n ss = All (λ (r : Section ℤ). r .top < n) ss
-
--- the sections after an event of thread t at position n: is it a K, was its thread busy
-abbrev pub shape : Bool → Bool → ℕ → ℕ → E.Event ℤ → List (Section ℤ) → List (Section ℤ)
-shape true true t n e ss = raised t n e (current t n ss) ∷ without t ss
-shape true false t n e ss = opened t n e ∷ ss
-shape false true t n e ss = push t n e ss
-shape false false t n e ss = ss
 
 module _ (hd : Counts) where
   -- t's current section begins at line a and has its last K at index b

@@ -10,65 +10,34 @@ use lib.IntN.{ℤ}
 use lib.ListN.{length, getD, replicate, getD-replicate}
 use Rattle.rules.specs.declared.Event.{Event}
 use Rattle.rules.specs.declared.Counts.{Counts}
-use Rattle.rules.specs.declared.Kind.{Kind}
-use Rattle.rules.specs.declared.Kind.the-variants.{Use, Assign, Load, Store, Read, Write, Lock, Unlock, PrescientStore, PrescientAssign, Wait, Notify, Resume}
-use Rattle.rules.specs.Events.{is, locks}
+use Rattle.rules.specs.Events.{locks}
 use Rattle.rules.specs.Words.{count}
 use Rattle.serial.specs.Lists.{All}
-use Rattle.serial.specs.Sections as Q
 use Rattle.serial.specs.Sections.{Section}
 use Rattle.serial.proofs.Counted as H
 use Rattle.serial.proofs.Memory.{All-map}
 use Rattle.serial.proofs.Lines.{Falling, Placed, Traced, traced}
-use Rattle.sections.specs.View.{viewed, view}
+use Rattle.sections.specs.View.{view}
 use Rattle.sections.specs.Places.{holdsSome}
-use Rattle.sections.specs.Order.{told, sections}
+use Rattle.sections.specs.Order.{sections}
 use Rattle.sections.specs.Refusals.{unfinished}
 use Rattle.sections.proofs.Valid.{Declared}
+use Rattle.sections.proofs.Viewed.{shape, next-shape}
 use Rattle.sections.proofs.Cells.{length-view}
 use Rattle.sections.proofs.Ordered.{settled, sections-same}
 use Rattle.ordering.specs.Computed.Parts.{past, bucket, rank, scratchAt, Filled}
 use Rattle.records.specs.Records.{eventAt}
 use Rattle.ordering.proofs.Grips.{Grips, grips-start, some-held}
-use Rattle.ordering.proofs.Buckets.{Below, Latest, shape}
+use Rattle.ordering.proofs.Buckets.{Below, Latest}
 use Rattle.ordering.proofs.Shown.{shown, shown-all}
 
 -- ---- the sections after one event more
-
-next-shape : (k : Kind) (t ln n : ℕ) (b : Bool) (ss : List (Section ℤ)) → Q.next (viewed t k) (told b) n ss ≡ shape (locks (record { thread = t; line = ln; kind = k })) b t n (viewed t k) ss
-unfolding Q.next locks is
-next-shape (Use v x) t ln n true ss = refl
-next-shape (Use v x) t ln n false ss = refl
-next-shape (Assign v x) t ln n true ss = refl
-next-shape (Assign v x) t ln n false ss = refl
-next-shape (Load v x) t ln n true ss = refl
-next-shape (Load v x) t ln n false ss = refl
-next-shape (Store v x) t ln n true ss = refl
-next-shape (Store v x) t ln n false ss = refl
-next-shape (Read v x) t ln n true ss = refl
-next-shape (Read v x) t ln n false ss = refl
-next-shape (Write v x) t ln n true ss = refl
-next-shape (Write v x) t ln n false ss = refl
-next-shape (Lock l) t ln n true ss = refl
-next-shape (Lock l) t ln n false ss = refl
-next-shape (Unlock l) t ln n true ss = refl
-next-shape (Unlock l) t ln n false ss = refl
-next-shape (PrescientStore v x) t ln n true ss = refl
-next-shape (PrescientStore v x) t ln n false ss = refl
-next-shape (PrescientAssign v x) t ln n true ss = refl
-next-shape (PrescientAssign v x) t ln n false ss = refl
-next-shape (Wait l) t ln n true ss = refl
-next-shape (Wait l) t ln n false ss = refl
-next-shape (Notify l u) t ln n true ss = refl
-next-shape (Notify l u) t ln n false ss = refl
-next-shape (Resume l) t ln n true ss = refl
-next-shape (Resume l) t ln n false ss = refl
 
 pub sections-next : (h : Counts) (e : Event) (es : List Event) (t n : ℕ) (lock busy : Bool) → e .thread ≡ t → length es ≡ n → locks e ≡ lock → holdsSome h t es ≡ busy
     → sections h (e ∷ es) ≡ shape lock busy t (suc n) (view e) (sections h es)
 unfolding sections
 sections-next h e es t n lock busy a b c d =
-    next-shape (e .kind) (e .thread) (e .line) (suc (length es)) (holdsSome h (e .thread) es) (sections h es)
+    next-shape e (suc (length es)) (holdsSome h (e .thread) es) (sections h es)
     ∙ ap₂ (λ l n. shape l (holdsSome h (e .thread) es) (e .thread) (suc n) (view e) (sections h es)) c b
     ∙ ap (λ u. shape lock (holdsSome h u es) u (suc n) (view e) (sections h es)) a
     ∙ ap (λ b. shape lock b t (suc n) (view e) (sections h es)) d

@@ -20,6 +20,7 @@ use Rattle.serial.specs.Sections.{push}
 use Rattle.sections.specs.View.{view}
 use Rattle.sections.specs.Places.{holdsSome}
 use Rattle.sections.specs.Order.{sections, lineOf}
+use Rattle.sections.proofs.Viewed.{shape}
 use Rattle.ordering.specs.Computed.Parts.{Fits, past, takesHold, givesHold, Holdable, Held, codeOf, idleOr, rank, scratchAt}
 use Rattle.rules.proofs.Bounds.{allowed-bounds, first-line-high}
 use Rattle.records.specs.Records.{eventAt}
@@ -27,7 +28,7 @@ use Rattle.ordering.proofs.Rows.{past-length, row-few, known-past, lega
 use Rattle.ordering.proofs.Scanned.{Reads}
 use Rattle.ordering.proofs.Grips.{Grips, some-held, holdable, depth-here, depth-else, grips-after, grips-kept, holds-after, takes-hold, gives-up, gains, other-holds}
 use Rattle.ordering.proofs.Ranks.{rank-lock, rank-other, rank-few, rank-below, scratch-set, scratch-none}
-use Rattle.ordering.proofs.Buckets.{Latest, shape, latest-push, latest-lock, latest-other}
+use Rattle.ordering.proofs.Buckets.{Latest, latest-push, latest-lock, latest-other}
 use Rattle.ordering.proofs.Shown.{Off, shown, shown-above, kept-shown, lock-shown, end-shown}
 use Rattle.ordering.proofs.Filling.{sections-next, Placing, placing, Current, Filling}
 

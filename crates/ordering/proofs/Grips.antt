@@ -119,7 +119,7 @@ module _ (es : List Event) (k u p : ℕ) (e : Event) (r : Reads k u p e) where
     unfolding holdsSome locks
     takes-hold q =
         let t = r .locking ∙ q in
-        let x : held (wordsOf (e ∷ es)) (e .thread) (loc e) ≡ true = lock-taken h es (e .kind) (e .thread) (e .line) (legal-row h e es v) t in
+        let x : held (wordsOf (e ∷ es)) (e .thread) (loc e) ≡ true = lock-taken h es e (legal-row h e es v) t in
         some-has (h .locks) (λ l. held (wordsOf (e ∷ es)) u l) p (lock-in (K ∷ C ∷ []) tt (subst T (sym t) tt)) (sym (ap₂ (λ t l. held (wordsOf (e ∷ es)) t l) (r .whose) (r .places)) ∙ x)
 
     abbrev n : ℕ

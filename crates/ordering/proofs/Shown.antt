@@ -15,8 +15,9 @@ use Rattle.serial.specs.Sections.{Section, grown, push, without}
 use Rattle.serial.proofs.Lines.{either, Falling}
 use Rattle.sections.specs.Order.{lineOf, entry}
 use Rattle.sections.specs.Entries.{entryCode}
+use Rattle.sections.proofs.Viewed.{shape}
 use Rattle.ordering.specs.Computed.Parts.{codeOf, bucket}
-use Rattle.ordering.proofs.Buckets.{Below, Latest, shape, latest-below}
+use Rattle.ordering.proofs.Buckets.{Below, Latest, latest-below}
 
 -- b, but not of t
 abbrev but : (ℕ → Bool) → ℕ → ℕ → Bool

@@ -141,19 +141,7 @@ capped-below n h = go (decLt n 255)
 
 -- the event with its thread, its variable or lock, and the thread that it notifies, held at 255
 unfoldable pub heldKind : Kind → Kind
-heldKind (Use v x) = Use (capped v) x
-heldKind (Assign v x) = Assign (capped v) x
-heldKind (Load v x) = Load (capped v) x
-heldKind (Store v x) = Store (capped v) x
-heldKind (Read v x) = Read (capped v) x
-heldKind (Write v x) = Write (capped v) x
-heldKind (Lock l) = Lock (capped l)
-heldKind (Unlock l) = Unlock (capped l)
-heldKind (PrescientStore v x) = PrescientStore (capped v) x
-heldKind (PrescientAssign v x) = PrescientAssign (capped v) x
-heldKind (Wait l) = Wait (capped l)
-heldKind (Notify l u) = Notify (capped l) (capped u)
-heldKind (Resume l) = Resume (capped l)
+heldKind k = orRead (kindOf (letter k) (capped (place k)) (value k)) (capped (place k)) (value k)
 
 unfoldable pub heldEvent : Event → Event
 heldEvent e = record { thread = capped (e .thread); line = e .line; kind = heldKind (e .kind) }
@@ -182,7 +170,7 @@ holds (Unlock l) = record { kind = refl; letters = refl; places = refl; subjects
 holds (PrescientStore v x) = record { kind = refl; letters = refl; places = refl; subjects = λ t. refl; values = refl; lettered = refl; low = omega arith; small = λ t s h. ap (λ (p : ℕ). PrescientStore p x) (capped-same v h) }
 holds (PrescientAssign v x) = record { kind = refl; letters = refl; places = refl; subjects = λ t. refl; values = refl; lettered = refl; low = omega arith; small = λ t s h. ap (λ (p : ℕ). PrescientAssign p x) (capped-same v h) }
 holds (Wait l) = record { kind = refl; letters = refl; places = refl; subjects = λ t. refl; values = refl; lettered = refl; low = omega arith; small = λ t s h. ap (λ (p : ℕ). Wait p) (capped-same l h) }
-holds (Notify l u) = record { kind = ap (λ (n : ℕ). named.Of (Notify (capped l) n)) (capped-twice u); letters = refl; places = refl; subjects = λ t. refl; values = ap pos (capped-twice (capped u) ∙ capped-twice u); lettered = refl; low = omega arith; small = λ t s h. ap₂ Notify (capped-same l h) (capped-same u (capped-below u (capped-below (capped u) s))) }
+holds (Notify l u) = record { kind = refl; letters = refl; places = refl; subjects = λ t. capped-twice (capped (capped u)); values = ap pos (capped-twice (capped u) ∙ capped-twice u); lettered = refl; low = omega arith; small = λ t s h. ap₂ Notify (capped-same l h) (capped-twice u ∙ capped-same u (capped-below u (capped-below (capped u) s))) }
 holds (Resume l) = record { kind = refl; letters = refl; places = refl; subjects = λ t. refl; values = refl; lettered = refl; low = omega arith; small = λ t s h. ap (λ (p : ℕ). Resume p) (capped-same l h) }
 
 pub kind-back : (k : Kind) (t : ℕ) → subjectOf (letter k) t (value k) < 255 → place k < 255 → kindOf (letter k) (place k) (value k) ≡ named.Of k

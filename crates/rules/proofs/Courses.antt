@@ -123,7 +123,7 @@ module _ (m n : Limits) (h : Counts) (earlier : List Event) (x : 0 < n .excess) 
 
 pub no-row : (h : Counts) (w : Words) (e : Event) → judge h w e ≡ 25 → ⊥
 unfolding judge rowIn rows
-no-row h w e q = against (among (rowIn rows (letter (e .kind))) 25) (at-letter (λ k. not (among (rowIn rows k) 25)) (tt, tt, tt, tt, tt, tt, tt, tt, tt, tt, tt, tt, tt) (e .kind)) (named-among (rowIn rows (letter (e .kind))) h w e 24 q)
+no-row h w e q = against (among (rowIn rows (letter (e .kind))) 25) (at-letter (λ k. not (among (rowIn rows k) 25)) tt (e .kind)) (named-among (rowIn rows (letter (e .kind))) h w e 24 q)
   where
     against : (b : Bool) → T (not b) → T b → ⊥
     against true n i = n

@@ -10,7 +10,7 @@ use lib.IntN.{ℤ}
 use lib.ListN.{length}
 use borrow.Author.Tests.{not-true, lt-ltb, eqb-true, eqb-false}
 use Rattle.rules.specs.declared.Kind.{Kind}
-use Rattle.rules.specs.declared.Kind.the-variants.{Use, Assign, Load, Store, Read, Write, Lock, Unlock, PrescientStore, PrescientAssign, Wait, Notify, Resume}
+use Rattle.rules.specs.declared.Kind.the-variants.{Assign, Load, Store, Read, Write, PrescientStore, PrescientAssign}
 use Rattle.rules.specs.declared.Event.{Event}
 use Rattle.rules.specs.declared.Slot.{Slot}
 use Rattle.rules.specs.declared.Counts.{Counts}
@@ -22,7 +22,7 @@ use Rattle.rules.specs.DeadReads.{except, judgeBut, Dead}
 use Rattle.rules.proofs.Laws.{cases, Unbroken, unbroken, broken-is, accepts, is-true, and-left, and-right, is-among, at-letter, load-partner, write-partner, legal-cons, legal-by-cons, legal-by-known, legal-by-row, legal-by-before, legal-by-less}
 use Rattle.rules.proofs.Next.{next}
 use Rattle.rules.proofs.Simulation.{by-is, by-thread, by-loc, Paired, Partnered, paired-next, paired-none, words-next, legal-next}
-use Rattle.rules.proofs.Cells.{eventBy, Cell, cellOf, slotAt, changed, cell-own, cell-cases, events-next}
+use Rattle.rules.proofs.Cells.{eventBy, Cell, cellOf, slotAt, changed, changing, cell-own, cell-cases, events-next}
 use Rattle.rules.proofs.Rows.{Kept, row-of}
 use Rattle.rules.proofs.Live.{Placed, Live, live, append-some}
 use Rattle.rules.proofs.Loads.{reads-cell, all-loadable}
@@ -61,19 +61,18 @@ barred-load h w t n v x p d = go (d .why)
     go (byAssign f o) = false≢true (sym (r .0 .stored) ∙ f)
     go (byWrite q) = false≢true (sym (r .0 .after) ∙ lt-ltb (first (w .reads t v) .position) (w .lastWrite t v) q)
 
-barred-change : (h : Counts) (w : Words) (t n : ℕ) (k : Kind) → judgeBut 23 h w (eventBy t n k) ≡ 0 → Barred (cellOf w t (place k)) (w .events)
+barred-change : (h : Counts) (w : Words) (t n : ℕ) (k : Kind) → T (is changing (eventBy t n k)) → judgeBut 23 h w (eventBy t n k) ≡ 0 → Barred (cellOf w t (place k)) (w .events)
     → Barred (changed (suc (w .events)) k (cellOf w t (place k))) (suc (w .events))
-unfolding judge judgeBut except rowIn rows
-barred-change h w t n (Use v x) p d = barred-later (cellOf w t v) (w .events) d
-barred-change h w t n (Assign v x) p d = record { waits = d .waits; early = omega (arith, d .early); why = go (d .why) }
+unfolding judge judgeBut except rowIn rows is
+barred-change h w t n (Assign v x) o p d = record { waits = d .waits; early = omega (arith, d .early); why = go (d .why) }
   where
     go : Bar (cellOf w t v) → Bar (changed (suc (w .events)) (Assign v x) (cellOf w t v))
     go (byStore q) = byStore q
     go (byAssign f o) = byAssign refl o
     go (byWrite q) = byWrite q
-barred-change h w t n (Load v x) p d = absurd (barred-load h w t n v x p d)
-barred-change h w t n (Store v x) p d = record { waits = d .waits; early = omega (arith, d .early); why = byStore (append-some (cellOf w t v .stores) (slotAt (cellOf w t v .lastAssign) x)) }
-barred-change h w t n (Read v x) p d = record { waits = append-some (cellOf w t v .reads) s; early = rw first-same (omega (arith, d .early)); why = go (d .why) }
+barred-change h w t n (Load v x) o p d = absurd (barred-load h w t n v x p d)
+barred-change h w t n (Store v x) o p d = record { waits = d .waits; early = omega (arith, d .early); why = byStore (append-some (cellOf w t v .stores) (slotAt (cellOf w t v .lastAssign) x)) }
+barred-change h w t n (Read v x) o p d = record { waits = append-some (cellOf w t v .reads) s; early = rw first-same (omega (arith, d .early)); why = go (d .why) }
   where
     s : Slot
     s = slotAt (suc (w .events)) x
@@ -85,14 +84,9 @@ barred-change h w t n (Read v x) p d = record { waits = append-some (cellOf w t 
     go (byStore q) = byStore q
     go (byAssign f o) = byAssign f o
     go (byWrite q) = byWrite (rw first-same q)
-barred-change h w t n (Write v x) p d = record { waits = d .waits; early = omega (arith, d .early); why = byWrite (omega (arith, d .early)) }
-barred-change h w t n (Lock l) p d = barred-later (cellOf w t l) (w .events) d
-barred-change h w t n (Unlock l) p d = barred-later (cellOf w t l) (w .events) d
-barred-change h w t n (Wait l) p d = barred-later (cellOf w t l) (w .events) d
-barred-change h w t n (Notify l i) p d = barred-later (cellOf w t l) (w .events) d
-barred-change h w t n (Resume l) p d = barred-later (cellOf w t l) (w .events) d
-barred-change h w t n (PrescientStore v x) p d = record { waits = d .waits; early = omega (arith, d .early); why = byStore (append-some (cellOf w t v .stores) (slotAt (suc (w .events)) x)) }
-barred-change h w t n (PrescientAssign v x) p d = record { waits = d .waits; early = omega (arith, d .early); why = go (d .why) }
+barred-change h w t n (Write v x) o p d = record { waits = d .waits; early = omega (arith, d .early); why = byWrite (omega (arith, d .early)) }
+barred-change h w t n (PrescientStore v x) o p d = record { waits = d .waits; early = omega (arith, d .early); why = byStore (append-some (cellOf w t v .stores) (slotAt (suc (w .events)) x)) }
+barred-change h w t n (PrescientAssign v x) o p d = record { waits = d .waits; early = omega (arith, d .early); why = go (d .why) }
   where
     owes : cellOf w t v .pending ≡ true
     owes = unfold cellOf in row-of h w t n (PrescientAssign v x) p .0
@@ -106,7 +100,7 @@ barred-next : (h : Counts) (w : Words) (t n : ℕ) (k : Kind) → judgeBut 23 h 
     → Barred (cellOf (next w (eventBy t n k)) u m) (suc (w .events))
 barred-next h w t n k p u m d =
     cell-cases (λ c. Barred c (suc (w .events))) w t n k u m
-    (λ a b. barred-change h w t n k p (rw (a, b) d))
+    (λ o a b. barred-change h w t n k o p (rw (a, b) d))
     (λ q. barred-later (cellOf w u m) (w .events) d)
 
 -- the rows of L and W are without 23
@@ -270,7 +264,7 @@ last-named n (k ∷ ns) h w e o p = go (eqb k n) (breaks k h w e) refl refl o p 
 
 dead-last : (k : Kind) → T (lastOnly 23 (rowIn rows (letter k)))
 unfolding rowIn rows
-dead-last = at-letter (λ n. lastOnly 23 (rowIn rows n)) (tt, tt, tt, tt, tt, tt, tt, tt, tt, tt, tt, tt, tt)
+dead-last = at-letter (λ n. lastOnly 23 (rowIn rows n)) tt
 
 refused-last : (h : Counts) (w : Words) (e : Event) → judge h w e ≡ 23 → judgeBut 23 h w e ≡ 0
 unfolding judge judgeBut

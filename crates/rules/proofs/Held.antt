@@ -10,18 +10,26 @@ use lib.Dec.{T, eqb, ltb, eqb→eq}
 use borrow.Author.Tests.{eqb-true, lt-ltb, ltb-true, ltb-false, le-ltb, not-false}
 use Rattle.rules.specs.declared.Event.{Event}
 use Rattle.rules.specs.declared.Kind.{Kind}
-use Rattle.rules.specs.declared.Kind.the-variants.{Use, Assign, Load, Store, Read, Write, Lock, Unlock, PrescientStore, PrescientAssign, Wait, Notify, Resume}
+use Rattle.rules.specs.declared.Kind.the-variants.{Lock, Unlock, Wait, Resume}
 use Rattle.rules.specs.declared.Counts.{Counts}
 use Rattle.rules.specs.Events.{C, F, K, N, Y, letter, subject, subjectOf, among, is, of, on, locks, unlocks}
 use Rattle.rules.specs.Held.{Balance, Balanced}
-use Rattle.rules.specs.Words.{latest, letterIn, count, by, gripAfter, grip, depth, remembered, tells, notified}
+use Rattle.rules.specs.Words.{latest, letterIn, count, by, Grip, gripAfter, grip, depth, remembered, tells, notified}
 use Rattle.rules.specs.Rules.{wordsOf, loc, held, waitsOn, waits, judge, legal}
-use Rattle.rules.proofs.Laws.{is-true, and-left, and-right, legal-row, legal-before, unlock-held, not-waiting, resume-waits, notify-waits, other-false, or-false-left, allOf, is-among, is-apart, some-none}
+use Rattle.rules.proofs.Laws.{cases, is-true, and-left, and-right, legal-row, legal-before, unlock-held, not-waiting, resume-waits, notify-waits, other-false, or-false-left, allOf, is-among, is-apart, by-none, some-none}
 use Rattle.rules.proofs.Letters.{eqb-turn}
 use Rattle.rules.proofs.Simulation.{by-is, by-thread, by-loc}
 
 not-remembered : (a : ℕ) → a ≡ 0 → ltb 0 a ≡ false
 not-remembered a q = le-ltb 0 a (omega arith)
+
+-- the letters of the events that change what a thread has of a lock
+abbrev pub gripping : List ℕ
+gripping = K ∷ N ∷ Y ∷ C ∷ []
+
+pub grip-kept : (t l : ℕ) (e : Event) (g : Grip) → by gripping t l e ≡ false → gripAfter t l e g ≡ g
+unfolding gripAfter
+grip-kept t l e g q = rw (by-none (K ∷ []) gripping t l e tt q, by-none (N ∷ []) gripping t l e tt q, by-none (Y ∷ []) gripping t l e tt q, by-none (C ∷ []) gripping t l e tt q)
 
 -- one event more: x, it is T's on this lock
 module _ (k n y c h a : ℕ) (b : Balance k n y c h a) where
@@ -69,44 +77,36 @@ module _ (c : Counts) (t l : ℕ) (d : l < c .locks) (es : List Event) where
       let p : ltb 0 (remembered u i es) ≡ true = is-true (and-left (ltb 0 (remembered u i es)) (wordsOf es .notified u i) (subst T (sym q) tt)) in
       ltb-true 0 (remembered t l es) (rw (at-thread u i x, at-lock u i x) at p)
 
-  balance-next : (k : Kind) (u ln : ℕ) → judge c (wordsOf es) (record { thread = u; line = ln; kind = k }) ≡ 0 → Balanced t l es → Balanced t l (record { thread = u; line = ln; kind = k } ∷ es)
+  balance-next : (k : Kind) (u ln : ℕ) → T (is gripping (record { thread = u; line = ln; kind = k })) → judge c (wordsOf es) (record { thread = u; line = ln; kind = k }) ≡ 0 → Balanced t l es → Balanced t l (record { thread = u; line = ln; kind = k } ∷ es)
   unfolding count by is of on grip gripAfter depth remembered
-  balance-next (Use v x) u ln j b = b
-  balance-next (Assign v x) u ln j b = b
-  balance-next (Load v x) u ln j b = b
-  balance-next (Store v x) u ln j b = b
-  balance-next (Read v x) u ln j b = b
-  balance-next (Write v x) u ln j b = b
-  balance-next (PrescientStore v x) u ln j b = b
-  balance-next (PrescientAssign v x) u ln j b = b
-  balance-next (Notify i x) u ln j b = b
-  balance-next (Lock i) u ln j b = lock-balance _ _ _ _ _ _ b (here u i) (λ x. none-remembered u i x (not-waiting c (wordsOf es) _ j tt))
-  balance-next (Unlock i) u ln j b = unlock-balance _ _ _ _ _ _ b (here u i) (λ x. some-held u i x (unlock-held c (wordsOf es) _ j tt))
-  balance-next (Wait i) u ln j b = wait-balance _ _ _ _ _ _ b (here u i) (λ x. (some-held u i x (unlock-held c (wordsOf es) _ j tt), none-remembered u i x (not-waiting c (wordsOf es) _ j tt)))
-  balance-next (Resume i) u ln j b = resume-balance _ _ _ _ _ _ b (here u i) (λ x. some-remembered u i x (resume-waits c (wordsOf es) _ j tt))
+  balance-next (Lock i) u ln o j b = lock-balance _ _ _ _ _ _ b (here u i) (λ x. none-remembered u i x (not-waiting c (wordsOf es) _ j tt))
+  balance-next (Unlock i) u ln o j b = unlock-balance _ _ _ _ _ _ b (here u i) (λ x. some-held u i x (unlock-held c (wordsOf es) _ j tt))
+  balance-next (Wait i) u ln o j b = wait-balance _ _ _ _ _ _ b (here u i) (λ x. (some-held u i x (unlock-held c (wordsOf es) _ j tt), none-remembered u i x (not-waiting c (wordsOf es) _ j tt)))
+  balance-next (Resume i) u ln o j b = resume-balance _ _ _ _ _ _ b (here u i) (λ x. some-remembered u i x (resume-waits c (wordsOf es) _ j tt))
+
+  balance-kept : (e : Event) → by gripping t l e ≡ false → Balanced t l es → Balanced t l (e ∷ es)
+  unfolding count grip gripAfter depth remembered
+  balance-kept e q b = rw (by-none (K ∷ []) gripping t l e tt q, by-none (N ∷ []) gripping t l e tt q, by-none (Y ∷ []) gripping t l e tt q, by-none (C ∷ []) gripping t l e tt q) b
 
 -- on a legal list, for each thread and each declared lock
 pub balanced : (c : Counts) (t l : ℕ) (es : List Event) → l < c .locks → T (legal c es) → Balanced t l es
 unfolding count grip depth remembered
 balanced c t l [] d a = record { holds = refl; waited = refl; apart = λ p. refl }
-balanced c t l (e ∷ es) d a = balance-next c t l d es (e .kind) (e .thread) (e .line) (legal-row c e es a) (balanced c t l es d (legal-before c e es a))
+balanced c t l (e ∷ es) d a =
+    let b = balanced c t l es d (legal-before c e es a) in
+    cases (by gripping t l e) (λ q. balance-next c t l d es (e .kind) (e .thread) (e .line) (by-is gripping t l e (subst T (sym q) tt)) (legal-row c e es a) b) (λ q. balance-kept c t l d es e q b)
 
 -- ---- one event more, after any list
 
 -- an event that is none of T's with the letters js is none of T's on the lock with letters among them
-by-none : (ks js : List ℕ) (t l : ℕ) (e : Event) → T (allOf (among js) ks) → (is js e && of t e) ≡ false → by ks t l e ≡ false
+own-none : (ks js : List ℕ) (t l : ℕ) (e : Event) → T (allOf (among js) ks) → (is js e && of t e) ≡ false → by ks t l e ≡ false
 unfolding by
-by-none ks js t l e a h = go (is ks e) (of t e) refl h
-  where
-    go : (x y : Bool) → is ks e ≡ x → (is js e && y) ≡ false → (x && (y && on l e)) ≡ false
-    go true true p h = absurd (true≢false (other-false (is js e) true h (is-among ks js e a (subst T (sym p) tt))))
-    go true false p h = refl
-    go false y p h = refl
+own-none ks js t l e a h = cases (is ks e) (λ p. rw (p, other-false (is js e) (of t e) h (is-among ks js e a (subst T (sym p) tt)))) (λ p. rw p)
 
 -- a hold is lost by the thread's own N or Y alone
 pub depth-keeps : (t l : ℕ) (e : Event) (es : List Event) → (unlocks e && of t e) ≡ false → 0 < depth t l es → 0 < depth t l (e ∷ es)
 unfolding depth grip gripAfter unlocks
-depth-keeps t l e es h p = rw (by-none (N ∷ []) (N ∷ Y ∷ []) t l e tt h, by-none (Y ∷ []) (N ∷ Y ∷ []) t l e tt h) (go (by (K ∷ []) t l e) (by (C ∷ []) t l e) (ltb 0 (grip t l es .remembered)) refl)
+depth-keeps t l e es h p = rw (own-none (N ∷ []) (N ∷ Y ∷ []) t l e tt h, own-none (Y ∷ []) (N ∷ Y ∷ []) t l e tt h) (go (by (K ∷ []) t l e) (by (C ∷ []) t l e) (ltb 0 (grip t l es .remembered)) refl)
   where
     go : (x y z : Bool) → ltb 0 (grip t l es .remembered) ≡ z → 0 < cond x (suc (grip t l es .held)) (cond (y && z) (grip t l es .remembered) (grip t l es .held))
     go true y z q = omega arith
@@ -117,7 +117,7 @@ depth-keeps t l e es h p = rw (by-none (N ∷ []) (N ∷ Y ∷ []) t l e tt h, b
 -- and got by its own K or C alone
 pub depth-gains : (t l : ℕ) (e : Event) (es : List Event) → (locks e && of t e) ≡ false → 0 < depth t l (e ∷ es) → 0 < depth t l es
 unfolding depth grip gripAfter locks
-depth-gains t l e es h p = go (by (N ∷ []) t l e) (by (Y ∷ []) t l e) (rw (by-none (K ∷ []) (K ∷ C ∷ []) t l e tt h, by-none (C ∷ []) (K ∷ C ∷ []) t l e tt h) at p)
+depth-gains t l e es h p = go (by (N ∷ []) t l e) (by (Y ∷ []) t l e) (rw (own-none (K ∷ []) (K ∷ C ∷ []) t l e tt h, own-none (C ∷ []) (K ∷ C ∷ []) t l e tt h) at p)
   where
     one : (n : ℕ) → 0 < pred n → 0 < n
     one n q = omega arith
@@ -129,16 +129,8 @@ depth-gains t l e es h p = go (by (N ∷ []) t l e) (by (Y ∷ []) t l e) (rw (b
 
 -- what was given up at a Y changes by the thread's own Y and C on the lock alone
 pub remembered-keeps : (t l : ℕ) (e : Event) (es : List Event) → by (Y ∷ C ∷ []) t l e ≡ false → remembered t l (e ∷ es) ≡ remembered t l es
-unfolding remembered grip gripAfter by
-remembered-keeps t l e es h = rw (less (Y ∷ []) tt, less (C ∷ []) tt)
-  where
-    less : (ks : List ℕ) → T (allOf (among (Y ∷ C ∷ [])) ks) → (is ks e && (of t e && on l e)) ≡ false
-    less ks a = go (is ks e) (of t e && on l e) refl h
-      where
-        go : (x y : Bool) → is ks e ≡ x → (is (Y ∷ C ∷ []) e && y) ≡ false → (x && y) ≡ false
-        go true true p h = absurd (true≢false (other-false (is (Y ∷ C ∷ []) e) true h (is-among ks (Y ∷ C ∷ []) e a (subst T (sym p) tt))))
-        go true false p h = refl
-        go false y p h = refl
+unfolding remembered grip gripAfter
+remembered-keeps t l e es h = rw (by-none (Y ∷ []) (Y ∷ C ∷ []) t l e tt h, by-none (C ∷ []) (Y ∷ C ∷ []) t l e tt h)
 
 -- ---- who waits, after a legal list
 
@@ -152,20 +144,13 @@ module _ (c : Counts) (t : ℕ) where
   unfolding wordsOf waits remembered is
   unwaited es u ln n j l d = ltb-false 0 (grip u l es .remembered) (some-none (c .locks) (λ m. ltb 0 (grip u m es .remembered)) (not-waiting c (wordsOf es) (record { thread = u; line = ln; kind = Wait n }) j tt) l d)
 
-  one-next : (es : List Event) (k : Kind) (u ln : ℕ) → judge c (wordsOf es) (record { thread = u; line = ln; kind = k }) ≡ 0 → One es → One (record { thread = u; line = ln; kind = k } ∷ es)
+  one-kept : (es : List Event) (e : Event) → is (Y ∷ C ∷ []) e ≡ false → One es → One (e ∷ es)
+  unfolding by
+  one-kept es e q b l i dl di a z = b l i dl di (rw (remembered-keeps t l e es (rw q refl)) at a) (rw (remembered-keeps t i e es (rw q refl)) at z)
+
+  one-next : (es : List Event) (k : Kind) (u ln : ℕ) → T (is (Y ∷ C ∷ []) (record { thread = u; line = ln; kind = k })) → judge c (wordsOf es) (record { thread = u; line = ln; kind = k }) ≡ 0 → One es → One (record { thread = u; line = ln; kind = k } ∷ es)
   unfolding by is of on grip gripAfter remembered
-  one-next es (Use v x) u ln j b = b
-  one-next es (Assign v x) u ln j b = b
-  one-next es (Load v x) u ln j b = b
-  one-next es (Store v x) u ln j b = b
-  one-next es (Read v x) u ln j b = b
-  one-next es (Write v x) u ln j b = b
-  one-next es (PrescientStore v x) u ln j b = b
-  one-next es (PrescientAssign v x) u ln j b = b
-  one-next es (Lock i) u ln j b = b
-  one-next es (Unlock i) u ln j b = b
-  one-next es (Notify i x) u ln j b = b
-  one-next es (Wait n) u ln j b = λ l i dl di. go (eqb u t) refl l i dl di
+  one-next es (Wait n) u ln o j b = λ l i dl di. go (eqb u t) refl l i dl di
     where
       idle : u ≡ t → (l : ℕ) → l < c .locks → 0 < grip t l es .remembered → ⊥
       idle p l d h = omega (arith, h, rw p at (unwaited es u ln n j l d))
@@ -179,7 +164,7 @@ module _ (c : Counts) (t : ℕ) where
           here true true p r a z = sym (eqb-true n l p) ∙ eqb-true n i r
           here true false p r a z = absurd (idle (eqb-true u t q) i di z)
           here false y p r a z = absurd (idle (eqb-true u t q) l dl a)
-  one-next es (Resume n) u ln j b = λ l i dl di a z. b l i dl di (back (eqb u t && eqb n l) (grip t l es .remembered) a) (back (eqb u t && eqb n i) (grip t i es .remembered) z)
+  one-next es (Resume n) u ln o j b = λ l i dl di a z. b l i dl di (back (eqb u t && eqb n l) (grip t l es .remembered) a) (back (eqb u t && eqb n i) (grip t i es .remembered) z)
     where
       back : (x : Bool) (m : ℕ) → 0 < cond x 0 m → 0 < m
       back true m h = absurd (omega (arith, h))
@@ -187,7 +172,9 @@ module _ (c : Counts) (t : ℕ) where
 
 pub waits-one : (c : Counts) (t : ℕ) (es : List Event) → T (legal c es) → (l i : ℕ) → l < c .locks → i < c .locks → 0 < remembered t l es → 0 < remembered t i es → l ≡ i
 waits-one c t [] a = λ l i dl di p q. absurd (unfold remembered grip in omega (arith, p))
-waits-one c t (e ∷ es) a = one-next c t es (e .kind) (e .thread) (e .line) (legal-row c e es a) (waits-one c t es (legal-before c e es a))
+waits-one c t (e ∷ es) a =
+    let b = waits-one c t es (legal-before c e es a) in
+    cases (is (Y ∷ C ∷ []) e) (λ q. one-next c t es (e .kind) (e .thread) (e .line) (subst T (sym q) tt) (legal-row c e es a) b) (λ q. one-kept c t es e q b)
 
 -- the waiting that an event other than F is about is its own thread's
 pub own-subject : (e : Event) → is (F ∷ []) e ≡ false → subject e ≡ e .thread

@@ -12,7 +12,8 @@ use lib.ListN.{length}
 use Rattle.rules.specs.declared.Event.{Event}
 use Rattle.rules.specs.declared.Kind.{Kind}
 use Rattle.rules.specs.declared.Kind.the-variants.{Use, Assign, Load, Store, Read, Write, Lock, Unlock, PrescientStore, PrescientAssign, Wait, Notify, Resume}
-use Rattle.rules.specs.Events.{A, B, C, F, K, L, N, P, R, S, U, W, Y, letter, among, is, subject, subjectOf, locks}
+use Rattle.rules.specs.Events.{A, B, C, F, K, L, N, P, R, S, U, W, Y, letter, among, is, of, on, subject, subjectOf, locks}
+use Rattle.rules.specs.Words.{by}
 use Rattle.rules.specs.declared.Counts.{Counts}
 use Rattle.rules.specs.Limits.{Limits, most, declared}
 use Rattle.rules.specs.Rules.{Words, wordsOf, none?, loc, held, some, waitsOn, waits, noPartner, lockTaken, notHeld, notFresh, eightAlready, wrongNeighbour, volatileOrder, prescientVolatile, ofWaiting, notNotified, breaks, rows, rowIn, firstBroken, judge, answer, verdict, Accepted, legalBy, legal}
@@ -174,6 +175,15 @@ pub is-apart : (ks js : List ℕ) (e : Event) → T (allOf (λ n. not (among js 
 unfolding is
 is-apart ks js e m h = not-true (among js (letter (e .kind))) (is-true (each-among (λ n. not (among js n)) ks (letter (e .kind)) m h))
 
+-- an event with none of js has none of ks
+pub is-none : (ks js : List ℕ) (e : Event) → T (allOf (among js) ks) → is js e ≡ false → is ks e ≡ false
+is-none ks js e m q = cases (is ks e) (λ p. absurd (subst T q (is-among ks js e m (subst T (sym p) tt)))) (λ p. p)
+
+-- and one that is not T's on V with a letter of js is not so with one of ks
+pub by-none : (ks js : List ℕ) (t v : ℕ) (e : Event) → T (allOf (among js) ks) → by js t v e ≡ false → by ks t v e ≡ false
+unfolding by
+by-none ks js t v e m q = cases (is ks e) (λ p. rw p (other-false (is js e) (of t e && on v e) q (is-among ks js e m (subst T (sym p) tt)))) (λ p. rw p)
+
 -- rule n stands in the row of letter k
 abbrev pub inRow : ℕ → ℕ → Bool
 inRow n k = among (rowIn rows k) n
@@ -183,34 +193,41 @@ pub letter-kept : (n : ℕ) (ks : List ℕ) (c : Counts) (w : Words) (e : Event)
 unfolding is
 letter-kept n ks c w e p r h = row-kept n c w e p (each-among (inRow n) ks (letter (e .kind)) r h)
 
--- what holds of each of the thirteen letters holds of a kind's letter
-pub at-letter : (f : ℕ → Bool) → T (f U) × T (f A) × T (f L) × T (f S) × T (f R) × T (f W) × T (f K) × T (f N) × T (f P) × T (f B) × T (f Y) × T (f F) × T (f C) → (k : Kind) → T (f (letter k))
-at-letter f h (Use v x) = h .0
-at-letter f h (Assign v x) = h .1
-at-letter f h (Load v x) = h .2
-at-letter f h (Store v x) = h .3
-at-letter f h (Read v x) = h .4
-at-letter f h (Write v x) = h .5
-at-letter f h (Lock l) = h .6
-at-letter f h (Unlock l) = h .7
-at-letter f h (PrescientStore v x) = h .8
-at-letter f h (PrescientAssign v x) = h .9
-at-letter f h (Wait l) = h .10
-at-letter f h (Notify l u) = h .11
-at-letter f h (Resume l) = h .12
+-- the letters of the kinds
+abbrev pub letters : List ℕ
+letters = U ∷ A ∷ L ∷ S ∷ R ∷ W ∷ K ∷ N ∷ P ∷ B ∷ Y ∷ F ∷ C ∷ []
+
+lettered : (k : Kind) → T (among letters (letter k))
+lettered (Use v x) = tt
+lettered (Assign v x) = tt
+lettered (Load v x) = tt
+lettered (Store v x) = tt
+lettered (Read v x) = tt
+lettered (Write v x) = tt
+lettered (Lock l) = tt
+lettered (Unlock l) = tt
+lettered (PrescientStore v x) = tt
+lettered (PrescientAssign v x) = tt
+lettered (Wait l) = tt
+lettered (Notify l u) = tt
+lettered (Resume l) = tt
+
+-- what holds of each of them holds of a kind's letter
+pub at-letter : (f : ℕ → Bool) → T (allOf f letters) → (k : Kind) → T (f (letter k))
+at-letter f a k = each-among f letters (letter k) a (lettered k)
 
 -- an accepted event keeps the volatile rules, which lead each row
 pub neighbour-kept : (c : Counts) (w : Words) (e : Event) → judge c w e ≡ 0 → wrongNeighbour c w e ≡ false
 unfolding breaks rowIn rows
-neighbour-kept c w e p = row-kept 26 c w e p (at-letter (λ k. among (rowIn rows k) 26) (tt, tt, tt, tt, tt, tt, tt, tt, tt, tt, tt, tt, tt) (e .kind))
+neighbour-kept c w e p = row-kept 26 c w e p (at-letter (λ k. among (rowIn rows k) 26) tt (e .kind))
 
 pub order-kept : (c : Counts) (w : Words) (e : Event) → judge c w e ≡ 0 → volatileOrder c w e ≡ false
 unfolding breaks rowIn rows
-order-kept c w e p = row-kept 27 c w e p (at-letter (λ k. among (rowIn rows k) 27) (tt, tt, tt, tt, tt, tt, tt, tt, tt, tt, tt, tt, tt) (e .kind))
+order-kept c w e p = row-kept 27 c w e p (at-letter (λ k. among (rowIn rows k) 27) tt (e .kind))
 
 pub prescient-kept : (c : Counts) (w : Words) (e : Event) → judge c w e ≡ 0 → prescientVolatile c e ≡ false
 unfolding breaks rowIn rows
-prescient-kept c w e p = row-kept 28 c w e p (at-letter (λ k. among (rowIn rows k) 28) (tt, tt, tt, tt, tt, tt, tt, tt, tt, tt, tt, tt, tt) (e .kind))
+prescient-kept c w e p = row-kept 28 c w e p (at-letter (λ k. among (rowIn rows k) 28) tt (e .kind))
 
 -- an accepted load has an outstanding read
 pub load-partner : (c : Counts) (w : Words) (e : Event) → judge c w e ≡ 0 → T (is (L ∷ []) e) → none? (w .reads (e .thread) (loc e)) ≡ false

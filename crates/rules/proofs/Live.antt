@@ -7,7 +7,7 @@ use mathlib.Core.List.{List, [], _∷_, _++_}
 use lib.Dec.{T}
 use lib.IntN.{ℤ}
 use Rattle.rules.specs.declared.Kind.{Kind}
-use Rattle.rules.specs.declared.Kind.the-variants.{Use, Assign, Load, Store, Read, Write, Lock, Unlock, PrescientStore, PrescientAssign, Wait, Notify, Resume}
+use Rattle.rules.specs.declared.Kind.the-variants.{Assign, Load, Store, Read, Write, PrescientStore, PrescientAssign}
 use Rattle.rules.specs.declared.Event.{Event}
 use Rattle.rules.specs.declared.Slot.{Slot}
 use Rattle.rules.specs.declared.Counts.{Counts}
@@ -17,7 +17,7 @@ use Rattle.rules.specs.Rules.{Words, wordsOf, none?, deadRead, judge, le
 use Rattle.rules.proofs.Laws.{legal-row, legal-before}
 use Rattle.rules.proofs.Next.{others, next}
 use Rattle.rules.proofs.Simulation.{legal-next}
-use Rattle.rules.proofs.Cells.{eventBy, Cell, cellOf, slotAt, changed, cell-cases}
+use Rattle.rules.proofs.Cells.{eventBy, Cell, cellOf, slotAt, changed, changing, cell-cases}
 use Rattle.rules.proofs.Rows.{Kept, row-of}
 
 -- the positions of these slots lie between a and b
@@ -92,38 +92,32 @@ live-later c n l = record { written = l .written; stored = l .stored; placed = p
 live-none : (c : Cell) (n : ℕ) → none? (c .reads) ≡ true → c .lastWrite ≤ n → Live c n
 live-none c n q h = record { written = λ r. absurd (false≢true (sym r ∙ q)); stored = λ r f. absurd (false≢true (sym r ∙ q)); placed = placed-none (c .lastWrite) n (c .reads) q; last = h }
 
-live-change : (h : Counts) (w : Words) (t : ℕ) (k : Kind) → Kept h w t k → Live (cellOf w t (place k)) (w .events)
+live-change : (h : Counts) (w : Words) (t n : ℕ) (k : Kind) → T (is changing (eventBy t n k)) → Kept h w t k → Live (cellOf w t (place k)) (w .events)
     → Live (changed (suc (w .events)) k (cellOf w t (place k))) (suc (w .events))
-unfolding cellOf
-live-change h w t (Use v x) r l = live-later (cellOf w t v) (w .events) l
-live-change h w t (Assign v x) r l = record {
+unfolding cellOf is
+live-change h w t n (Assign v x) o r l = record {
   written = l .written;
   stored = λ q f. not-not (w .pending t v) (λ p. false≢true (sym r ∙ dead-assign w t v x p q));
   placed = placed-later (w .lastWrite t v) (w .events) (w .reads t v) (l .placed);
   last = omega (arith, l .last);
 }
-live-change h w t (Load v x) r l = record {
+live-change h w t n (Load v x) o r l = record {
   written = λ q. l .written (others-some (w .reads t v) q);
   stored = λ q. l .stored (others-some (w .reads t v) q);
   placed = placed-others (w .lastWrite t v) (suc (w .events)) (w .reads t v) (placed-later (w .lastWrite t v) (w .events) (w .reads t v) (l .placed));
   last = omega (arith, l .last);
 }
-live-change h w t (Store v x) r l =
+live-change h w t n (Store v x) o r l =
     live-none (changed (suc (w .events)) (Store v x) (cellOf w t v)) (suc (w .events)) (not-not (none? (w .reads t v)) (λ q. false≢true (sym (r .0 .notPending) ∙ l .stored q (r .0 .fresh)))) (omega (arith, l .last))
-live-change h w t (Read v x) r l = record {
+live-change h w t n (Read v x) o r l = record {
   written = λ q. not-not (none? (w .stores t v)) (λ p. false≢true (sym (r .0 .live) ∙ dead-stored w t v x p));
   stored = λ q f. not-not (w .pending t v) (λ p. false≢true (sym (r .0 .live) ∙ dead-fresh w t v x f p));
   placed = placed-append (w .lastWrite t v) (suc (w .events)) (suc (w .events)) x (w .reads t v) (omega (arith, l .last)) (omega arith) (placed-later (w .lastWrite t v) (w .events) (w .reads t v) (l .placed));
   last = omega (arith, l .last);
 }
-live-change h w t (Write v x) r l = live-none (changed (suc (w .events)) (Write v x) (cellOf w t v)) (suc (w .events)) (not-not (none? (w .reads t v)) (λ q. false≢true (sym (r .0) ∙ l .written q))) (omega arith)
-live-change h w t (Lock m) r l = live-later (cellOf w t m) (w .events) l
-live-change h w t (Unlock m) r l = live-later (cellOf w t m) (w .events) l
-live-change h w t (Wait m) r l = live-later (cellOf w t m) (w .events) l
-live-change h w t (Notify m i) r l = live-later (cellOf w t m) (w .events) l
-live-change h w t (Resume m) r l = live-later (cellOf w t m) (w .events) l
-live-change h w t (PrescientStore v x) r l = live-none (changed (suc (w .events)) (PrescientStore v x) (cellOf w t v)) (suc (w .events)) (not-not (none? (w .reads t v)) (λ q. false≢true (sym (r .live) ∙ dead-prescient w t v x q))) (omega (arith, l .last))
-live-change h w t (PrescientAssign v x) r l = record {
+live-change h w t n (Write v x) o r l = live-none (changed (suc (w .events)) (Write v x) (cellOf w t v)) (suc (w .events)) (not-not (none? (w .reads t v)) (λ q. false≢true (sym (r .0) ∙ l .written q))) (omega arith)
+live-change h w t n (PrescientStore v x) o r l = live-none (changed (suc (w .events)) (PrescientStore v x) (cellOf w t v)) (suc (w .events)) (not-not (none? (w .reads t v)) (λ q. false≢true (sym (r .live) ∙ dead-prescient w t v x q))) (omega (arith, l .last))
+live-change h w t n (PrescientAssign v x) o r l = record {
   written = l .written;
   stored = λ q f. absurd (false≢true f);
   placed = placed-later (w .lastWrite t v) (w .events) (w .reads t v) (l .placed);
@@ -138,7 +132,7 @@ live-next : (h : Counts) (w : Words) (t n : ℕ) (k : Kind) → judge h w (event
 unfolding next
 live-next h w t n k p l u m =
     cell-cases (λ c. Live c (suc (w .events))) w t n k u m
-    (λ a b. live-change h w t k (row-of h w t n k p) (l t (place k)))
+    (λ o a b. live-change h w t n k o (row-of h w t n k p) (l t (place k)))
     (λ q. live-later (cellOf w u m) (w .events) (l u m))
 
 live-start : AllLive (wordsOf [])

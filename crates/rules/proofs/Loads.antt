@@ -10,11 +10,11 @@ use lib.IntN.{ℤ}
 use lib.ListN.{length, length-append}
 use borrow.Author.Tests.{lt-ltb, ltb-true, le-ltb, eq-eqb}
 use Rattle.rules.specs.declared.Kind.{Kind}
-use Rattle.rules.specs.declared.Kind.the-variants.{Use, Assign, Load, Store, Read, Write, Lock, Unlock, PrescientStore, PrescientAssign, Wait, Notify, Resume}
+use Rattle.rules.specs.declared.Kind.the-variants.{Load, Unlock, PrescientAssign, Wait}
 use Rattle.rules.specs.declared.Event.{Event}
 use Rattle.rules.specs.declared.Slot.{Slot}
 use Rattle.rules.specs.declared.Counts.{Counts}
-use Rattle.rules.specs.Events.{B, C, L, Y, letter, place, among, is, of, on, subjectOf, onLock, locks, unlocks}
+use Rattle.rules.specs.Events.{B, C, L, R, Y, letter, place, among, is, of, on, subject, subjectOf, lockLetters, onLock, locks, unlocks}
 use Rattle.rules.specs.Limits.{Limits, volatile, declared}
 use Rattle.rules.specs.Words.{first, count, inOrder, by, reads, pending, announced, remembered}
 use Rattle.rules.specs.Rules.{Words, wordsOf, none?, waits, noPartner, pendingBars, notStored, readBeforeWrite, notWritten, ofWaiting, notNotified, breaks, rows, rowIn, firstBroken, judge, answer, verdict, Accepted, legal, FirstBad}
@@ -24,7 +24,7 @@ use Rattle.rules.proofs.Signed.{eqZ-refl}
 use Rattle.rules.proofs.Next.{others, next}
 use Rattle.rules.proofs.Simulation.{legal-next}
 use Rattle.rules.proofs.Held.{remembered-keeps}
-use Rattle.rules.proofs.Cells.{eventBy, cellOf, changed, cell-own, cell-cases}
+use Rattle.rules.proofs.Cells.{eventBy, cellOf, changed, changing, cell-own, cell-cases}
 use Rattle.rules.proofs.Rows.{Led, Kept, allowed-by}
 use Rattle.rules.proofs.Live.{Placed, AllLive, live, others-some}
 
@@ -99,33 +99,26 @@ unlock-refused m h events number line x y o b = unlock-alone h (reverse (b .befo
 abbrev Known : Counts → Words → Type 0
 Known h w = (t v : ℕ) → none? (cellOf w t v .reads) ≡ false → (t < h .threads) × (v < h .variables)
 
-known-change : (h : Counts) (w : Words) (t n : ℕ) (k : Kind) → declared h (eventBy t n k) ≡ true → Known h w
+known-change : (h : Counts) (w : Words) (t n : ℕ) (k : Kind) → T (is changing (eventBy t n k)) → declared h (eventBy t n k) ≡ true → Known h w
     → none? (changed (suc (w .events)) k (cellOf w t (place k)) .reads) ≡ false → (t < h .threads) × (place k < h .variables)
-unfolding declared subjectOf onLock is
-known-change h w t n (Use v x) d g q = g t v q
-known-change h w t n (Assign v x) d g q = g t v q
-known-change h w t n (Load v x) d g q = g t v (others-some (cellOf w t v .reads) q)
-known-change h w t n (Store v x) d g q = g t v q
-known-change h w t n (Read v x) d g q = (
-  ltb-true t (h .threads) (is-true (and-left (ltb t (h .threads)) _ b)),
-  ltb-true v (h .variables) (is-true (and-right (ltb t (h .threads)) (ltb v (h .variables)) (and-right (ltb t (h .threads)) _ b))),
-)
+unfolding declared onLock
+known-change h w t n k o d g q = cases (among (R ∷ []) (letter k)) (λ r. declared-here) (λ r. g t (place k) (cases (among (L ∷ []) (letter k)) (λ s. others-some (cellOf w t (place k) .reads) (rw (r, s) at q)) (λ s. rw (r, s) at q)))
   where
-    b : T (ltb t (h .threads) && (ltb t (h .threads) && ltb v (h .variables)))
-    b = subst T (sym d) tt
-known-change h w t n (Write v x) d g q = g t v q
-known-change h w t n (Lock l) d g q = g t l q
-known-change h w t n (Unlock l) d g q = g t l q
-known-change h w t n (Wait l) d g q = g t l q
-known-change h w t n (Notify l i) d g q = g t l q
-known-change h w t n (Resume l) d g q = g t l q
-known-change h w t n (PrescientStore v x) d g q = g t v q
-known-change h w t n (PrescientAssign v x) d g q = g t v q
+    e : Event
+    e = eventBy t n k
+
+    declared-here : (t < h .threads) × (place k < h .variables)
+    declared-here =
+        let own = ltb t (h .threads) in
+        let about = ltb (subject e) (h .threads) in
+        let low = ltb (place k) (h .variables) in
+        let b : T (own && (about && low)) = subst T (sym (rw (is-apart changing lockLetters e tt o) at d)) tt in
+        (ltb-true t (h .threads) (is-true (and-left own (about && low) b)), ltb-true (place k) (h .variables) (is-true (and-right about low (and-right own (about && low) b))))
 
 known-next : (h : Counts) (w : Words) (t n : ℕ) (k : Kind) → declared h (eventBy t n k) ≡ true → Known h w → Known h (next w (eventBy t n k))
 known-next h w t n k d g u m =
     cell-cases (λ c. none? (c .reads) ≡ false → (u < h .threads) × (m < h .variables)) w t n k u m
-    (λ a b q. rw (← a, ← b) (known-change h w t n k d g q))
+    (λ o a b q. rw (← a, ← b) (known-change h w t n k o d g q))
     (λ q. g u m)
 
 known-start : (h : Counts) → Known h (wordsOf [])

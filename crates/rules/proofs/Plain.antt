@@ -2,27 +2,25 @@
 use Prim.Native.Nat.{ℕ, zero, suc}
 use native.Mathlib.Omega.{arith}
 use mathlib.Core.Path.{_≡_, refl, sym, ap, _∙_}
-use mathlib.Core.Bool.{Bool, true, false, cond, and-false}
+use mathlib.Core.Bool.{Bool, true, false, not, cond, _||_, and-false}
 use mathlib.Core.List.{List, [], _∷_, _++_, map}
 use mathlib.Core.Option.{Option}
-use lib.Dec.{leb}
+use lib.Dec.{T, eqb, leb}
 use lib.IntN.{ℤ}
 use lib.ListN.{length, drop, List·getD-eq-default}
-use borrow.Author.Tests.{leb-true, leb-false}
+use borrow.Author.Tests.{leb-true, leb-false, not-true}
 use Rattle.rules.specs.declared.Kind.{Kind}
-use Rattle.rules.specs.declared.Kind.the-variants.{Use, Assign, Load, Store, Read, Write, Lock, Unlock, PrescientStore, PrescientAssign, Wait, Notify, Resume}
 use Rattle.rules.specs.declared.Event.{Event}
 use Rattle.rules.specs.declared.Slot.{Slot}
 use Rattle.rules.specs.declared.Counts.{Counts}
-use Rattle.rules.specs.Events.{P, S, W, letter}
+use Rattle.rules.specs.Events.{P, S, W, letter, among}
 use Rattle.rules.specs.Limits.{Limits, volatile, anyVolatile, firstLine, declared}
 use Rattle.rules.specs.Words.{count, slot, storeSlot, inOrder, first, by, stores}
-use Rattle.rules.specs.Rules.{Words, wordsOf, some, none?, loc, noPartner, lockTaken, notHeld, pendingBars, notFresh, notStored, readBeforeWrite, unwritten, notWritten, notUsable, differs, eightAlready, deadRead, wrongNeighbour, useBarred, writeBarred, volatileOrder, prescientVolatile, waits, ofWaiting, notNotified, breaks, rowsBehind, rows, rowIn, firstBroken, judge, answer, verdict, accepted, markFrom, mark, markBy, markRead, pastBy, pastRead}
+use Rattle.rules.specs.Rules.{Words, Row, wordsOf, some, none?, loc, noPartner, lockTaken, notHeld, pendingBars, notFresh, notStored, readBeforeWrite, unwritten, notWritten, notUsable, differs, eightAlready, deadRead, wrongNeighbour, useBarred, writeBarred, volatileOrder, prescientVolatile, waits, ofWaiting, notNotified, breaks, rowsBehind, rows, rowIn, firstBroken, judge, answer, verdict, accepted, markFrom, mark, markBy, markRead, pastBy, pastRead}
 use Rattle.rules.specs.Plain.{Plain, withoutVolatiles, plainStores, plainWordsOf, plainJudge, plainVerdict, markPlain, pastPlain}
-use Rattle.rules.proofs.Laws.{some-none, none-some, unbroken, accepts}
+use Rattle.rules.proofs.Laws.{is-true, allOf, at-letter, and-left, and-right, or-false-left, or-false-right, some-none, none-some, unbroken, accepts}
 use Rattle.rules.proofs.Marking.{walk-parts, mark-on}
 use Rattle.rules.proofs.Projections.{same-values, some-same}
-use Rattle.rules.proofs.Cells.{eventBy}
 
 -- sixteen flags, none of them set
 pub plain-flags : (h : Counts) → length (h .volatiles) ≡ 16 → anyVolatile h ≡ false → Plain h
@@ -54,21 +52,20 @@ module _ (h : Counts) (w : Words) (e : Event) (p : volatile h (loc e) ≡ false)
   plain-28 = simp (p, and-false)
 
 -- each row is the same behind what leads it
-pub row-led : (lead : List ℕ) (k : Kind) → rowIn (rowsBehind lead) (letter k) ≡ lead ++ rowIn (rowsBehind []) (letter k)
+abbrev behind : List ℕ → List Row → List Row
+behind lead rs = map (λ r. record { kind = r .kind; checks = lead ++ r .checks }) rs
+
+row-behind : (lead : List ℕ) (rs : List Row) (k : ℕ) → T (among (map (λ r. r .kind) rs) k) → rowIn (behind lead rs) k ≡ lead ++ rowIn rs k
 unfolding rowIn
-row-led lead (Use v x) = refl
-row-led lead (Assign v x) = refl
-row-led lead (Load v x) = refl
-row-led lead (Store v x) = refl
-row-led lead (Read v x) = refl
-row-led lead (Write v x) = refl
-row-led lead (Lock l) = refl
-row-led lead (Unlock l) = refl
-row-led lead (PrescientStore v x) = refl
-row-led lead (PrescientAssign v x) = refl
-row-led lead (Wait l) = refl
-row-led lead (Notify l i) = refl
-row-led lead (Resume l) = refl
+row-behind lead [] k h = absurd h
+row-behind lead (r ∷ rs) k h = go (eqb (r .kind) k) h (row-behind lead rs k)
+  where
+    go : (b : Bool) → T (b || among (map (λ r. r .kind) rs) k) → (T (among (map (λ r. r .kind) rs) k) → rowIn (behind lead rs) k ≡ lead ++ rowIn rs k) → cond b (lead ++ r .checks) (rowIn (behind lead rs) k) ≡ lead ++ cond b (r .checks) (rowIn rs k)
+    go true h f = refl
+    go false h f = f h
+
+pub row-led : (lead : List ℕ) (k : Kind) → rowIn (rowsBehind lead) (letter k) ≡ lead ++ rowIn (rowsBehind []) (letter k)
+row-led lead k = row-behind lead (rowsBehind []) (letter k) (at-letter (among (map (λ r. r .kind) (rowsBehind []))) tt k)
 
 -- so the row may be read without 26, 27, 28
 pub row-plain : (h : Counts) (w : Words) (e : Event) → volatile h (loc e) ≡ false → judge h w e ≡ plainJudge h w e
@@ -177,21 +174,20 @@ unfolding anyVolatile some volatile
 without-plain h = plain-flags (withoutVolatiles h) refl refl
 
 -- the plain rules do not look at what is volatile
-plain-without : (h : Counts) (w : Words) (t n : ℕ) (k : Kind) → plainJudge (withoutVolatiles h) w (eventBy t n k) ≡ plainJudge h w (eventBy t n k)
-unfolding plainJudge rowIn firstBroken breaks lockTaken pendingBars notStored notWritten waits ofWaiting
-plain-without h w t n (Use v x) = refl
-plain-without h w t n (Assign v x) = refl
-plain-without h w t n (Load v x) = refl
-plain-without h w t n (Store v x) = refl
-plain-without h w t n (Read v x) = refl
-plain-without h w t n (Write v x) = refl
-plain-without h w t n (Lock l) = refl
-plain-without h w t n (Unlock l) = refl
-plain-without h w t n (Wait l) = refl
-plain-without h w t n (Notify l i) = refl
-plain-without h w t n (Resume l) = refl
-plain-without h w t n (PrescientStore v x) = refl
-plain-without h w t n (PrescientAssign v x) = refl
+abbrev unled : ℕ → Bool
+unled n = not (eqb n 26 || (eqb n 27 || eqb n 28))
+
+broken-without : (h : Counts) (w : Words) (e : Event) (ns : List ℕ) → T (allOf unled ns) → firstBroken ns (withoutVolatiles h) w e ≡ firstBroken ns h w e
+unfolding firstBroken breaks lockTaken pendingBars notStored notWritten waits ofWaiting
+broken-without h w e [] m = refl
+broken-without h w e (n ∷ ns) m =
+    let p = not-true (eqb n 26 || (eqb n 27 || eqb n 28)) (is-true (and-left (unled n) (allOf unled ns) m)) in
+    let q = or-false-right (eqb n 26) (eqb n 27 || eqb n 28) p in
+    rw (or-false-left (eqb n 26) _ p, or-false-left (eqb n 27) _ q, or-false-right (eqb n 27) _ q, broken-without h w e ns (and-right (unled n) (allOf unled ns) m))
+
+plain-without : (h : Counts) (w : Words) (e : Event) → plainJudge (withoutVolatiles h) w e ≡ plainJudge h w e
+unfolding plainJudge rowIn
+plain-without h w e = broken-without h w e (rowIn (rowsBehind (29 ∷ 30 ∷ [])) (letter (e .kind))) (at-letter (λ k. allOf unled (rowIn (rowsBehind (29 ∷ 30 ∷ [])) k)) tt (e .kind))
 
 -- the rules besides 26 to 28 are kept
 plain-kept : (h : Counts) (w : Words) (e : Event) → judge h w e ≡ 0 → plainJudge h w e ≡ 0
@@ -202,7 +198,7 @@ plain-kept h w e p =
     rw (row-led (29 ∷ 30 ∷ []) (e .kind)) (accepts (29 ∷ 30 ∷ ns) h w e (u .0, (u .1 .0, u .1 .1 .1 .1 .1)))
 
 without-kept : (h : Counts) (w : Words) (e : Event) → judge h w e ≡ 0 → judge (withoutVolatiles h) w e ≡ 0
-without-kept h w e p = row-plain (withoutVolatiles h) w e (without-plain h (loc e)) ∙ plain-without h w (e .thread) (e .line) (e .kind) ∙ plain-kept h w e p
+without-kept h w e p = row-plain (withoutVolatiles h) w e (without-plain h (loc e)) ∙ plain-without h w e ∙ plain-kept h w e p
 
 verdict-kept : (m : Limits) (h : Counts) (es : List Event) (e : Event) → verdict m h es e ≡ 0 → verdict m (withoutVolatiles h) es e ≡ 0
 unfolding verdict answer declared

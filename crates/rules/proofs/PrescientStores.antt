@@ -3,7 +3,7 @@
 use Prim.Native.Nat.{ℕ, zero, suc, _≤_, _<_}
 use native.Mathlib.Omega.{arith}
 use mathlib.Core.Path.{_≡_, refl, sym, ap, _∙_, subst}
-use mathlib.Core.Bool.{Bool, true, false, not, cond, _||_, and-true, and-false, false≢true}
+use mathlib.Core.Bool.{Bool, true, false, not, cond, _||_, and-true, false≢true}
 use mathlib.Core.List.{List, [], _∷_, _++_}
 use mathlib.Core.Logic.{_⊎_, inl, inr}
 use mathlib.Core.Option.{Option, none, some as found}
@@ -12,7 +12,7 @@ use lib.IntN.{ℤ}
 use lib.ListN.{length}
 use borrow.Author.Tests.{eqb-true, eq-eqb, ne-eqb, lt-ltb, not-false}
 use Rattle.rules.specs.declared.Kind.{Kind}
-use Rattle.rules.specs.declared.Kind.the-variants.{Use, Assign, Load, Store, Read, Write, Lock, Unlock, PrescientStore, PrescientAssign, Wait, Notify, Resume}
+use Rattle.rules.specs.declared.Kind.the-variants.{Assign, Load, Store, Read, Write, Unlock, PrescientStore, PrescientAssign, Wait}
 use Rattle.rules.specs.declared.Event.{Event}
 use Rattle.rules.specs.declared.Slot.{Slot}
 use Rattle.rules.specs.declared.Counts.{Counts}
@@ -21,11 +21,11 @@ use Rattle.rules.specs.Limits.{Limits, lineAfter, declared}
 use Rattle.rules.specs.Words.{latest, valueIn, letterIn, lastAt, count, inOrder, by, stores, pending, announced, lastAssign}
 use Rattle.rules.specs.Rules.{Words, wordsOf, some, none?, onSome, unwritten, notWritten, wrongNeighbour, useBarred, writeBarred, volatileOrder, prescientVolatile, notNotified, breaks, rows, rowIn, firstBroken, judge, answer, verdict, legalBy, legal, Marked, accepted, numberIn, unless, markRead, pastRead}
 use Rattle.rules.specs.PrescientStores.{prescientStore, assignPending, someMade, madeUnwritten, judgeStrict, verdictStrict, markStrict, pastStrict}
-use Rattle.rules.proofs.Laws.{cases, is-true, or-false-left, is-apart, legal-row, legal-before, legal-by-less, some-none, none-some}
+use Rattle.rules.proofs.Laws.{cases, is-true, or-false-left, is-apart, by-none, legal-row, legal-before, legal-by-less, some-none, none-some}
 use Rattle.rules.proofs.Next.{others, next}
 use Rattle.rules.proofs.Simulation.{legal-next}
-use Rattle.rules.proofs.Cells.{eventBy, Cell, cellOf, slotAt, changed, cell-cases, events-next}
-use Rattle.rules.proofs.Rows.{Kept, row-of}
+use Rattle.rules.proofs.Cells.{eventBy, Cell, cellOf, slotAt, changed, changing, cell-cases, events-next}
+use Rattle.rules.proofs.Rows.{unlock-row, Kept, row-of}
 use Rattle.rules.proofs.Live.{Placed, placed-later, placed-others, placed-append}
 
 -- ---- with V owed the latest store is that of the latest P
@@ -59,42 +59,36 @@ prescient-later z c n e = record { placed = placed-later 0 n (c .stores) (e .pla
 abbrev latestP : ℕ → Kind → Slot → Slot
 latestP p k z = cond (is (P ∷ []) (eventBy 0 0 k)) (slotAt p (value k)) z
 
-prescient-change : (h : Counts) (w : Words) (t : ℕ) (k : Kind) (z : Slot) → Kept h w t k → Prescient z (cellOf w t (place k)) (w .events)
+prescient-change : (h : Counts) (w : Words) (t n : ℕ) (k : Kind) (z : Slot) → T (is changing (eventBy t n k)) → Kept h w t k → Prescient z (cellOf w t (place k)) (w .events)
     → Prescient (latestP (suc (w .events)) k z) (changed (suc (w .events)) k (cellOf w t (place k))) (suc (w .events))
 unfolding cellOf is
-prescient-change h w t (Use v x) z r e = prescient-later z (cellOf w t v) (w .events) e
-prescient-change h w t (Assign v x) z r e = record { placed = placed-later 0 (w .events) (w .stores t v) (e .placed); assigned = omega arith; ending = e .ending }
-prescient-change h w t (Load v x) z r e = record { placed = placed-later 0 (w .events) (w .stores t v) (e .placed); assigned = omega (arith, e .assigned); ending = e .ending }
-prescient-change h w t (Store v x) z r e = record {
+prescient-change h w t n (Assign v x) z o r e = record { placed = placed-later 0 (w .events) (w .stores t v) (e .placed); assigned = omega arith; ending = e .ending }
+prescient-change h w t n (Load v x) z o r e = record { placed = placed-later 0 (w .events) (w .stores t v) (e .placed); assigned = omega (arith, e .assigned); ending = e .ending }
+prescient-change h w t n (Store v x) z o r e = record {
   placed = placed-append 0 (suc (w .events)) (w .lastAssign t v) x (w .stores t v) (omega arith) (omega (arith, e .assigned)) (placed-later 0 (w .events) (w .stores t v) (e .placed));
   assigned = omega (arith, e .assigned);
   ending = λ o. absurd (false≢true (sym (r .0 .notPending) ∙ o));
 }
-prescient-change h w t (Read v x) z r e = record { placed = placed-later 0 (w .events) (w .stores t v) (e .placed); assigned = omega (arith, e .assigned); ending = e .ending }
-prescient-change h w t (Write v x) z r e = record {
+prescient-change h w t n (Read v x) z o r e = record { placed = placed-later 0 (w .events) (w .stores t v) (e .placed); assigned = omega (arith, e .assigned); ending = e .ending }
+prescient-change h w t n (Write v x) z o r e = record {
   placed = placed-others 0 (suc (w .events)) (w .stores t v) (placed-later 0 (w .events) (w .stores t v) (e .placed));
   assigned = omega (arith, e .assigned);
   ending = λ o. ending-others z (w .stores t v) (e .ending o);
 }
-prescient-change h w t (Lock l) z r e = prescient-later z (cellOf w t l) (w .events) e
-prescient-change h w t (Unlock l) z r e = prescient-later z (cellOf w t l) (w .events) e
-prescient-change h w t (Wait l) z r e = prescient-later z (cellOf w t l) (w .events) e
-prescient-change h w t (Notify l i) z r e = prescient-later z (cellOf w t l) (w .events) e
-prescient-change h w t (Resume l) z r e = prescient-later z (cellOf w t l) (w .events) e
-prescient-change h w t (PrescientStore v x) z r e = record {
+prescient-change h w t n (PrescientStore v x) z o r e = record {
   placed = placed-append 0 (suc (w .events)) (suc (w .events)) x (w .stores t v) (omega arith) (omega arith) (placed-later 0 (w .events) (w .stores t v) (e .placed));
   assigned = omega (arith, e .assigned);
   ending = λ o. ending-append 0 (w .events) x (w .stores t v) (e .placed);
 }
-prescient-change h w t (PrescientAssign v x) z r e = record { placed = placed-later 0 (w .events) (w .stores t v) (e .placed); assigned = omega (arith, e .assigned); ending = λ o. absurd (false≢true o) }
+prescient-change h w t n (PrescientAssign v x) z o r e = record { placed = placed-later 0 (w .events) (w .stores t v) (e .placed); assigned = omega (arith, e .assigned); ending = λ o. absurd (false≢true o) }
 
 prescient-next : (h : Counts) (w : Words) (t n : ℕ) (k : Kind) → judge h w (eventBy t n k) ≡ 0 → (u m : ℕ) (z : Slot) → Prescient z (cellOf w u m) (w .events)
     → Prescient (cond (by (P ∷ []) u m (eventBy t n k)) (slotAt (suc (w .events)) (value k)) z) (cellOf (next w (eventBy t n k)) u m) (suc (w .events))
 unfolding by is of on
 prescient-next h w t n k p u m z e =
     cell-cases (λ c. Prescient (cond (by (P ∷ []) u m (eventBy t n k)) (slotAt (suc (w .events)) (value k)) z) c (suc (w .events))) w t n k u m
-    (λ a b. rw (eq-eqb t u a, eq-eqb (place k) m b, and-true) (prescient-change h w t k z (row-of h w t n k p) (rw (a, b) e)))
-    (λ q. rw (q, and-false) (prescient-later z (cellOf w u m) (w .events) e))
+    (λ o a b. rw (eq-eqb t u a, eq-eqb (place k) m b, and-true) (prescient-change h w t n k z o (row-of h w t n k p) (rw (a, b) e)))
+    (λ q. rw (by-none (P ∷ []) changing u m (eventBy t n k) tt q) (prescient-later z (cellOf w u m) (w .events) e))
 
 latest-next : (t v : ℕ) (e : Event) (es : List Event) → prescientStore t v (e ∷ es) ≡ cond (by (P ∷ []) t v e) (slotAt (suc (wordsOf es .events)) (value (e .kind))) (prescientStore t v es)
 unfolding prescientStore announced lastAt latest valueIn wordsOf
@@ -168,11 +162,6 @@ none-made t v es (s ∷ ss) q f = cases (pending t v es) (λ p. inr (p, alone ss
     alone [] e q = ap (λ (r : Slot). r ∷ []) e
     alone (r ∷ ss) e q = absurd (let d = eqb-true (s .position) (prescientStore t v es .position) (not-false _ (or-false-left _ (someMade t v es (r ∷ ss)) q)) in omega (arith, d, e .0))
 
-unlock-row : (h : Counts) (w : Words) (t n : ℕ) (k : Kind) → T (unlocks (eventBy t n k)) → judge h w (eventBy t n k) ≡ 0 → some (h .variables) (λ v. unwritten w t v) ≡ false
-unfolding unlocks is
-unlock-row h w t n (Unlock l) o p = row-of h w t n (Unlock l) p .written
-unlock-row h w t n (Wait l) o p = row-of h w t n (Wait l) p .written
-
 -- "only an assign already made must reach main memory before the unlock": at an accepted N or Y the outstanding stores of T on V are none, or that of the
 -- latest P alone while its assign is owed.
 pub unlock-leaves : (h : Counts) (es : List Event) → T (legal h es) → (e : Event) → T (unlocks e) → judge h (wordsOf es) e ≡ 0 → (v : ℕ) → v < h .variables
@@ -180,7 +169,7 @@ pub unlock-leaves : (h : Counts) (es : List Event) → T (legal h es) → (e : E
 unfolding wordsOf cellOf madeUnwritten
 unlock-leaves h es l e o p v b =
     none-made (e .thread) v es (stores (e .thread) v es)
-    (sym (unwritten-exact h es l (e .thread) v) ∙ some-none (h .variables) (λ v. unwritten (wordsOf es) (e .thread) v) (unlock-row h (wordsOf es) (e .thread) (e .line) (e .kind) o p) v b)
+    (sym (unwritten-exact h es l (e .thread) v) ∙ some-none (h .variables) (λ v. unwritten (wordsOf es) (e .thread) v) (unlock-row h (wordsOf es) e p o .written) v b)
     (prescient h es l (e .thread) v .ending)
 
 -- ---- the verdicts with every store counted at N

@@ -11,11 +11,11 @@ use Rattle.rules.specs.declared.Kind.{Kind}
 use Rattle.rules.specs.declared.Kind.the-variants.{Use, Assign, Load, Store, Read, Write, Lock, Unlock, PrescientStore, PrescientAssign, Wait, Notify, Resume}
 use Rattle.rules.specs.declared.Event.{Event}
 use Rattle.rules.specs.declared.Counts.{Counts}
-use Rattle.rules.specs.Events.{B, P, U, W, letter, among, is, onLock, locks, unlocks, eqZ, lockLetters}
+use Rattle.rules.specs.Events.{B, C, F, K, L, N, P, U, W, Y, letter, among, is, onLock, locks, unlocks, eqZ, lockLetters}
 use Rattle.rules.specs.Limits.{most, volatile}
 use Rattle.rules.specs.Words.{first, accesses}
 use Rattle.rules.specs.Rules.{Words, some, none?, loc, held, noPartner, lockTaken, notHeld, pendingBars, notFresh, notStored, readBeforeWrite, unwritten, notWritten, notUsable, differs, eightAlready, deadRead, wrongNeighbour, useBarred, writeBarred, volatileOrder, prescientVolatile, ofWaiting, notNotified, breaks, rows, rowIn, firstBroken, judge}
-use Rattle.rules.proofs.Laws.{Unbroken, row-kept, accepts, or-false-left, or-false-right, other-false, allOf, each-among}
+use Rattle.rules.proofs.Laws.{Unbroken, row-kept, letter-kept, lock-free, unlock-held, accepts, or-false-left, or-false-right, other-false, allOf, each-among, is-among}
 use Rattle.rules.proofs.Cells.{eventBy}
 
 -- L: a read is outstanding, V is not owed, nothing is fresh or to be written, and the read came after the last write
@@ -54,6 +54,20 @@ pub record PrescientStoreRow (w : Words) (t v : ℕ) (x : ℤ) : Type 0 where
   pub notPending : w .pending t v ≡ false
   pub room : leb most (length (w .stores t v)) ≡ false
   pub live : deadRead w (eventBy t 0 (PrescientStore v x)) ≡ false
+
+module _ (h : Counts) (w : Words) (e : Event) (p : judge h w e ≡ 0) where
+  -- an event that locks and breaks no rule of its row has the one, and an event that unlocks the other
+  pub lock-row : T (locks e) → LockRow h w (e .thread) (loc e)
+  unfolding rowIn rows breaks pendingBars locks
+  lock-row o = record { free = lock-free h w e p o; notPending = other-false (is (K ∷ C ∷ []) e) _ (or-false-left (is (K ∷ C ∷ []) e && _) _ (letter-kept 13 (K ∷ C ∷ []) h w e p tt o)) o }
+
+  pub unlock-row : T (unlocks e) → UnlockRow h w (e .thread) (loc e)
+  unfolding rowIn rows breaks notStored notWritten unlocks
+  unlock-row o = record {
+    held = unlock-held h w e p (is-among (N ∷ Y ∷ []) (N ∷ Y ∷ F ∷ []) e tt o);
+    stored = other-false (is (N ∷ Y ∷ []) e) _ (or-false-right (is (L ∷ []) e && _) _ (letter-kept 15 (N ∷ Y ∷ []) h w e p tt o)) o;
+    written = other-false (is (N ∷ Y ∷ []) e) _ (or-false-right (is (L ∷ []) e && _) _ (letter-kept 16 (N ∷ Y ∷ []) h w e p tt o)) o;
+  }
 
 -- what an event of thread t keeps that breaks no rule of its row
 abbrev pub Kept : Counts → Words → ℕ → Kind → Type 0
@@ -103,11 +117,11 @@ row-of h w t n (Read v x) p = (
   not-false _ (simp or-false at (row-kept 18 h w (eventBy t n (Read v x)) p tt)),
 )
 row-of h w t n (Write v x) p = (simp or-false at (row-kept 10 h w (eventBy t n (Write v x)) p tt), not-false _ (simp or-false at (row-kept 18 h w (eventBy t n (Write v x)) p tt)))
-row-of h w t n (Lock l) p = record { free = row-kept 11 h w (eventBy t n (Lock l)) p tt; notPending = simp or-false at (row-kept 13 h w (eventBy t n (Lock l)) p tt) }
-row-of h w t n (Unlock l) p = record { held = not-false _ (row-kept 12 h w (eventBy t n (Unlock l)) p tt); stored = row-kept 15 h w (eventBy t n (Unlock l)) p tt; written = row-kept 16 h w (eventBy t n (Unlock l)) p tt }
-row-of h w t n (Wait l) p = record { held = not-false _ (row-kept 12 h w (eventBy t n (Wait l)) p tt); stored = row-kept 15 h w (eventBy t n (Wait l)) p tt; written = row-kept 16 h w (eventBy t n (Wait l)) p tt }
-row-of h w t n (Notify l i) p = not-false _ (row-kept 12 h w (eventBy t n (Notify l i)) p tt)
-row-of h w t n (Resume l) p = record { free = row-kept 11 h w (eventBy t n (Resume l)) p tt; notPending = simp or-false at (row-kept 13 h w (eventBy t n (Resume l)) p tt) }
+row-of h w t n (Lock l) p = lock-row h w (eventBy t n (Lock l)) p tt
+row-of h w t n (Unlock l) p = unlock-row h w (eventBy t n (Unlock l)) p tt
+row-of h w t n (Wait l) p = unlock-row h w (eventBy t n (Wait l)) p tt
+row-of h w t n (Notify l i) p = unlock-held h w (eventBy t n (Notify l i)) p tt
+row-of h w t n (Resume l) p = lock-row h w (eventBy t n (Resume l)) p tt
 row-of h w t n (PrescientStore v x) p = record { notPending = row-kept 13 h w (eventBy t n (PrescientStore v x)) p tt; room = row-kept 19 h w (eventBy t n (PrescientStore v x)) p tt; live = row-kept 23 h w (eventBy t n (PrescientStore v x)) p tt }
 row-of h w t n (PrescientAssign v x) p = (not-false _ (row-kept 10 h w (eventBy t n (PrescientAssign v x)) p tt), not-false _ (row-kept 18 h w (eventBy t n (PrescientAssign v x)) p tt))
 

@@ -64,11 +64,11 @@ contrary false c d h x y = x
 
 pub read-load : (t v : ℕ) (e : Event) → T (by (R ∷ []) t v e) → T (by (L ∷ []) t v e) → ⊥
 unfolding by is
-read-load t v e = contrary (is (R ∷ []) e) (is (L ∷ []) e) (of t e && on v e) (at-letter (λ n. not (among (R ∷ []) n && among (L ∷ []) n)) (tt, tt, tt, tt, tt, tt, tt, tt, tt, tt, tt, tt, tt) (e .kind))
+read-load t v e = contrary (is (R ∷ []) e) (is (L ∷ []) e) (of t e && on v e) (at-letter (λ n. not (among (R ∷ []) n && among (L ∷ []) n)) tt (e .kind))
 
 pub store-write : (t v : ℕ) (e : Event) → T (by (S ∷ P ∷ []) t v e) → T (by (W ∷ []) t v e) → ⊥
 unfolding by is
-store-write t v e = contrary (is (S ∷ P ∷ []) e) (is (W ∷ []) e) (of t e && on v e) (at-letter (λ n. not (among (S ∷ P ∷ []) n && among (W ∷ []) n)) (tt, tt, tt, tt, tt, tt, tt, tt, tt, tt, tt, tt, tt) (e .kind))
+store-write t v e = contrary (is (S ∷ P ∷ []) e) (is (W ∷ []) e) (of t e && on v e) (at-letter (λ n. not (among (S ∷ P ∷ []) n && among (W ∷ []) n)) tt (e .kind))
 
 -- ---- the words at a longer list
 

@@ -2,14 +2,14 @@
 use Prim.Native.Nat.{ℕ, suc, _≤_, _<_}
 use native.Mathlib.Omega.{arith}
 use mathlib.Core.Path.{_≡_, refl, sym, _∙_, subst}
-use mathlib.Core.Bool.{Bool, true, false, not, cond, _&&_, _||_, and-false}
+use mathlib.Core.Bool.{Bool, true, false, not, cond, _&&_, _||_}
 use mathlib.Core.List.{List, [], _∷_, _++_}
 use mathlib.Core.Logic.{_⊎_, inl, inr}
 use lib.Dec.{T, ltb}
 use lib.ListN.{length}
 use borrow.Author.Tests.{ltb-true, ltb-false, not-false}
 use Rattle.rules.specs.declared.Kind.{Kind}
-use Rattle.rules.specs.declared.Kind.the-variants.{Use, Assign, Load, Store, Read, Write, Lock, Unlock, PrescientStore, PrescientAssign, Wait, Notify, Resume}
+use Rattle.rules.specs.declared.Kind.the-variants.{Assign, Store, Write, PrescientStore, PrescientAssign}
 use Rattle.rules.specs.declared.Event.{Event}
 use Rattle.rules.specs.declared.Slot.{Slot}
 use Rattle.rules.specs.declared.Counts.{Counts}
@@ -18,7 +18,7 @@ use Rattle.rules.specs.Limits.{Limits, volatile, declared}
 use Rattle.rules.specs.Words.{latest, letterIn, lastAt, count, inOrder, first, storeSlot, by, accesses, stores, fresh, lastWrite, afterAssign, loadedRead, usedRead, lastAssign}
 use Rattle.rules.specs.Rules.{wordsOf, none?, loc, barsUse, barsWrite, useBarred, writeBarred, volatileOrder, prescientVolatile, judge, Accepted, legal}
 use Rattle.rules.specs.Volatile.{At, UseRead, AssignWrite, Acts, Associated}
-use Rattle.rules.proofs.Laws.{is-true, and-right, or-false-left, or-false-right, letter-is, is-among, some-none, order-kept, prescient-kept, store-fresh, write-partner, legal-known, legal-row, legal-before, accepted-legal}
+use Rattle.rules.proofs.Laws.{cases, is-true, and-right, or-false-left, or-false-right, letter-is, is-among, by-none, some-none, order-kept, prescient-kept, store-fresh, write-partner, legal-known, legal-row, legal-before, accepted-legal}
 use Rattle.rules.proofs.Next.{others, next}
 use Rattle.rules.proofs.Simulation.{by-is, by-thread, by-loc, legal-next}
 use Rattle.rules.proofs.Projections.{within, assign-match, store-match, used-match, write-match}
@@ -75,6 +75,10 @@ data Turn (t v : ℕ) (e : Event) (es : List Event) : Type 0 where
   writes : by (A ∷ []) t v e ≡ false → T (by (W ∷ []) t v e) → fresh t v (e ∷ es) ≡ fresh t v es
       → lastAssign t v (e ∷ es) ≡ lastAssign t v es → (s : Slot) (ss : List Slot) → stores t v es ≡ s ∷ ss → stores t v (e ∷ es) ≡ ss → Turn t v e es
 
+-- the letters of the events that do not leave them
+abbrev turning : List ℕ
+turning = A ∷ S ∷ W ∷ P ∷ B ∷ []
+
 module _ (c : Counts) (t v : ℕ) (q : volatile c v ≡ true) (es : List Event) (l : T (legal c es)) where
   same : (e : Event) → by (A ∷ []) t v e ≡ false → by (W ∷ []) t v e ≡ false → by (A ∷ B ∷ S ∷ []) t v e ≡ false → by (S ∷ P ∷ []) t v e ≡ false → Turn t v e es
   same e a w f s = leaves a w (fresh-next c t v e es l ∙ rw f) (last-next c t v e es l ∙ rw a) (stores-next c t v e es l ∙ rw (s, w))
@@ -107,24 +111,16 @@ module _ (c : Counts) (t v : ℕ) (q : volatile c v ≡ true) (es : List Event) 
   unfolding prescientVolatile
   not-prescient e b p = subst T (rw (is-true {b = is (P ∷ B ∷ []) e} (by-is (P ∷ B ∷ []) t v e b), by-loc (P ∷ B ∷ []) t v e b, q) at (prescient-kept c (wordsOf es) e p)) tt
 
-  turn : (u n : ℕ) (k : Kind) (b : Bool) → (of t (eventBy u n k) && on v (eventBy u n k)) ≡ b → judge c (wordsOf es) (eventBy u n k) ≡ 0 → Turn t v (eventBy u n k) es
+  turn : (u n : ℕ) (k : Kind) → T (is turning (eventBy u n k)) → (of t (eventBy u n k) && on v (eventBy u n k)) ≡ true → judge c (wordsOf es) (eventBy u n k) ≡ 0 → Turn t v (eventBy u n k) es
   unfolding by is
-  turn u n k false b p = same (eventBy u n k) (no (A ∷ [])) (no (W ∷ [])) (no (A ∷ B ∷ S ∷ [])) (no (S ∷ P ∷ []))
-    where
-      -- another thread, or another variable
-      no : (ks : List ℕ) → by ks t v (eventBy u n k) ≡ false
-      no ks = simp (b, and-false)
-  turn u n (Use w x) true b p = same (eventBy u n (Use w x)) refl refl refl refl
-  turn u n (Assign w x) true b p =
+  turn u n (Assign w x) o b p =
       let e = eventBy u n (Assign w x) in
       let a = subst T (sym b) tt in
       assigns a refl (unfresh e a p) (fresh-next c t v e es l ∙ rw b) (last-next c t v e es l ∙ rw b) (stores-next c t v e es l)
-  turn u n (Load w x) true b p = same (eventBy u n (Load w x)) refl refl refl refl
-  turn u n (Store w x) true b p =
+  turn u n (Store w x) o b p =
       let e = eventBy u n (Store w x) in
       puts refl refl (is-fresh e (subst T (sym b) tt) p) (fresh-next c t v e es l ∙ rw b) (last-next c t v e es l) (storeSlot t v es e) refl (stores-next c t v e es l ∙ rw b)
-  turn u n (Read w x) true b p = same (eventBy u n (Read w x)) refl refl refl refl
-  turn u n (Write w x) true b p = go (stores t v es) refl (has-store e (subst T (sym b) tt) p)
+  turn u n (Write w x) o b p = go (stores t v es) refl (has-store e (subst T (sym b) tt) p)
     where
       e : Event
       e = eventBy u n (Write w x)
@@ -132,16 +128,14 @@ module _ (c : Counts) (t v : ℕ) (q : volatile c v ≡ true) (es : List Event) 
       go : (ss : List Slot) → stores t v es ≡ ss → none? ss ≡ false → Turn t v e es
       go [] g k = absurd (subst T k tt)
       go (s ∷ ss) g k = writes refl (subst T (sym b) tt) (fresh-next c t v e es l) (last-next c t v e es l) s ss g (stores-next c t v e es l ∙ rw (b, g))
-  turn u n (Lock m) true b p = same (eventBy u n (Lock m)) refl refl refl refl
-  turn u n (Unlock m) true b p = same (eventBy u n (Unlock m)) refl refl refl refl
-  turn u n (Wait m) true b p = same (eventBy u n (Wait m)) refl refl refl refl
-  turn u n (Notify m i) true b p = same (eventBy u n (Notify m i)) refl refl refl refl
-  turn u n (Resume m) true b p = same (eventBy u n (Resume m)) refl refl refl refl
-  turn u n (PrescientStore w x) true b p = absurd (not-prescient (eventBy u n (PrescientStore w x)) (subst T (sym b) tt) p)
-  turn u n (PrescientAssign w x) true b p = absurd (not-prescient (eventBy u n (PrescientAssign w x)) (subst T (sym b) tt) p)
+  turn u n (PrescientStore w x) o b p = absurd (not-prescient (eventBy u n (PrescientStore w x)) (subst T (sym b) tt) p)
+  turn u n (PrescientAssign w x) o b p = absurd (not-prescient (eventBy u n (PrescientAssign w x)) (subst T (sym b) tt) p)
 
   turned : (e : Event) → judge c (wordsOf es) e ≡ 0 → Turn t v e es
-  turned e p = turn (e .thread) (e .line) (e .kind) (of t e && on v e) refl p
+  unfolding by
+  turned e p = cases (by turning t v e)
+      (λ b. let h = subst T (sym b) tt in turn (e .thread) (e .line) (e .kind) (by-is turning t v e h) (is-true (and-right (is turning e) (of t e && on v e) h)) p)
+      (λ b. same e (by-none (A ∷ []) turning t v e tt b) (by-none (W ∷ []) turning t v e tt b) (by-none (A ∷ B ∷ S ∷ []) turning t v e tt b) (by-none (S ∷ P ∷ []) turning t v e tt b))
 
 -- ---- positions in a queue
 

@@ -12,23 +12,21 @@ use lib.ListN.{length, drop, length-reverse}
 use lib.Seq.{drop-length}
 use borrow.Author.Tests.{eq-eqb, ne-eqb, eqb-true, not-true}
 use Rattle.rules.specs.declared.Event.{Event}
-use Rattle.rules.specs.declared.Kind.{Kind}
-use Rattle.rules.specs.declared.Kind.the-variants.{Use, Assign, Load, Store, Read, Write, Lock, Unlock, PrescientStore, PrescientAssign, Wait, Notify, Resume}
 use Rattle.rules.specs.declared.Counts.{Counts}
-use Rattle.rules.specs.Events.{B, P, is, of, on, locks}
+use Rattle.rules.specs.Events.{B, P, is, of, on, lockLetters, onLock, locks}
 use Rattle.rules.specs.Limits.{lineAfter}
 use Rattle.rules.proofs.Bounds.{first-line-low}
 use Rattle.rules.specs.Words.{by, locksBy, latest, letterIn, pending}
 use Rattle.rules.specs.Rules as Rules
 use Rattle.rules.specs.Rules.{loc, wordsOf, held, waitsOn, waits}
-use Rattle.rules.proofs.Laws.{is-true, some-has}
+use Rattle.rules.proofs.Laws.{is-true, cases, is-apart, some-has}
 use Rattle.serial.specs.Lists.{All}
 use Rattle.sections.specs.Refusals.{afterUnlock, notUnder, lateLock, unfinished, denialFrom, denial}
 use Rattle.sections.specs.Places.{position, atPosition, soFar, eventAt, upTo, usesOrAssigns, unlocksBy, passes, lockAt, holdsSome}
 use Rattle.sections.specs.Order.{lineOf}
 use Rattle.sections.specs.Denials.{Denial, fit, denied, Unguarded, LateLock, Unfinished, Clean, Orderly, Denies, unguarded, late}
 use Rattle.sections.specs.Denials as D
-use Rattle.sections.proofs.Valid.{Declared, Numbered}
+use Rattle.sections.proofs.Valid.{Declared, variable-low}
 use Rattle.sections.proofs.Whole.{from-held, holds-known, waits-known}
 use Rattle.sections.proofs.Ordered.{some-witness, no-debt, All-turn}
 use Rattle.sections.proofs.Places.{position-line, position-after, position-last, position-up, position-to, position-ahead, unlocksAt, holdsAfter, lock-line, unlock-line, holding-line, Here, at-place, nothing-past, so-far-all, length-so-far, lock-signal, unlock-signal, holds-more}
@@ -206,24 +204,14 @@ module _ (c : Counts) (events : List Event) (d : All (Declared c) events) where
 
 -- a variable that is not declared is not owed
 no-debt-on : (h : Counts) (t v : ℕ) (es : List Event) → All (Declared h) es → h .variables ≤ v → pending t v es ≡ false
-unfolding pending latest letterIn by is on
+unfolding pending latest letterIn by on
 no-debt-on h t v [] d q = refl
-no-debt-on h t v (e ∷ es) d q = rw (not-on (e .thread) (e .line) (of t e) (e .kind) (d .0 .1)) (no-debt-on h t v es (d .1) q)
+no-debt-on h t v (e ∷ es) d q = rw not-on (no-debt-on h t v es (d .1) q)
   where
-    not-on : (u ln : ℕ) (b : Bool) (k : Kind) → Numbered h k → (is (P ∷ B ∷ []) (record { thread = u; line = ln; kind = k }) && (b && on v (record { thread = u; line = ln; kind = k }))) ≡ false
-    not-on u ln b (Use w x) i = refl
-    not-on u ln b (Assign w x) i = refl
-    not-on u ln b (Load w x) i = refl
-    not-on u ln b (Store w x) i = refl
-    not-on u ln b (Read w x) i = refl
-    not-on u ln b (Write w x) i = refl
-    not-on u ln b (Lock l) i = refl
-    not-on u ln b (Unlock l) i = refl
-    not-on u ln b (Wait l) i = refl
-    not-on u ln b (Notify l x) i = refl
-    not-on u ln b (Resume l) i = refl
-    not-on u ln b (PrescientStore w x) i = rw (ne-eqb w v (λ p. absurd (omega arith))) (and-false b)
-    not-on u ln b (PrescientAssign w x) i = rw (ne-eqb w v (λ p. absurd (omega arith))) (and-false b)
+    not-on : (is (P ∷ B ∷ []) e && (of t e && on v e)) ≡ false
+    not-on = cases (is (P ∷ B ∷ []) e)
+        (λ p. let i = variable-low h e (d .0) (unfold onLock in is-apart (P ∷ B ∷ []) lockLetters e tt (subst T (sym p) tt)) in rw (ne-eqb (loc e) v (λ r. omega (arith, i, r, q)), and-false (of t e)) (and-false (is (P ∷ B ∷ []) e)))
+        (λ p. rw p)
 
 module _ (h : Counts) (events : List Event) (d : All (Declared h) events) where
   turned : All (Declared h) (reverse events)

@@ -5,31 +5,28 @@ use native.Mathlib.Decide.{ℕ-discrete, decLt}
 use native.Mathlib.Omega.{arith}
 use mathlib.Core.Path.{_≡_, refl, sym, ap, subst}
 use mathlib.Core.Logic.{ite}
-use mathlib.Core.Bool.{Bool, true, false, cond, _&&_, and-false, false≢true}
+use mathlib.Core.Bool.{Bool, true, false, cond, _&&_, and-false}
 use mathlib.Core.List.{List, [], _∷_, map}
-use borrow.Author.Tests.{eq-eqb, ne-eqb, lt-ltb, le-ltb, ltb-false}
-use lib.Dec.{T, eqb, ltb}
-use lib.IntN.{ℤ}
+use borrow.Author.Tests.{eq-eqb, ne-eqb, lt-ltb, le-ltb, ltb-false, leb-true}
+use lib.Dec.{T, eqb, ltb, leb}
 use lib.ListN.{length}
 use Rattle.rules.specs.declared.Event.{Event}
 use Rattle.rules.specs.declared.Counts.{Counts}
-use Rattle.rules.specs.declared.Kind.{Kind}
-use Rattle.rules.specs.declared.Kind.the-variants.{Use, Assign, Load, Store, Read, Write, Lock, Unlock, PrescientStore, PrescientAssign, Wait, Notify, Resume}
-use Rattle.rules.specs.Events.{C, K, N, Y, letter, place, among, is, of, on, lockLetters, onLock, locks}
+use Rattle.rules.specs.Events.{C, K, N, Y, among, is, of, on, lockLetters, onLock, locks}
 use Rattle.rules.specs.Words.{by, count, depth, remembered}
 use Rattle.rules.specs.Rules.{loc, wordsOf, held, waitsOn, waits}
 use Rattle.serial.specs.Events as E
 use Rattle.serial.specs.Lists.{All}
-use Rattle.serial.specs.Sections as Q
 use Rattle.serial.specs.Sections.{Section, grown, push, without}
 use Rattle.serial.proofs.Counted as H
 use Rattle.serial.proofs.Lines.{either, Open, Now, traced}
-use Rattle.sections.specs.View.{viewed, view}
+use Rattle.sections.specs.View.{view}
 use Rattle.sections.specs.Places.{holdsSome}
-use Rattle.sections.specs.Order.{told, sections}
+use Rattle.sections.specs.Order.{sections}
 use Rattle.sections.specs.Refusals.{unfinished}
-use Rattle.sections.proofs.Valid.{Valid, Numbered, Declared}
-use Rattle.rules.proofs.Laws.{is-true, and-left, allOf, is-among, some-none}
+use Rattle.sections.proofs.Valid.{Valid, Declared, lock-low}
+use Rattle.sections.proofs.Viewed.{shape, next-shape}
+use Rattle.rules.proofs.Laws.{is-true, cases, and-left, allOf, is-among, at-letter, some-none}
 use Rattle.rules.proofs.Held.{balanced}
 use Rattle.sections.proofs.Ordered.{All-imp, sections-same, some-busy, settled}
 
@@ -55,44 +52,18 @@ without-less {X} t (s ∷ ss) = step (ℕ-discrete (s .owner) t) (without-less t
     step (no p) r = omega arith
 
 pub section-locks : (h : Counts) (es : List Event) → All (Declared h) es → length (sections h es) ≤ count locks es
-unfolding sections count locks is
+unfolding sections count
 section-locks h [] d = omega arith
-section-locks h (e ∷ es) d = go (e .kind) (e .thread) (holdsSome h (e .thread) es) (sections h es) (section-locks h es (d .1)) busy
+section-locks h (e ∷ es) d = rw (next-shape e (suc (length es)) (holdsSome h (e .thread) es) (sections h es)) (go (locks e) (holdsSome h (e .thread) es) busy (section-locks h es (d .1)))
   where
     busy : T (holdsSome h (e .thread) es) → Now (e .thread) (map view es) (sections h es)
     busy b = rw (sections-same h es (d .1)) (traced H.counted (map view es) .now (e .thread) (some-busy h (e .thread) es b))
 
-    joins : (x : E.Event ℤ) (u : ℕ) (ss : List (Section ℤ)) → length ss ≤ count locks es → Now u (map view es) ss → length (push u (suc (length es)) x ss) ≤ count locks es
-    joins x u ss r n = omega (arith, push-long u (suc (length es)) x (map view es) ss n, r)
-
-    go : (k : Kind) (u : ℕ) (b : Bool) (ss : List (Section ℤ)) → length ss ≤ count locks es → (T b → Now u (map view es) ss)
-        → length (Q.next (viewed u k) (told b) (suc (length es)) ss) ≤ cond (among (K ∷ C ∷ []) (letter k)) (suc (count locks es)) (count locks es)
-    go (Lock l) u true ss r n = unfold Q.next in omega (arith, without-less u ss, r)
-    go (Lock l) u false ss r n = unfold Q.next in omega (arith, r)
-    go (Resume l) u true ss r n = unfold Q.next in omega (arith, without-less u ss, r)
-    go (Resume l) u false ss r n = unfold Q.next in omega (arith, r)
-    go (Unlock l) u true ss r n = unfold Q.next in joins (E.unlock 0 u l) u ss r (n tt)
-    go (Unlock l) u false ss r n = unfold Q.next in r
-    go (Wait l) u true ss r n = unfold Q.next in joins (E.unlock 1 u l) u ss r (n tt)
-    go (Wait l) u false ss r n = unfold Q.next in r
-    go (Notify l x) u true ss r n = unfold Q.next in joins (E.idle u) u ss r (n tt)
-    go (Notify l x) u false ss r n = unfold Q.next in r
-    go (Use v x) u true ss r n = unfold Q.next in joins (E.mem E.Use u v x) u ss r (n tt)
-    go (Use v x) u false ss r n = unfold Q.next in r
-    go (Assign v x) u true ss r n = unfold Q.next in joins (E.mem E.Assign u v x) u ss r (n tt)
-    go (Assign v x) u false ss r n = unfold Q.next in r
-    go (Load v x) u true ss r n = unfold Q.next in joins (E.mem E.Load u v x) u ss r (n tt)
-    go (Load v x) u false ss r n = unfold Q.next in r
-    go (Store v x) u true ss r n = unfold Q.next in joins (E.mem E.Store u v x) u ss r (n tt)
-    go (Store v x) u false ss r n = unfold Q.next in r
-    go (Read v x) u true ss r n = unfold Q.next in joins (E.mem E.Read u v x) u ss r (n tt)
-    go (Read v x) u false ss r n = unfold Q.next in r
-    go (Write v x) u true ss r n = unfold Q.next in joins (E.mem E.Write u v x) u ss r (n tt)
-    go (Write v x) u false ss r n = unfold Q.next in r
-    go (PrescientStore v x) u true ss r n = unfold Q.next in joins (E.mem E.PrescientStore u v x) u ss r (n tt)
-    go (PrescientStore v x) u false ss r n = unfold Q.next in r
-    go (PrescientAssign v x) u true ss r n = unfold Q.next in joins (E.mem E.PrescientAssign u v x) u ss r (n tt)
-    go (PrescientAssign v x) u false ss r n = unfold Q.next in r
+    go : (a b : Bool) → (T b → Now (e .thread) (map view es) (sections h es)) → length (sections h es) ≤ count locks es → length (shape a b (e .thread) (suc (length es)) (view e) (sections h es)) ≤ cond a (suc (count locks es)) (count locks es)
+    go true true n r = omega (arith, without-less (e .thread) (sections h es), r)
+    go true false n r = omega (arith, r)
+    go false true n r = omega (arith, push-long (e .thread) (suc (length es)) (view e) (map view es) (sections h es) (n tt), r)
+    go false false n r = r
 
 -- ---- counts, by a number that each event has
 
@@ -147,22 +118,6 @@ module _ (f : Event → ℕ) where
 
 -- ---- no more of one letter than of another, where this is so for each thread and lock
 
-lock-low : (h : Counts) (t ln : ℕ) (k : Kind) → Numbered h k → onLock (record { thread = t; line = ln; kind = k }) ≡ true → place k < h .locks
-unfolding onLock is
-lock-low h t ln (Use v x) m q = absurd (false≢true q)
-lock-low h t ln (Assign v x) m q = absurd (false≢true q)
-lock-low h t ln (Load v x) m q = absurd (false≢true q)
-lock-low h t ln (Store v x) m q = absurd (false≢true q)
-lock-low h t ln (Read v x) m q = absurd (false≢true q)
-lock-low h t ln (Write v x) m q = absurd (false≢true q)
-lock-low h t ln (Lock i) m q = m
-lock-low h t ln (Unlock i) m q = m
-lock-low h t ln (PrescientStore v x) m q = absurd (false≢true q)
-lock-low h t ln (PrescientAssign v x) m q = absurd (false≢true q)
-lock-low h t ln (Wait i) m q = m
-lock-low h t ln (Notify i x) m q = m
-lock-low h t ln (Resume i) m q = m
-
 and-swap : (a b c : Bool) → ((a && b) && c) ≡ (a && (b && c))
 and-swap true b c = refl
 and-swap false b c = refl
@@ -175,7 +130,7 @@ module _ (h : Counts) (es : List Event) (d : All (Declared h) es) where
   low : (ks : List ℕ) (t : ℕ) → Locking ks → All (λ (e : Event). (is ks e && of t e) ≡ true → loc e < h .locks) es
   unfolding onLock
   low ks t o = All-imp (Declared h) (λ (e : Event). (is ks e && of t e) ≡ true → loc e < h .locks) es
-      (λ e n q. lock-low h (e .thread) (e .line) (e .kind) (n .1) (is-true (is-among ks lockLetters e o (and-left (is ks e) (of t e) (subst T (sym q) tt)))))
+      (λ e n q. lock-low h e n (is-true (is-among ks lockLetters e o (and-left (is ks e) (of t e) (subst T (sym q) tt)))))
       d
 
   -- the letter j, and the letter k
@@ -200,46 +155,23 @@ module _ (h : Counts) (es : List Event) (d : All (Declared h) es) where
 
 -- ---- the K and C, and the N and Y
 
+abbrev one : Bool → ℕ
+one true = 1
+one false = 0
+
+one-more : (p : Event → Bool) (e : Event) (es : List Event) → count p (e ∷ es) ≡ one (p e) + count p es
+unfolding count
+one-more p e es = cases (p e) (λ q. rw q (omega arith)) (λ q. rw q (omega arith))
+
 -- what locks is a K or a C, and no N and no Y
 parts : (es : List Event) → (count locks es ≤ count (is (K ∷ [])) es + count (is (C ∷ [])) es) × (count locks es + count (is (N ∷ [])) es + count (is (Y ∷ [])) es ≤ length es)
-unfolding count locks is
-parts [] = (omega arith, omega arith)
-parts (e ∷ es) = go (e .kind) (parts es)
-  where
-    x : ℕ
-    x = count locks es
-
-    k : ℕ
-    k = count (is (K ∷ [])) es
-
-    c : ℕ
-    c = count (is (C ∷ [])) es
-
-    n : ℕ
-    n = count (is (N ∷ [])) es
-
-    y : ℕ
-    y = count (is (Y ∷ [])) es
-
-    more : {a : ℕ} → (x ≤ k + c) × (x + n + y ≤ a) → (x ≤ k + c) × (x + n + y ≤ suc a)
-    more r = (r .0, omega (arith, r .1))
-
-    go : (κ : Kind) → (x ≤ k + c) × (x + n + y ≤ length es)
-        → (cond (among (K ∷ C ∷ []) (letter κ)) (suc x) x ≤ cond (among (K ∷ []) (letter κ)) (suc k) k + cond (among (C ∷ []) (letter κ)) (suc c) c)
-        × (cond (among (K ∷ C ∷ []) (letter κ)) (suc x) x + cond (among (N ∷ []) (letter κ)) (suc n) n + cond (among (Y ∷ []) (letter κ)) (suc y) y ≤ suc (length es))
-    go (Use v z) r = more r
-    go (Assign v z) r = more r
-    go (Load v z) r = more r
-    go (Store v z) r = more r
-    go (Read v z) r = more r
-    go (Write v z) r = more r
-    go (Lock i) r = (omega (arith, r .0), omega (arith, r .1))
-    go (Unlock i) r = (r .0, omega (arith, r .1))
-    go (PrescientStore v z) r = more r
-    go (PrescientAssign v z) r = more r
-    go (Wait i) r = (r .0, omega (arith, r .1))
-    go (Notify i z) r = more r
-    go (Resume i) r = (omega (arith, r .0), omega (arith, r .1))
+unfolding locks is
+parts [] = unfold count in (omega arith, omega arith)
+parts (e ∷ es) =
+    let a : one (locks e) ≤ one (is (K ∷ []) e) + one (is (C ∷ []) e) = leb-true _ _ (is-true (at-letter (λ k. leb (one (among (K ∷ C ∷ []) k)) (one (among (K ∷ []) k) + one (among (C ∷ []) k))) tt (e .kind))) in
+    let b : one (locks e) + one (is (N ∷ []) e) + one (is (Y ∷ []) e) ≤ 1 = leb-true _ _ (is-true (at-letter (λ k. leb (one (among (K ∷ C ∷ []) k) + one (among (N ∷ []) k) + one (among (Y ∷ []) k)) 1) tt (e .kind))) in
+    let x = one-more locks e es in
+    (omega (arith, a, x, one-more (is (K ∷ [])) e es, one-more (is (C ∷ [])) e es, parts es .0), omega (arith, b, x, one-more (is (N ∷ [])) e es, one-more (is (Y ∷ [])) e es, parts es .1))
 
 pub locks-half : (h : Counts) (es : List Event) → All (Declared h) es → Valid h es → unfinished h es ≡ false → 2 * count locks es ≤ length es
 unfolding holdsSome wordsOf waits

@@ -3,19 +3,20 @@
 use Prim.Native.Nat.{ℕ, zero, suc}
 use native.Mathlib.Omega.{arith}
 use mathlib.Core.Path.{_≡_, refl, sym, _∙_, subst}
-use mathlib.Core.Bool.{Bool, true, false, _&&_, _||_, and-false, true≢false, false≢true}
+use mathlib.Core.Bool.{Bool, true, false, _&&_, _||_, and-false, true≢false}
 use mathlib.Core.List.{List, [], _∷_}
 use lib.Dec.{T, ltb}
 use borrow.Author.Tests.{lt-ltb, ltb-true}
 use Rattle.rules.specs.declared.Event.{Event}
 use Rattle.rules.specs.declared.Kind.{Kind}
-use Rattle.rules.specs.declared.Kind.the-variants.{Use, Assign, Load, Store, Read, Write, Lock, Unlock, PrescientStore, PrescientAssign, Wait, Notify, Resume}
+use Rattle.rules.specs.declared.Kind.the-variants.{Lock, Resume}
 use Rattle.rules.specs.declared.Counts.{Counts}
-use Rattle.rules.specs.Events.{C, K, N, Y, place, among, is, of, on, locks, unlocks}
+use Rattle.rules.specs.Events.{place, is, of, on, locks}
 use Rattle.rules.specs.Words.{by, locksBy, gripAfter, grip, depth, remembered}
 use Rattle.rules.specs.Rules as Rules
-use Rattle.rules.specs.Rules.{wordsOf, held, judge}
-use Rattle.rules.proofs.Laws.{is-true, cases, and-left, allOf, is-among, resume-waits}
+use Rattle.rules.specs.Rules.{loc, wordsOf, held, judge}
+use Rattle.rules.proofs.Laws.{is-true, and-left, resume-waits}
+use Rattle.rules.proofs.Cells.{eventBy}
 use Rattle.rules.proofs.Held.{depth-keeps, depth-gains}
 use Rattle.sections.specs.Places.{unlocksBy, holdsSome}
 use Rattle.sections.specs.Refusals.{afterUnlock}
@@ -76,40 +77,18 @@ module _ (h : Counts) (t : ℕ) (e : Event) (es : List Event) where
       go true q = rw (keeps-held n (after-held q))
       go false q = and-false (holdsSome h t (e ∷ es))
 
--- ---- what a thread has of a lock, after any list
-
-module _ (t l : ℕ) (e : Event) (es : List Event) where
-  -- it stays at an event of another thread or on another lock,
-  pub grip-other : (of t e && on l e) ≡ false → grip t l (e ∷ es) ≡ grip t l es
-  unfolding grip gripAfter by
-  grip-other q = simp (q, and-false)
-
-  -- and at one that neither locks nor unlocks
-  pub grip-kept : locks e ≡ false → unlocks e ≡ false → grip t l (e ∷ es) ≡ grip t l es
-  unfolding grip gripAfter by locks unlocks
-  grip-kept p q = rw (none (K ∷ []) (K ∷ C ∷ []) tt p, none (C ∷ []) (K ∷ C ∷ []) tt p, none (N ∷ []) (N ∷ Y ∷ []) tt q, none (Y ∷ []) (N ∷ Y ∷ []) tt q)
-    where
-      none : (ks js : List ℕ) → T (allOf (among js) ks) → is js e ≡ false → is ks e ≡ false
-      none ks js a q = cases (is ks e) (λ p. absurd (subst T q (is-among ks js e a (subst T (sym p) tt)))) (λ p. p)
-
 -- ---- a K or C that the rules accept takes its lock
 
-pub lock-taken : (h : Counts) (es : List Event) (k : Kind) (u ln : ℕ) → judge h (wordsOf es) (record { thread = u; line = ln; kind = k }) ≡ 0 → locks (record { thread = u; line = ln; kind = k }) ≡ true
-    → held (wordsOf (record { thread = u; line = ln; kind = k } ∷ es)) u (place k) ≡ true
+pub lock-taken : (h : Counts) (es : List Event) (e : Event) → judge h (wordsOf es) e ≡ 0 → locks e ≡ true → held (wordsOf (e ∷ es)) (e .thread) (loc e) ≡ true
 unfolding wordsOf depth grip gripAfter by is of on locks
-lock-taken h es (Lock i) u ln j q = rw (eqb-yes u u refl, eqb-yes i i refl) (lt-ltb 0 (suc (grip u i es .held)) (omega arith))
-lock-taken h es (Resume i) u ln j q = rw (eqb-yes u u refl, eqb-yes i i refl, waited, waited)
+lock-taken h es e j q = go (e .kind) j (subst T (sym q) tt)
   where
-    waited : ltb 0 (grip u i es .remembered) ≡ true
-    waited = unfold remembered in is-true (and-left (ltb 0 (remembered u i es)) (wordsOf es .notified u i) (subst T (sym (resume-waits h (wordsOf es) (record { thread = u; line = ln; kind = Resume i }) j tt)) tt))
-lock-taken h es (Use v x) u ln j q = absurd (false≢true q)
-lock-taken h es (Assign v x) u ln j q = absurd (false≢true q)
-lock-taken h es (Load v x) u ln j q = absurd (false≢true q)
-lock-taken h es (Store v x) u ln j q = absurd (false≢true q)
-lock-taken h es (Read v x) u ln j q = absurd (false≢true q)
-lock-taken h es (Write v x) u ln j q = absurd (false≢true q)
-lock-taken h es (Unlock i) u ln j q = absurd (false≢true q)
-lock-taken h es (PrescientStore v x) u ln j q = absurd (false≢true q)
-lock-taken h es (PrescientAssign v x) u ln j q = absurd (false≢true q)
-lock-taken h es (Wait i) u ln j q = absurd (false≢true q)
-lock-taken h es (Notify i x) u ln j q = absurd (false≢true q)
+    u : ℕ
+    u = e .thread
+
+    go : (k : Kind) → judge h (wordsOf es) (eventBy u (e .line) k) ≡ 0 → T (locks (eventBy u (e .line) k)) → held (wordsOf (eventBy u (e .line) k ∷ es)) u (place k) ≡ true
+    go (Lock i) j q = rw (eqb-yes u u refl, eqb-yes i i refl) (lt-ltb 0 (suc (grip u i es .held)) (omega arith))
+    go (Resume i) j q = rw (eqb-yes u u refl, eqb-yes i i refl, waited, waited)
+      where
+        waited : ltb 0 (grip u i es .remembered) ≡ true
+        waited = unfold remembered in is-true (and-left (ltb 0 (remembered u i es)) (wordsOf es .notified u i) (subst T (sym (resume-waits h (wordsOf es) (eventBy u (e .line) (Resume i)) j tt)) tt))

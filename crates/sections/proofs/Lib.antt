@@ -1,4 +1,5 @@
 pub mod Valid
+pub mod Viewed
 pub mod Cells
 pub mod Judged
 pub mod Whole

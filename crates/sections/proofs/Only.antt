@@ -3,16 +3,16 @@ use Prim.Native.Nat.{ℕ, _<_}
 use native.Mathlib.Omega.{arith}
 use mathlib.Core.Path.{_≡_, refl, sym, ap, ap₂, _∙_, subst}
 use mathlib.Core.Logic.{inl, inr}
-use mathlib.Core.Bool.{true, false≢true}
+use mathlib.Core.Bool.{false≢true}
 use mathlib.Core.List.{List, [], _∷_, map}
+use lib.Dec.{T}
 use lib.ListN.{length}
 use Rattle.rules.specs.declared.Event.{Event}
 use Rattle.rules.specs.declared.Counts.{Counts}
-use Rattle.rules.specs.declared.Kind.{Kind}
-use Rattle.rules.specs.declared.Kind.the-variants.{Use, Assign, Load, Store, Read, Write, Lock, Unlock, PrescientStore, PrescientAssign, Wait, Notify, Resume}
-use Rattle.rules.specs.Events.{is, locks}
+use Rattle.rules.specs.Events.{A, B, C, K, U, locks}
 use Rattle.rules.specs.Limits.{lineAfter}
 use Rattle.rules.specs.Words.{locksBy}
+use Rattle.rules.proofs.Laws.{is-apart}
 use Rattle.serial.specs.Lists.{All}
 use Rattle.sections.specs.CriticalSections.{Entry, CriticalSection, lockPoint, Member, Rising, SerialOrder}
 use Rattle.sections.specs.Places.{usesOrAssigns, lockAt}
@@ -61,28 +61,11 @@ one-order h events l k s r =
 meet : (p q : ℕ) → (p < q → ⊥) → (q < p → ⊥) → p ≡ q
 meet p q a b = omega arith
 
--- no event is both a use or assign and a K
-not-both : (t u ln : ℕ) (k : Kind) → usesOrAssigns (record { thread = u; line = ln; kind = k }) ≡ true → locksBy t (record { thread = u; line = ln; kind = k }) ≡ true → ⊥
-unfolding usesOrAssigns locksBy locks is
-not-both t u ln (Use v x) a b = false≢true b
-not-both t u ln (Assign v x) a b = false≢true b
-not-both t u ln (Load v x) a b = false≢true b
-not-both t u ln (Store v x) a b = false≢true b
-not-both t u ln (Read v x) a b = false≢true b
-not-both t u ln (Write v x) a b = false≢true b
-not-both t u ln (Lock l) a b = false≢true a
-not-both t u ln (Unlock l) a b = false≢true b
-not-both t u ln (PrescientStore v x) a b = false≢true b
-not-both t u ln (PrescientAssign v x) a b = false≢true b
-not-both t u ln (Wait l) a b = false≢true a
-not-both t u ln (Notify l x) a b = false≢true a
-not-both t u ln (Resume l) a b = false≢true a
-
 module _ (h : Counts) (guard : ℕ → ℕ) (events : List Event) where
   -- no line breaks both 20 and 21
   apart : (n : ℕ) → Unguarded h guard events n → LateLock h events n → ⊥
-  unfolding lockAt
-  apart n r s = not-both (s .thread) (r .event .thread) (r .event .line) (r .event .kind) (r .used) (rw (r .stands) at (s .locks))
+  unfolding lockAt usesOrAssigns locksBy locks
+  apart n r s = false≢true (rw (r .stands, is-apart (U ∷ A ∷ B ∷ []) (K ∷ C ∷ []) (r .event) tt (subst T (sym (r .used)) tt)) at (s .locks))
 
   -- a first line that breaks 20 is not a first one that breaks 21
   cross : (p q : ℕ) → Clean h guard events p → Unguarded h guard events p → Clean h guard events q → LateLock h events q → ⊥

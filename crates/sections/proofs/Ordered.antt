@@ -12,14 +12,14 @@ use lib.IntN.{ℤ, pos}
 use lib.ListN.{length}
 use Rattle.rules.specs.declared.Event.{Event}
 use Rattle.rules.specs.declared.Kind.{Kind}
-use Rattle.rules.specs.declared.Kind.the-variants.{Use, Assign, Load, Store, Read, Write, Lock, Unlock, PrescientStore, PrescientAssign, Wait, Notify, Resume}
-use Rattle.rules.specs.Events.{B, P, is, of, on, locks, unlocks}
+use Rattle.rules.specs.Events.{B, P, is, of, on, lockLetters, onLock}
 use Rattle.rules.specs.declared.Counts.{Counts}
 use Rattle.rules.specs.Words.{by, pending, main, latest, letterIn}
 use Rattle.rules.specs.Rules as Rules
 use Rattle.rules.specs.Rules.{wordsOf, held, waits}
 use Rattle.rules.specs.Limits.{lineAfter}
-use Rattle.rules.proofs.Laws.{is-true, and-left, and-right, or-false-left, or-false-right, some-has, some-none}
+use Rattle.rules.proofs.Laws.{is-true, and-left, and-right, or-false-left, or-false-right, is-apart, some-has, some-none}
+use Rattle.rules.proofs.Cells.{eventBy}
 use Rattle.serial.specs.Words as C
 use Rattle.serial.specs.Events as E
 use Rattle.serial.specs.Sections as Q
@@ -28,12 +28,13 @@ use Rattle.serial.specs.Entry.{Entry as Span, entry as span}
 use Rattle.serial.specs.Lists.{All}
 use Rattle.serial.proofs.Serial.{Ended}
 use Rattle.serial.proofs.Trace as Trace
-use Rattle.sections.specs.View.{viewed, view}
+use Rattle.sections.specs.View.{view}
 use Rattle.sections.specs.Places.{usesOrAssigns, unlocksBy, holdsSome}
 use Rattle.sections.specs.Denials.{Denial, fit, denied}
 use Rattle.sections.specs.Refusals.{afterUnlock, notUnder, lateLock, unfinished, denialFrom, denial}
 use Rattle.sections.specs.Order.{told, sections}
-use Rattle.sections.proofs.Valid.{Valid, Numbered, Declared}
+use Rattle.sections.proofs.Valid.{Valid, Declared, variable-low}
+use Rattle.sections.proofs.Viewed.{Viewed, mem, lock, unlock, idle, onVariable, memory, facts, seen, whose, locking, unlocking}
 use Rattle.sections.proofs.Cells.{cellOf, cells, mains, length-view, eqb-yes, eqb-no}
 use Rattle.sections.proofs.Whole.{accepted, exclusive, to-held, from-held, holds-known, holds-below}
 
@@ -54,41 +55,10 @@ pub busy-some : (h : Counts) (t l : ℕ) (es : List Event) → All (Declared h) 
 unfolding holdsSome
 busy-some h t l es d b = some-has (h .locks) (λ l. held (wordsOf es) t l) l (lock-below h t l es d b) (to-held t l es b)
 
-pub whose : (k : Kind) (u : ℕ) → E.thread (viewed u k) ≡ u
-whose (Use v x) u = refl
-whose (Assign v x) u = refl
-whose (Load v x) u = refl
-whose (Store v x) u = refl
-whose (Read v x) u = refl
-whose (Write v x) u = refl
-whose (Lock l) u = refl
-whose (Unlock l) u = refl
-whose (PrescientStore v x) u = refl
-whose (PrescientAssign v x) u = refl
-whose (Wait l) u = refl
-whose (Notify l x) u = refl
-whose (Resume l) u = refl
-
 -- ---- 21
 
-pub unlocking : (k : Kind) (u ln t l j : ℕ) → viewed u k ≡ E.unlock j t l → unlocksBy t (record { thread = u; line = ln; kind = k }) ≡ true
-unfolding unlocksBy unlocks is of
-unlocking (Unlock i) u ln t l j p = eqb-yes u t (cc)
-unlocking (Wait i) u ln t l j p = eqb-yes u t (cc)
-unlocking (Use v x) u ln t l j p = cc
-unlocking (Assign v x) u ln t l j p = cc
-unlocking (Load v x) u ln t l j p = cc
-unlocking (Store v x) u ln t l j p = cc
-unlocking (Read v x) u ln t l j p = cc
-unlocking (Write v x) u ln t l j p = cc
-unlocking (Lock i) u ln t l j p = cc
-unlocking (PrescientStore v x) u ln t l j p = cc
-unlocking (PrescientAssign v x) u ln t l j p = cc
-unlocking (Notify i x) u ln t l j p = cc
-unlocking (Resume i) u ln t l j p = cc
-
 shrunk : (h : Counts) (t : ℕ) (es : List Event) → All (Declared h) es → Q.Shrunk H.counted t (map view es) → afterUnlock h t es ≡ true
-unfolding Q.Shrunk afterUnlock
+unfolding Q.Shrunk afterUnlock unlocksBy of
 shrunk h t [] d s = absurd s
 shrunk h t (e ∷ es) d s = both (holdsSome h t (e ∷ es)) (unlocksBy t e || afterUnlock h t es) (busy-some h t (s .0 .0) (e ∷ es) d (s .0 .1)) (go (s .1) (shrunk h t es (d .1)))
   where
@@ -96,24 +66,8 @@ shrunk h t (e ∷ es) d s = both (holdsSome h t (e ∷ es)) (unlocksBy t e || af
     both a b p q = rw (p, q)
 
     go : ((l j : ℕ) × (view e ≡ E.unlock j t l)) ⊎ Q.Shrunk H.counted t (map view es) → (Q.Shrunk H.counted t (map view es) → afterUnlock h t es ≡ true) → (unlocksBy t e || afterUnlock h t es) ≡ true
-    go (inl p) r = rw (unlocking (e .kind) (e .thread) (e .line) t (p .0) (p .1) (p .2))
+    go (inl p) r = let q = unlocking e t (p .0) (p .1) (p .2) in rw (q .0, eqb-yes (e .thread) t (q .1))
     go (inr q) r = rw (r q) (or-true (unlocksBy t e))
-
-pub locking : (k : Kind) (u ln t l j : ℕ) → viewed u k ≡ E.lock j t l → (locks (record { thread = u; line = ln; kind = k }) ≡ true) × (u ≡ t)
-unfolding locks is
-locking (Lock i) u ln t l j p = (refl, cc)
-locking (Resume i) u ln t l j p = (refl, cc)
-locking (Use v x) u ln t l j p = (cc, cc)
-locking (Assign v x) u ln t l j p = (cc, cc)
-locking (Load v x) u ln t l j p = (cc, cc)
-locking (Store v x) u ln t l j p = (cc, cc)
-locking (Read v x) u ln t l j p = (cc, cc)
-locking (Write v x) u ln t l j p = (cc, cc)
-locking (Unlock i) u ln t l j p = (cc, cc)
-locking (PrescientStore v x) u ln t l j p = (cc, cc)
-locking (PrescientAssign v x) u ln t l j p = (cc, cc)
-locking (Wait i) u ln t l j p = (cc, cc)
-locking (Notify i x) u ln t l j p = (cc, cc)
 
 not-true : (b : Bool) → T (not b) → b ≡ true → ⊥
 not-true true h p = h
@@ -129,7 +83,7 @@ two-phase h guard (e ∷ es) d o = (here, two-phase h guard es (d .1) (and-right
 
     here : (t l j : ℕ) → view e ≡ E.lock j t l → Q.Shrunk H.counted t (map view es) → ⊥
     here t l j p s =
-        let q : (locks e ≡ true) × (e .thread ≡ t) = locking (e .kind) (e .thread) (e .line) t l j p in
+        let q = locking e t l j p in
         not-true (lateLock h es e) (and-left (not (lateLock h es e)) (orderly h guard es) rest) (rw (q .0, q .1) (shrunk h t es (d .1) s))
 
 -- ---- 20
@@ -142,38 +96,22 @@ false-of : (b : Bool) → T (not b) → b ≡ false
 false-of true h = absurd h
 false-of false h = refl
 
-under-one : (guard : ℕ → ℕ) (v : ℕ) (es : List Event) (k : Kind) (u ln : ℕ) → notUnder guard es (record { thread = u; line = ln; kind = k }) ≡ false
-    → C.uses v (viewed u k) ≡ true → H.Holds u (guard v) (map view es)
+under-one : (guard : ℕ → ℕ) (v : ℕ) (es : List Event) (u ln : ℕ) {k : Kind} {x : E.Event ℤ} → Viewed u k x → notUnder guard es (eventBy u ln k) ≡ false → C.uses v x ≡ true → H.Holds u (guard v) (map view es)
 unfolding notUnder usesOrAssigns is
-under-one guard v es k u ln = go k
+under-one guard v es u ln (mem κ w y) n p = see (ℕ-discrete w v) p
   where
-    own : (κ : E.Kind) (v′ : ℕ) (x : ℤ) → (C.guarded κ ≡ true → not (held (wordsOf es) u (guard v′)) ≡ false) → C.uses v (E.mem κ u v′ x) ≡ true → H.Holds u (guard v) (map view es)
-    own κ v′ x n = see (ℕ-discrete v′ v)
-      where
-        see : (d : Dec (v′ ≡ v)) → C.guardedAt (ite {C = C.Touch ℤ} d (C.at κ x) C.elsewhere) ≡ true → H.Holds u (guard v) (map view es)
-        see (yes q) p = subst (λ i. H.Holds u (guard i) (map view es)) q (from-held u (guard v′) es (untrue (held (wordsOf es) u (guard v′)) (n p)))
-        see (no q) p = absurd (false≢true p)
-
-    go : (k : Kind) → notUnder guard es (record { thread = u; line = ln; kind = k }) ≡ false → C.uses v (viewed u k) ≡ true → H.Holds u (guard v) (map view es)
-    go (Use v′ x) n p = own E.Use v′ x (λ _. n) p
-    go (Assign v′ x) n p = own E.Assign v′ x (λ _. n) p
-    go (PrescientAssign v′ x) n p = own E.PrescientAssign v′ x (λ _. n) p
-    go (Load v′ x) n p = own E.Load v′ x (λ q. absurd (false≢true q)) p
-    go (Store v′ x) n p = own E.Store v′ x (λ q. absurd (false≢true q)) p
-    go (Read v′ x) n p = own E.Read v′ x (λ q. absurd (false≢true q)) p
-    go (Write v′ x) n p = own E.Write v′ x (λ q. absurd (false≢true q)) p
-    go (PrescientStore v′ x) n p = own E.PrescientStore v′ x (λ q. absurd (false≢true q)) p
-    go (Lock l) n p = absurd (false≢true p)
-    go (Unlock l) n p = absurd (false≢true p)
-    go (Wait l) n p = absurd (false≢true p)
-    go (Notify l x) n p = absurd (false≢true p)
-    go (Resume l) n p = absurd (false≢true p)
+    see : (d : Dec (w ≡ v)) → C.guardedAt (ite {C = C.Touch ℤ} d (C.at κ y) C.elsewhere) ≡ true → H.Holds u (guard v) (map view es)
+    see (yes q) p = subst (λ i. H.Holds u (guard i) (map view es)) q (from-held u (guard w) es (untrue _ (rw (sym (facts κ w y .guarded) ∙ p, facts κ w y .places) at n)))
+    see (no q) p = absurd (false≢true p)
+under-one guard v es u ln (lock j a i) n p = absurd (false≢true p)
+under-one guard v es u ln (unlock j a i) n p = absurd (false≢true p)
+under-one guard v es u ln (idle a) n p = absurd (false≢true p)
 
 pub under : (h : Counts) (guard : ℕ → ℕ) (v : ℕ) (es : List Event) → T (orderly h guard es) → Q.Under H.counted (C.uses v) (guard v) (map view es)
 unfolding Q.Under orderly
 under h guard v [] o = tt
 under h guard v (e ∷ es) o = (
-  here (under-one guard v es (e .kind) (e .thread) (e .line) (false-of (notUnder guard es e) (and-left (not (notUnder guard es e)) (not (lateLock h es e) && orderly h guard es) o))),
+  here (under-one guard v es (e .thread) (e .line) (seen (e .thread) (e .kind)) (false-of (notUnder guard es e) (and-left (not (notUnder guard es e)) (not (lateLock h es e) && orderly h guard es) o))),
   under h guard v es (and-right (not (lateLock h es e)) (orderly h guard es) (and-right (not (notUnder guard es e)) (not (lateLock h es e) && orderly h guard es) o)),
 )
   where
@@ -236,23 +174,15 @@ All-turn P [] m h k = k
 All-turn P (a ∷ l) m h k = All-turn P l (a ∷ m) (h .1) (h .0, k)
 
 names : (h : Counts) (es : List Event) → All (Declared h) es → All (Trace.Names (h .variables)) (map view es)
+unfolding onLock
 names h [] d = tt
-names h (e ∷ es) d = (one (e .kind) (e .thread) (d .0 .1), names h es (d .1))
+names h (e ∷ es) d = (one (seen (e .thread) (e .kind)) (d .0), names h es (d .1))
   where
-    one : (k : Kind) (u : ℕ) → Numbered h k → Trace.Names (h .variables) (viewed u k)
-    one (Use v x) u m = m
-    one (Assign v x) u m = m
-    one (Load v x) u m = m
-    one (Store v x) u m = m
-    one (Read v x) u m = m
-    one (Write v x) u m = m
-    one (Lock l) u m = tt
-    one (Unlock l) u m = tt
-    one (PrescientStore v x) u m = m
-    one (PrescientAssign v x) u m = m
-    one (Wait l) u m = tt
-    one (Notify l x) u m = tt
-    one (Resume l) u m = tt
+    one : {k : Kind} {x : E.Event ℤ} → Viewed (e .thread) k x → Declared h (eventBy (e .thread) (e .line) k) → Trace.Names (h .variables) x
+    one (mem κ v y) m = let e = eventBy (e .thread) (e .line) (onVariable κ v y) in rw (facts κ v y .places) at (variable-low h e m (is-apart memory lockLetters e tt (unfold is in facts κ v y .has)))
+    one (lock j a i) m = tt
+    one (unlock j a i) m = tt
+    one (idle a) m = tt
 
 -- ---- the order, by the rules' test of what a thread holds and by the theory's
 

@@ -3,7 +3,6 @@ use Prim.Native.Nat.{ℕ, suc, _≤_}
 use native.Mathlib.Decide.{ℕ-discrete, decLe}
 use native.Mathlib.Omega.{arith}
 use mathlib.Core.Path.{_≡_, refl, sym, ap, ap₂, _∙_}
-use mathlib.Core.Logic.{ite}
 use mathlib.Core.Bool.{cond, _&&_}
 use mathlib.Core.List.{List, [], _∷_, _++_, map}
 use lib.Dec.{eqb, leb}
@@ -12,20 +11,22 @@ use borrow.Author.Tests.{le-leb, lt-leb, eq-eqb, ne-eqb}
 use Rattle.rules.specs.declared.Event.{Event}
 use Rattle.rules.specs.declared.Counts.{Counts}
 use Rattle.rules.specs.declared.Kind.{Kind}
-use Rattle.rules.specs.declared.Kind.the-variants.{Use, Assign, Load, Store, Read, Write, Lock, Unlock, PrescientStore, PrescientAssign, Wait, Notify, Resume}
 use Rattle.rules.specs.Limits.{firstLine}
 use Rattle.rules.proofs.Bounds.{first-line-low}
-use Rattle.rules.specs.Events.{U, place, value, is, of, on}
+use Rattle.rules.specs.Events.{A, B, C, K, N, U, Y, place, value, is, of}
+use Rattle.rules.proofs.Laws.{is-apart}
+use Rattle.rules.proofs.Cells.{eventBy}
 use Rattle.serial.specs.Entry.{entry as span}
 use Rattle.serial.specs.Sections.{Section}
 use Rattle.serial.specs.Events as E
 use Rattle.serial.specs.Words as C
 use Rattle.serial.proofs.Lines.{join}
 use Rattle.serial.proofs.Trace as Trace
-use Rattle.sections.specs.View.{viewed, view}
+use Rattle.sections.specs.View.{view}
 use Rattle.sections.specs.Order.{lineOf, entry}
 use Rattle.sections.specs.Sequential.{takes, partFrom, part, serially, assign, after, given, stated}
-use Rattle.sections.proofs.Ordered.{whose}
+use Rattle.sections.proofs.Viewed.{Viewed, mem, lock, unlock, idle, idling, facts, seen, whose}
+use Rattle.sections.proofs.Cells.{touched}
 
 -- a section's events: by positions from p on, and by lines from n on
 part-view : (hd : Counts) (p n : ℕ) (s : Section ℤ) (es : List Event) → n ≡ lineOf hd p → Trace.between p (s .owner) (s .first) (s .last) (map view es) ≡ map view (partFrom n (entry hd s) es)
@@ -54,86 +55,36 @@ unfolding Trace.serially serially part
 serially-view hd [] events = refl
 serially-view hd (s ∷ ss) events = ap₂ (λ a b. a ++ b) (part-view hd 1 (firstLine hd) s events (omega arith)) (serially-view hd ss events) ∙ sym (map-join (partFrom (firstLine hd) (entry hd s) events) (serially hd (map (entry hd) ss) events))
 
-assign-view : (m : ℕ → ℤ) (v t ln : ℕ) (k : Kind) → Trace.set (viewed t k) m v ≡ assign (record { thread = t; line = ln; kind = k }) m v
-unfolding assign is on
-assign-view m v t ln k = go k
-  where
-    quiet : (κ : E.Kind) (w : ℕ) (x : ℤ) → C.assigned κ x (m v) ≡ m v → C.through C.assigned (ite {C = C.Touch ℤ} (ℕ-discrete w v) (C.at κ x) C.elsewhere) (m v) ≡ m v
-    quiet κ w x h = see (ℕ-discrete w v)
-      where
-        see : (d : Dec (w ≡ v)) → C.through C.assigned (ite {C = C.Touch ℤ} d (C.at κ x) C.elsewhere) (m v) ≡ m v
-        see (yes p) = h
-        see (no p) = refl
-
-    loud : (κ : E.Kind) (w : ℕ) (x : ℤ) → C.assigned κ x (m v) ≡ x → C.through C.assigned (ite {C = C.Touch ℤ} (ℕ-discrete w v) (C.at κ x) C.elsewhere) (m v) ≡ cond (eqb w v) x (m v)
-    loud κ w x h = see (ℕ-discrete w v)
-      where
-        see : (d : Dec (w ≡ v)) → C.through C.assigned (ite {C = C.Touch ℤ} d (C.at κ x) C.elsewhere) (m v) ≡ cond (eqb w v) x (m v)
-        see (yes p) = rw (eq-eqb w v p) h
-        see (no p) = rw (ne-eqb w v p)
-
-    go : (k : Kind) → Trace.set (viewed t k) m v ≡ assign (record { thread = t; line = ln; kind = k }) m v
-    go (Use w x) = quiet E.Use w x refl
-    go (Assign w x) = loud E.Assign w x refl
-    go (Load w x) = quiet E.Load w x refl
-    go (Store w x) = quiet E.Store w x refl
-    go (Read w x) = quiet E.Read w x refl
-    go (Write w x) = quiet E.Write w x refl
-    go (Lock l) = refl
-    go (Unlock l) = refl
-    go (Wait l) = refl
-    go (Notify l u) = refl
-    go (Resume l) = refl
-    go (PrescientStore w x) = quiet E.PrescientStore w x refl
-    go (PrescientAssign w x) = loud E.PrescientAssign w x refl
+assign-view : (m : ℕ → ℤ) (v u ln : ℕ) {k : Kind} {x : E.Event ℤ} → Viewed u k x → Trace.set x m v ≡ assign (eventBy u ln k) m v
+unfolding assign is
+assign-view m v u ln (mem κ w x) = touched C.assigned (A ∷ B ∷ []) u ln v κ w x (m v) (facts κ w x .assigned (m v))
+assign-view m v u ln {k} (lock j a i) = rw (is-apart (K ∷ C ∷ []) (A ∷ B ∷ []) (eventBy u ln k) tt a)
+assign-view m v u ln {k} (unlock j a i) = rw (is-apart (N ∷ Y ∷ []) (A ∷ B ∷ []) (eventBy u ln k) tt a)
+assign-view m v u ln {k} (idle a) = rw (is-apart idling (A ∷ B ∷ []) (eventBy u ln k) tt a)
 
 set-view : (e : Event) (m : ℕ → ℤ) → Trace.set (view e) m ≡ assign e m
-set-view e m = λ i. λ v. assign-view m v (e .thread) (e .line) (e .kind) i
+set-view e m = λ i. λ v. assign-view m v (e .thread) (e .line) (seen (e .thread) (e .kind)) i
 
 pub after-view : (es : List Event) (m : ℕ → ℤ) → Trace.after (map view es) m ≡ after es m
 unfolding Trace.after after
 after-view [] m = refl
 after-view (e ∷ es) m = after-view es (Trace.set (view e) m) ∙ ap (after es) (set-view e m)
 
+-- what a use is given, and says
+used : (u ln : ℕ) {k : Kind} {x : E.Event ℤ} → Viewed u k x → (m : ℕ → ℤ) (xs : List ℤ)
+    → (Trace.got x m xs ≡ cond (is (U ∷ []) (eventBy u ln k)) (m (place k) ∷ xs) xs) × (Trace.says x xs ≡ cond (is (U ∷ []) (eventBy u ln k)) (value k ∷ xs) xs)
+unfolding is
+used u ln (mem κ w x) m xs = (rw (facts κ w x .places) (facts κ w x .got u m xs), rw (facts κ w x .values) (facts κ w x .says u xs))
+used u ln {k} (lock j a i) m xs = let q = is-apart (K ∷ C ∷ []) (U ∷ []) (eventBy u ln k) tt a in (rw q, rw q)
+used u ln {k} (unlock j a i) m xs = let q = is-apart (N ∷ Y ∷ []) (U ∷ []) (eventBy u ln k) tt a in (rw q, rw q)
+used u ln {k} (idle a) m xs = let q = is-apart idling (U ∷ []) (eventBy u ln k) tt a in (rw q, rw q)
+
 pub given-view : (es : List Event) (m : ℕ → ℤ) → Trace.given m (map view es) ≡ given es m
-unfolding Trace.given given is
+unfolding Trace.given given
 given-view [] m = refl
-given-view (e ∷ es) m = go (e .kind) (given-view es (Trace.set (view e) m) ∙ ap (given es) (set-view e m))
-  where
-    go : (k : Kind) → Trace.given (Trace.set (view e) m) (map view es) ≡ given es (assign e m)
-        → Trace.got (viewed (e .thread) k) m (Trace.given (Trace.set (view e) m) (map view es))
-        ≡ cond (is (U ∷ []) (record { thread = e .thread; line = e .line; kind = k })) (m (place k) ∷ given es (assign e m)) (given es (assign e m))
-    go (Use w x) h = ap (λ l. m w ∷ l) h
-    go (Assign w x) h = h
-    go (Load w x) h = h
-    go (Store w x) h = h
-    go (Read w x) h = h
-    go (Write w x) h = h
-    go (Lock l) h = h
-    go (Unlock l) h = h
-    go (Wait l) h = h
-    go (Notify l u) h = h
-    go (Resume l) h = h
-    go (PrescientStore w x) h = h
-    go (PrescientAssign w x) h = h
+given-view (e ∷ es) m = ap (Trace.got (view e) m) (given-view es (Trace.set (view e) m) ∙ ap (given es) (set-view e m)) ∙ used (e .thread) (e .line) (seen (e .thread) (e .kind)) m (given es (assign e m)) .0
 
 pub stated-view : (es : List Event) → Trace.stated (map view es) ≡ stated es
-unfolding Trace.stated stated is
+unfolding Trace.stated stated
 stated-view [] = refl
-stated-view (e ∷ es) = go (e .kind) (stated-view es)
-  where
-    go : (k : Kind) → Trace.stated (map view es) ≡ stated es
-        → Trace.says (viewed (e .thread) k) (Trace.stated (map view es)) ≡ cond (is (U ∷ []) (record { thread = e .thread; line = e .line; kind = k })) (value k ∷ stated es) (stated es)
-    go (Use w x) h = ap (λ l. x ∷ l) h
-    go (Assign w x) h = h
-    go (Load w x) h = h
-    go (Store w x) h = h
-    go (Read w x) h = h
-    go (Write w x) h = h
-    go (Lock l) h = h
-    go (Unlock l) h = h
-    go (Wait l) h = h
-    go (Notify l u) h = h
-    go (Resume l) h = h
-    go (PrescientStore w x) h = h
-    go (PrescientAssign w x) h = h
+stated-view (e ∷ es) = ap (Trace.says (view e)) (stated-view es) ∙ used (e .thread) (e .line) (seen (e .thread) (e .kind)) (λ v. value (e .kind)) (stated es) .1

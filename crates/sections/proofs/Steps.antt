@@ -3,7 +3,7 @@ use Prim.Native.Nat.{ℕ, zero, suc, _≤_, _<_}
 use native.Mathlib.Decide.{ℕ-discrete}
 use native.Mathlib.Omega.{arith}
 use mathlib.Core.Path.{_≡_, refl, sym, ap, _∙_, subst}
-use mathlib.Core.Bool.{Bool, true, false, _&&_, and-false, false≢true}
+use mathlib.Core.Bool.{Bool, true, false, _&&_, and-false}
 use mathlib.Core.List.{List, [], _∷_, reverse}
 use mathlib.Core.Option.{some}
 use lib.Dec.{T, eqb, eqb→eq}
@@ -12,13 +12,13 @@ use lib.ListN.{length}
 use borrow.Author.Tests.{eq-eqb, ne-eqb}
 use Rattle.rules.specs.declared.Event.{Event}
 use Rattle.rules.specs.declared.Kind.{Kind}
-use Rattle.rules.specs.declared.Kind.the-variants.{Use, Assign, Load, Store, Read, Write, Lock, Unlock, PrescientStore, PrescientAssign, Wait, Notify, Resume}
 use Rattle.rules.specs.declared.Counts.{Counts}
-use Rattle.rules.specs.Events.{is, of, locks, unlocks}
+use Rattle.rules.specs.Events.{C, K, N, Y, place, is, of, locks, unlocks}
 use Rattle.rules.specs.Words.{locksBy, grip, depth}
 use Rattle.rules.specs.Rules as Rules
 use Rattle.rules.specs.Rules.{loc, wordsOf, held}
-use Rattle.rules.proofs.Laws.{is-true, and-left, and-right}
+use Rattle.rules.proofs.Laws.{is-true, and-left, and-right, is-apart}
+use Rattle.rules.proofs.Cells.{eventBy}
 use Rattle.serial.specs.Events as E
 use Rattle.serial.specs.Lists.{All}
 use Rattle.serial.specs.Sections as Q
@@ -27,27 +27,16 @@ use Rattle.sections.specs.Order.{told, sections}
 use Rattle.sections.specs.Places.{soFar, unlocksBy, holdsSome}
 use Rattle.sections.proofs.Valid.{Valid, row, Declared}
 use Rattle.sections.proofs.Whole.{from-held}
-use Rattle.sections.proofs.Ordered.{whose, busy-some}
+use Rattle.sections.proofs.Viewed.{Viewed, mem, lock, unlock, idle, onVariable, memory, idling, facts, seen, whose}
+use Rattle.sections.proofs.Ordered.{busy-some}
 use Rattle.sections.proofs.Holding.{keeps-held, stays-idle, lock-taken}
 use Rattle.sections.proofs.Places.{locksAt, unlocksAt, holdsAfter, Here, at-place, length-so-far, all-so-far, valid-so-far, lock-signal, unlock-signal, holds-more}
 use Rattle.serial.proofs.Stacks.{own, grow, own-push, own-next-other, own-next-lock, own-next-open}
 use Rattle.serial.proofs.Signals.{Step, Stack, none-yet, other-busy, out, opening, raising, going}
 
-not-both : (u t ln : ℕ) (k : Kind) → locksBy u (record { thread = t; line = ln; kind = k }) ≡ true → unlocksBy u (record { thread = t; line = ln; kind = k }) ≡ false
-unfolding locksBy unlocksBy locks unlocks is
-not-both u t ln (Lock l) q = refl
-not-both u t ln (Use v x) q = refl
-not-both u t ln (Assign v x) q = refl
-not-both u t ln (Load v x) q = refl
-not-both u t ln (Store v x) q = refl
-not-both u t ln (Read v x) q = refl
-not-both u t ln (Write v x) q = refl
-not-both u t ln (Unlock l) q = absurd (false≢true q)
-not-both u t ln (PrescientStore v x) q = refl
-not-both u t ln (PrescientAssign v x) q = refl
-not-both u t ln (Wait l) q = absurd (false≢true q)
-not-both u t ln (Notify l x) q = refl
-not-both u t ln (Resume l) q = refl
+not-both : (u : ℕ) (e : Event) → locksBy u e ≡ true → unlocksBy u e ≡ false
+unfolding locksBy unlocksBy locks unlocks
+not-both u e q = rw (is-apart (K ∷ C ∷ []) (N ∷ Y ∷ []) e tt (and-left (is (K ∷ C ∷ []) e) (of u e) (subst T (sym q) tt)))
 
 none-held : (n : ℕ) (t : ℕ) → Rules.some n (λ l. Rules.held (wordsOf []) t l) ≡ false
 unfolding Rules.some wordsOf depth grip
@@ -93,7 +82,7 @@ module _ (c : Counts) (events : List Event) (d : All (Declared c) events) (a : V
       lock-holds k =
           now ∙ busy-some c u (loc e) (e ∷ es) both
           (from-held u (loc e) (e ∷ es)
-          (subst (λ t. held (wordsOf (e ∷ es)) t (loc e) ≡ true) mine (lock-taken c es (e .kind) (e .thread) (e .line) (row c e es valid) (is-true (and-left (locks e) (of u e) here)))))
+          (subst (λ t. held (wordsOf (e ∷ es)) t (loc e) ≡ true) mine (lock-taken c es e (row c e es valid) (is-true (and-left (locks e) (of u e) here)))))
         where
           here : T (locks e && of u e)
           here = unfold locksBy in subst T (sym (sym l-sig ∙ k)) tt
@@ -111,7 +100,7 @@ module _ (c : Counts) (events : List Event) (d : All (Declared c) events) (a : V
       busy-keeps i k = now ∙ keeps-held c u e es (sym u-sig ∙ k) (sym was ∙ i)
 
       apart : locksAt u events (suc n) ≡ true → unlocksAt u events (suc n) ≡ false
-      apart k = u-sig ∙ not-both u (e .thread) (e .line) (e .kind) (sym l-sig ∙ k)
+      apart k = u-sig ∙ not-both u e (sym l-sig ∙ k)
 
 -- ---- one event of the scan
 
@@ -130,22 +119,13 @@ module _ (L F G : ℕ → Bool) (n : ℕ) (f : Step L F G n) where
     locked j l k true g st = rw (own-next-lock {B = T true} j u l (tt {0}) (suc n) ss, f .lock-holds k) (raising L F G n f u (E.lock j u l) (own u ss) k st)
     locked j l k false g st = rw (own-next-open {B = T false} j u l (λ t. t) (suc n) ss, f .lock-holds k) (opening L F G n f u (E.lock j u l) (own u ss) g k st)
 
-    mine : (ln : ℕ) (k : Kind) → L (suc n) ≡ locks (record { thread = u; line = ln; kind = k }) → (b : Bool) → G n ≡ b → Stack L F G b n (own u ss)
-        → Stack L F G (G (suc n)) (suc n) (own u (Q.next (viewed u k) (told b) (suc n) ss))
+    mine : (ln : ℕ) {k : Kind} {x : E.Event ℤ} → Viewed u k x → L (suc n) ≡ locks (eventBy u ln k) → (b : Bool) → G n ≡ b → Stack L F G b n (own u ss)
+        → Stack L F G (G (suc n)) (suc n) (own u (Q.next x (told b) (suc n) ss))
     unfolding locks is Q.next
-    mine ln (Use v x) k b g st = plainly (E.mem E.Use u v x) (own-push u (suc n) (E.mem E.Use u v x) ss) refl k b g st
-    mine ln (Assign v x) k b g st = plainly (E.mem E.Assign u v x) (own-push u (suc n) (E.mem E.Assign u v x) ss) refl k b g st
-    mine ln (Load v x) k b g st = plainly (E.mem E.Load u v x) (own-push u (suc n) (E.mem E.Load u v x) ss) refl k b g st
-    mine ln (Store v x) k b g st = plainly (E.mem E.Store u v x) (own-push u (suc n) (E.mem E.Store u v x) ss) refl k b g st
-    mine ln (Read v x) k b g st = plainly (E.mem E.Read u v x) (own-push u (suc n) (E.mem E.Read u v x) ss) refl k b g st
-    mine ln (Write v x) k b g st = plainly (E.mem E.Write u v x) (own-push u (suc n) (E.mem E.Write u v x) ss) refl k b g st
-    mine ln (Lock l) k b g st = locked 0 l k b g st
-    mine ln (Unlock l) k b g st = plainly (E.unlock 0 u l) (own-push u (suc n) (E.unlock 0 u l) ss) refl k b g st
-    mine ln (Wait l) k b g st = plainly (E.unlock 1 u l) (own-push u (suc n) (E.unlock 1 u l) ss) refl k b g st
-    mine ln (Notify l x) k b g st = plainly (E.idle u) (own-push u (suc n) (E.idle u) ss) refl k b g st
-    mine ln (Resume l) k b g st = locked 1 l k b g st
-    mine ln (PrescientStore v x) k b g st = plainly (E.mem E.PrescientStore u v x) (own-push u (suc n) (E.mem E.PrescientStore u v x) ss) refl k b g st
-    mine ln (PrescientAssign v x) k b g st = plainly (E.mem E.PrescientAssign u v x) (own-push u (suc n) (E.mem E.PrescientAssign u v x) ss) refl k b g st
+    mine ln {x = x} (mem κ v y) q b g st = plainly x (own-push u (suc n) x ss) refl (q ∙ is-apart memory (K ∷ C ∷ []) (eventBy u ln (onVariable κ v y)) tt (facts κ v y .has)) b g st
+    mine ln {k} (lock j a i) q b g st = locked j (place k) (q ∙ is-true a) b g st
+    mine ln {k} {x} (unlock j a i) q b g st = plainly x (own-push u (suc n) x ss) refl (q ∙ is-apart (N ∷ Y ∷ []) (K ∷ C ∷ []) (eventBy u ln k) tt a) b g st
+    mine ln {k} {x} (idle a) q b g st = plainly x (own-push u (suc n) x ss) refl (q ∙ is-apart idling (K ∷ C ∷ []) (eventBy u ln k) tt a) b g st
 
     and-yes : (a b : Bool) → b ≡ true → (a && b) ≡ a
     and-yes true b h = h
@@ -163,7 +143,7 @@ module _ (L F G : ℕ → Bool) (n : ℕ) (f : Step L F G n) where
             (calm (own u ss) (k ∙ rw (ne-eqb (e .thread) u o) (and-false (locks e))) (v ∙ rw (ne-eqb (e .thread) u o) (and-false (unlocks e))) (G n) refl st)
         see (yes p) =
             subst (λ w. Stack L F G (G (suc n)) (suc n) (own u (Q.next (viewed w (e .kind)) (told b) (suc n) ss))) (sym p)
-            (mine (e .line) (e .kind) (k ∙ and-yes (locks e) (eqb (e .thread) u) (eq-eqb (e .thread) u p) ∙ unfold locks is in refl) b (g p) (subst (λ c. Stack L F G c n (own u ss)) (g p) st))
+            (mine (e .line) (seen u (e .kind)) (k ∙ and-yes (locks e) (eqb (e .thread) u) (eq-eqb (e .thread) u p) ∙ unfold locks is in refl) b (g p) (subst (λ c. Stack L F G c n (own u ss)) (g p) st))
 
 module _ (c : Counts) (events : List Event) (d : All (Declared c) events) (a : Valid c (reverse events)) where
   -- u's sections in the scan's list, after the first n events

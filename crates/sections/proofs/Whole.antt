@@ -1,28 +1,30 @@
 -- Demand 3 from the rules' own acceptance.
-use Prim.Native.Nat.{ℕ, _+_, _<_}
+use Prim.Native.Nat.{ℕ, zero, suc, _+_, _<_}
 use native.Mathlib.Decide.{ℕ-discrete, decLt}
 use native.Mathlib.Omega.{arith}
 use mathlib.Core.Path.{_≡_, refl, sym, ap, _∙_, subst}
-use mathlib.Core.Bool.{Bool, true, false, not, cond, _&&_, true≢false}
+use mathlib.Core.Bool.{Bool, true, false, not, cond, _&&_, and-false, true≢false}
 use mathlib.Core.List.{List, [], _∷_, map}
 use lib.Dec.{T, eqb, eqb→eq}
 use lib.IntN.{ℤ, pos}
 use borrow.Author.Tests.{eqb-true, lt-ltb, ltb-true}
 use Rattle.rules.specs.declared.Event.{Event}
 use Rattle.rules.specs.declared.Kind.{Kind}
-use Rattle.rules.specs.declared.Kind.the-variants.{Use, Assign, Load, Store, Read, Write, Lock, Unlock, PrescientStore, PrescientAssign, Wait, Notify, Resume}
-use Rattle.rules.specs.Events.{place, is, of, on, locks}
+use Rattle.rules.specs.Events.{place, is, of, on, lockLetters, onLock, locks}
 use Rattle.rules.specs.declared.Counts.{Counts}
 use Rattle.rules.specs.Words.{by, Grip, gripAfter, grip, depth, remembered}
 use Rattle.rules.specs.Rules.{Words, wordsOf, loc, held, waitsOn, judge}
-use Rattle.rules.proofs.Laws.{cases, lock-free, some-none}
+use Rattle.rules.proofs.Laws.{cases, is-true, is-among, is-apart, lock-free, some-none}
+use Rattle.rules.proofs.Held.{gripping, grip-kept}
+use Rattle.rules.proofs.Cells.{eventBy}
 use Rattle.serial.specs.Words as C
 use Rattle.serial.specs.Events as E
 use Rattle.serial.specs.Sections as Q
 use Rattle.serial.proofs.Counted as H
 use Rattle.serial.specs.Lists.{All}
-use Rattle.sections.specs.View.{viewed, view}
-use Rattle.sections.proofs.Valid.{Valid, before, row, Numbered, Declared}
+use Rattle.sections.specs.View.{view}
+use Rattle.sections.proofs.Valid.{Valid, before, row, Declared, lock-low}
+use Rattle.sections.proofs.Viewed.{Viewed, mem, lock, unlock, idle, onVariable, memory, idling, facts, seen, locking}
 use Rattle.sections.proofs.Cells.{cells, mains, eqb-yes, eqb-no}
 use Rattle.sections.proofs.Judged.{allowed}
 
@@ -33,7 +35,7 @@ accepted h v b [] a = tt
 accepted h v b (e ∷ es) a = (here, accepted h v b es (before h e es a))
   where
     here : (t : ℕ) → C.Allowed (C.act t v (view e)) (C.cell (pos 0) t v (map view es)) (C.main (pos 0) v (map view es))
-    here t = rw (cells h t v es (before h e es a), mains h v es (before h e es a)) (allowed h (wordsOf es) (e .kind) (e .thread) (e .line) (row h e es a) t v b)
+    here t = rw (cells h t v es (before h e es a), mains h v es (before h e es a)) (allowed h (wordsOf es) (e .thread) (e .line) (seen (e .thread) (e .kind)) (row h e es a) t v b)
 
 -- ---- the locks: what a thread has of a lock, in the theory's terms and in the rules'
 
@@ -49,27 +51,20 @@ where-cond u t i l x g = go (ℕ-discrete u t) (ℕ-discrete i l)
 abbrev gripOf : Grip → H.Grip
 gripOf g = record { held = g .held; remembered = g .remembered }
 
-one-grip : (t l : ℕ) (es : List (E.Event ℤ)) (g : Grip) → H.grip t l es ≡ gripOf g → (k : Kind) (u ln : ℕ)
-    → H.grip t l (viewed u k ∷ es) ≡ gripOf (gripAfter t l (record { thread = u; line = ln; kind = k }) g)
+one-grip : (t l : ℕ) (es : List (E.Event ℤ)) (g : Grip) → H.grip t l es ≡ gripOf g → (u ln : ℕ) {k : Kind} {x : E.Event ℤ} → Viewed u k x
+    → H.grip t l (x ∷ es) ≡ gripOf (gripAfter t l (eventBy u ln k) g)
 unfolding H.grip gripAfter by is of on
-one-grip t l es g h (Use v x) u ln = h
-one-grip t l es g h (Assign v x) u ln = h
-one-grip t l es g h (Load v x) u ln = h
-one-grip t l es g h (Store v x) u ln = h
-one-grip t l es g h (Read v x) u ln = h
-one-grip t l es g h (Write v x) u ln = h
-one-grip t l es g h (PrescientStore v x) u ln = h
-one-grip t l es g h (PrescientAssign v x) u ln = h
-one-grip t l es g h (Notify i x) u ln = h
-one-grip t l es g h (Lock i) u ln = where-cond u t i l (H.gained 0 (H.grip t l es)) (H.grip t l es) ∙ cases (eqb u t && eqb i l) (λ q. rw q (ap (H.gained 0) h)) (λ q. rw q h)
-one-grip t l es g h (Unlock i) u ln = where-cond u t i l (H.givenUp 0 (H.grip t l es)) (H.grip t l es) ∙ cases (eqb u t && eqb i l) (λ q. rw q (ap (H.givenUp 0) h)) (λ q. rw q h)
-one-grip t l es g h (Wait i) u ln = where-cond u t i l (H.givenUp 1 (H.grip t l es)) (H.grip t l es) ∙ cases (eqb u t && eqb i l) (λ q. rw q (ap (H.givenUp 1) h)) (λ q. rw q h)
-one-grip t l es g h (Resume i) u ln = where-cond u t i l (H.gained 1 (H.grip t l es)) (H.grip t l es) ∙ cases (eqb u t && eqb i l) (λ q. rw q (ap (H.gained 1) h)) (λ q. rw q h)
+one-grip t l es g h u ln (mem κ v y) = let e = eventBy u ln (onVariable κ v y) in h ∙ ap gripOf (sym (grip-kept t l e g (rw (is-apart memory gripping e tt (facts κ v y .has)))))
+one-grip t l es g h u ln {k} (idle a) = let e = eventBy u ln k in h ∙ ap gripOf (sym (grip-kept t l e g (rw (is-apart idling gripping e tt a))))
+one-grip t l es g h u ln {k} (lock zero a i) = where-cond u t (place k) l (H.gained 0 (H.grip t l es)) (H.grip t l es) ∙ cases (eqb u t && eqb (place k) l) (λ q. rw (i, q) (ap (H.gained 0) h)) (λ q. rw (i, q) h)
+one-grip t l es g h u ln {k} (lock (suc j) a i) = where-cond u t (place k) l (H.gained 1 (H.grip t l es)) (H.grip t l es) ∙ cases (eqb u t && eqb (place k) l) (λ q. rw (i, q) (ap (H.gained 1) h)) (λ q. rw (i, q) h)
+one-grip t l es g h u ln {k} (unlock zero a i) = where-cond u t (place k) l (H.givenUp 0 (H.grip t l es)) (H.grip t l es) ∙ cases (eqb u t && eqb (place k) l) (λ q. rw (i, q) (ap (H.givenUp 0) h)) (λ q. rw (i, q) h)
+one-grip t l es g h u ln {k} (unlock (suc j) a i) = where-cond u t (place k) l (H.givenUp 1 (H.grip t l es)) (H.grip t l es) ∙ cases (eqb u t && eqb (place k) l) (λ q. rw (i, q) (ap (H.givenUp 1) h)) (λ q. rw (i, q) h)
 
 pub grips : (t l : ℕ) (es : List Event) → H.grip t l (map view es) ≡ gripOf (grip t l es)
 unfolding grip
 grips t l [] = unfold H.grip in refl
-grips t l (e ∷ es) = one-grip t l (map view es) (grip t l es) (grips t l es) (e .kind) (e .thread) (e .line)
+grips t l (e ∷ es) = one-grip t l (map view es) (grip t l es) (grips t l es) (e .thread) (e .line) (seen (e .thread) (e .kind))
 
 -- Held, in the theory's terms and in the rules'
 pub to-held : (t l : ℕ) (es : List Event) → H.Holds t l (map view es) → held (wordsOf es) t l ≡ true
@@ -95,26 +90,13 @@ module _ (h : Counts) (t l : ℕ) (o : t < h .threads → l < h .locks → ⊥) 
   abbrev blank : Grip
   blank = record { held = 0; remembered = 0 }
 
-  blank-on : (k : Kind) (u ln : ℕ) → u < h .threads → Numbered h k → gripAfter t l (record { thread = u; line = ln; kind = k }) blank ≡ blank
-  unfolding gripAfter by is of on
-  blank-on (Use v x) u ln a b = refl
-  blank-on (Assign v x) u ln a b = refl
-  blank-on (Load v x) u ln a b = refl
-  blank-on (Store v x) u ln a b = refl
-  blank-on (Read v x) u ln a b = refl
-  blank-on (Write v x) u ln a b = refl
-  blank-on (PrescientStore v x) u ln a b = refl
-  blank-on (PrescientAssign v x) u ln a b = refl
-  blank-on (Notify i x) u ln a b = refl
-  blank-on (Lock i) u ln a b = rw (miss u i a b)
-  blank-on (Unlock i) u ln a b = rw (miss u i a b)
-  blank-on (Wait i) u ln a b = rw (miss u i a b)
-  blank-on (Resume i) u ln a b = rw (miss u i a b)
-
   no-grip : (es : List Event) → All (Declared h) es → grip t l es ≡ blank
-  unfolding grip
+  unfolding grip by of on
   no-grip [] d = refl
-  no-grip (e ∷ es) d = ap (gripAfter t l e) (no-grip es (d .1)) ∙ blank-on (e .kind) (e .thread) (e .line) (d .0 .0) (d .0 .1)
+  no-grip (e ∷ es) d = ap (gripAfter t l e) (no-grip es (d .1)) ∙ grip-kept t l e blank (cases (is gripping e) (λ p. rw (on-lock p) (and-false (is gripping e))) (λ p. rw p))
+    where
+      on-lock : is gripping e ≡ true → (eqb (e .thread) t && eqb (loc e) l) ≡ false
+      on-lock p = miss (e .thread) (loc e) (d .0 .0) (lock-low h e (d .0) (unfold onLock in is-true (is-among gripping lockLetters e tt (subst T (sym p) tt))))
 
 pub known : (h : Counts) (t l : ℕ) (es : List Event) → All (Declared h) es → 0 < grip t l es .held + grip t l es .remembered → (t < h .threads) × (l < h .locks)
 known h t l es d p = go (decLt t (h .threads)) (decLt l (h .locks))
@@ -149,23 +131,9 @@ sole h w e t p k b q = go (eqb t (e .thread)) refl (rw q at (some-none (h .threa
 pub exclusive : (h : Counts) (es : List Event) → All (Declared h) es → Valid h es → Q.Exclusive H.counted (map view es)
 unfolding Q.Exclusive
 exclusive h [] d a = tt
-exclusive h (e ∷ es) d a = (λ t l j p u b. go (e .kind) (row h e es a) t l j p u b, exclusive h es (d .1) (before h e es a))
+exclusive h (e ∷ es) d a = (here, exclusive h es (d .1) (before h e es a))
   where
-    one : (k : Kind) → judge h (wordsOf es) (record { thread = e .thread; line = e .line; kind = k }) ≡ 0 → T (locks (record { thread = e .thread; line = e .line; kind = k })) → (u l : ℕ) → place k ≡ l → H.Holds u l (map view es) → u ≡ e .thread
-    one k j x u l q b =
-        sole h (wordsOf es) (record { thread = e .thread; line = e .line; kind = k }) u j x (holds-below h u l es (d .1) b) (subst (λ m. held (wordsOf es) u m ≡ true) (sym q) (to-held u l es b))
-
-    go : (k : Kind) → judge h (wordsOf es) (record { thread = e .thread; line = e .line; kind = k }) ≡ 0 → (t l j : ℕ) → viewed (e .thread) k ≡ E.lock j t l → (u : ℕ) → H.Holds u l (map view es) → u ≡ t
-    go (Lock i) r t l j p u b = one (Lock i) r (unfold locks is in tt) u l (cc) b ∙ cc
-    go (Resume i) r t l j p u b = one (Resume i) r (unfold locks is in tt) u l (cc) b ∙ cc
-    go (Use v x) r t l j p u b = cc
-    go (Assign v x) r t l j p u b = cc
-    go (Load v x) r t l j p u b = cc
-    go (Store v x) r t l j p u b = cc
-    go (Read v x) r t l j p u b = cc
-    go (Write v x) r t l j p u b = cc
-    go (Unlock i) r t l j p u b = cc
-    go (PrescientStore v x) r t l j p u b = cc
-    go (PrescientAssign v x) r t l j p u b = cc
-    go (Wait i) r t l j p u b = cc
-    go (Notify i x) r t l j p u b = cc
+    here : (t l j : ℕ) → view e ≡ E.lock j t l → (u : ℕ) → H.Holds u l (map view es) → u ≡ t
+    here t l j p u b =
+        let q = locking e t l j p in
+        sole h (wordsOf es) e u (row h e es a) (subst T (sym (q .0)) tt) (holds-below h u l es (d .1) b) (rw (q .2) (to-held u l es b)) ∙ q .1
