@@ -1,5 +1,15 @@
 /* A whole trace marked into lent memory, and one step over a state that the caller keeps. Link target/staticlib/libc_api.a, which
-   `rt staticlib c_api` writes. Numbers are those of documents 01 and 02: a refusal's number, and a line of the trace. */
+   `rt staticlib c_api` writes. Numbers are those of documents 01 and 02: a refusal's number, and a line of the trace.
+
+   What every entry asks of its caller, which no contract checks:
+   - every buffer and every state handed in is initialised memory, as zeros are, even where it is only written; each bool of a state is 0 or 1.
+     Padding may be anything.
+   - no pointer is null, that of an empty buffer included. Each is aligned to its type: a state, values, order and scratch to 8 bytes, what to
+     4. A length is a number of places, and the buffer has so many. No two of those handed in overlap.
+   - during the call nothing else writes to any of them, and nothing else reads any but paper.
+   - the calling thread has the stack that the entry needs. At most so many bytes were touched in the tests, on x86-64: by dabzhoni_mark and
+     dabzhoni_mark_short 116,088, by the two that give no order 112,840, by dabzhoni_step and dabzhoni_step_short 323,016, by dabzhoni_initial
+     11,512. Each of them was run on a stack of 512 KiB. */
 #ifndef DABZHONI_H
 #define DABZHONI_H
 
@@ -30,9 +40,13 @@ struct dabzhoni_ring {
   uint8_t len;
 };
 
-/* What is kept for one thread and variable, volatile or not. loaded is the position of the latest load's read, used that of the read that was
-   loaded at the latest use, assigned that of the latest A. after_load and after_assign: the thread's latest event on the variable, R and W
-   left aside, is an L, an A. */
+/* What is kept for one thread and variable, volatile or not; a position is 0 where there is none.
+   copy: the value of the latest A, B or L, usable where source is above the thread's locked. announced: the value of the latest P.
+   source: the greatest position of an A, a B or the read of an L. written: the position of the latest W. loaded: that of the latest load's
+   read. used: that of the read that was loaded at the latest use. assigned: that of the latest A.
+   reads, stores: the queues of the reads and of the stores (S and P) that are outstanding.
+   fresh: the latest of A, B and S is an A. pending: the latest of P and B is a P, whose assign is owed. after_load, after_assign: the
+   thread's latest event on the variable, R and W left aside, is an L, an A. */
 struct dabzhoni_cell {
   int64_t copy;
   int64_t announced;
@@ -49,7 +63,8 @@ struct dabzhoni_cell {
   bool after_assign;
 };
 
-/* An outstanding read or store. The position of a store is that of its assign, of an early one its own. */
+/* An outstanding read or store: its value, and its position. The position of a store (S) is that of its assign, the thread's latest A on the
+   variable before it; that of a read or of an early store (P) is its own. */
 struct dabzhoni_slot {
   int64_t value;
   size_t position;
@@ -135,23 +150,36 @@ DABZHONI_ASSERT(offsetof(struct dabzhoni_state, holds) == 41072, "layout of the 
 DABZHONI_ASSERT(offsetof(struct dabzhoni_state, memory) == 41200, "layout of the state");
 DABZHONI_ASSERT(offsetof(struct dabzhoni_state, waits) == 41328, "layout of the state");
 DABZHONI_ASSERT(sizeof(struct dabzhoni_state) == 41456, "layout of the state");
+DABZHONI_ASSERT(offsetof(struct dabzhoni_reply, number) == 0, "layout of a reply");
 DABZHONI_ASSERT(offsetof(struct dabzhoni_reply, line) == 8, "layout of a reply");
 DABZHONI_ASSERT(sizeof(struct dabzhoni_reply) == 16, "layout of a reply");
 
 /* What is said of a trace. number and line are those of its refusal, both 0 where it is accepted; events is the number of events of an
-   accepted trace, else 0; written is the length of the listing; sections is how many entries the order list has; denial and
-   denial_line are 20 to 22 and its line where these deny the order, both 0 otherwise. */
+   accepted trace, else 0; written is the length of the listing. After 7 all but number is 0. After another refusal the listing is the one line
+   `refused line number`, and all but number, line and written is 0. Of the order of a trace there are three cases:
+   an order: ordered is 1, sections is how many entries the order list has, which may be 0, denial and denial_line are 0;
+   an order denied: ordered and sections are 0, denial is 20, 21 or 22, and denial_line its line;
+   no order, with G -, after a refusal and where none is wanted: all four are 0. */
 struct dabzhoni_marked {
   size_t number;
   size_t line;
   size_t events;
   size_t written;
+  size_t ordered;
   size_t sections;
   size_t denial;
   size_t denial_line;
 };
 
-DABZHONI_ASSERT(sizeof(struct dabzhoni_marked) == 56, "layout of what is said of a trace");
+DABZHONI_ASSERT(offsetof(struct dabzhoni_marked, number) == 0, "layout of what is said of a trace");
+DABZHONI_ASSERT(offsetof(struct dabzhoni_marked, line) == 8, "layout of what is said of a trace");
+DABZHONI_ASSERT(offsetof(struct dabzhoni_marked, events) == 16, "layout of what is said of a trace");
+DABZHONI_ASSERT(offsetof(struct dabzhoni_marked, written) == 24, "layout of what is said of a trace");
+DABZHONI_ASSERT(offsetof(struct dabzhoni_marked, ordered) == 32, "layout of what is said of a trace");
+DABZHONI_ASSERT(offsetof(struct dabzhoni_marked, sections) == 40, "layout of what is said of a trace");
+DABZHONI_ASSERT(offsetof(struct dabzhoni_marked, denial) == 48, "layout of what is said of a trace");
+DABZHONI_ASSERT(offsetof(struct dabzhoni_marked, denial_line) == 56, "layout of what is said of a trace");
+DABZHONI_ASSERT(sizeof(struct dabzhoni_marked) == 64, "layout of what is said of a trace");
 
 /* Marks a whole trace, its order included.
    paper: the bytes.
@@ -161,14 +189,13 @@ DABZHONI_ASSERT(sizeof(struct dabzhoni_marked) == 56, "layout of what is said of
    order: where there is an order, one entry for each section at the front, thread * 2^24 + last line * 2^12 + first line.
    scratch: all of it zeros where there is an order; what it held before does not matter.
    All other places of these five stay as they were. Refusal 7, before all: what or values under 2,000 places, out under 32,768 bytes,
-   order or scratch under 1,000 places; nothing is touched then. Lengths are numbers of places. No pointer is null, each is aligned to
-   its type (values, order and scratch to 8 bytes), and no two of these six overlap. */
+   order or scratch under 1,000 places; nothing is touched then. */
 struct dabzhoni_marked dabzhoni_mark(const uint8_t *paper, size_t paper_len, uint32_t *what, size_t what_len, int64_t *values,
                                      size_t values_len, uint8_t *out, size_t out_len, uint64_t *order, size_t order_len,
                                      uint64_t *scratch, size_t scratch_len);
 
-/* The same where no order is wanted: refusal 7 asks the records and the output alone, the listing ends with the copies, and sections,
-   denial and denial_line are 0. */
+/* The same where no order is wanted: refusal 7 asks the records and the output alone, the listing ends with the copies, and ordered,
+   sections, denial and denial_line are 0. */
 struct dabzhoni_marked dabzhoni_mark_unordered(const uint8_t *paper, size_t paper_len, uint32_t *what, size_t what_len,
                                                int64_t *values, size_t values_len, uint8_t *out, size_t out_len);
 
@@ -182,18 +209,17 @@ struct dabzhoni_marked dabzhoni_mark_short(const uint8_t *paper, size_t paper_le
 struct dabzhoni_marked dabzhoni_mark_short_unordered(const uint8_t *paper, size_t paper_len, uint32_t *what, size_t what_len,
                                                      int64_t *values, size_t values_len, uint8_t *out, size_t out_len);
 
-/* The state before the first event, in both courses. The memory must be a state already, as zeros are: each bool in it is 0 or 1.
-   Counts out of range are kept, and each step is then refused by 8. No thread waits and no variable is volatile: for a trace with a V line
-   the caller sets counts.volatiles afterwards, before the first step; with the flag of an undeclared variable set each step is refused by 8.
-   The pointer is not null and is aligned to 8 bytes, and nothing else reads or writes the state during the call. */
+/* Makes the state before the first event, in both courses, in memory that is a state already, as zeros are. Counts out of range are kept, and
+   each step, whatever its letter, is then refused by 8. No thread waits and no variable is volatile: for a trace with a V line the caller sets
+   counts.volatiles afterwards, before the first step; with the flag of an undeclared variable set each step, whatever its letter, is refused
+   by 8. */
 void dabzhoni_initial(struct dabzhoni_state *state, size_t threads, size_t variables, size_t locks);
 
-/* One event: its letter, thread, variable or lock, and value: for F the thread that it notifies; not looked at for K, N, Y and C. 8, 9, 5, then
-   the letter's row, led by 29 and 30, and on a volatile variable by 26, 27 and 28 behind them; each with the events so far plus 3 as its line,
-   or plus 4 where a variable is volatile, and 0 for 8. A thread to be notified that is negative or not declared is 5. A letter that is none of
-   the thirteen is 4, before all others. 8 asks of each of the eight waits with a lock that the lock is declared, and its depth at least 1 and at
-   most the events so far; of one without a lock it asks nothing. A refusal leaves the state as it was. The pointer is not null and is aligned
-   to 8 bytes, and nothing else reads or writes the state during the call. */
+/* One event: its letter, thread, variable or lock, and value: for F the thread that it notifies; not looked at for K, N, Y and C. 8, 4, 9, 5,
+   then the letter's row, led by 29 and 30, and on a volatile variable by 26, 27 and 28 behind them; each with the events so far plus 3 as its
+   line, or plus 4 where a variable is volatile, and 0 for 8. 4 is a letter that is none of the thirteen, U A L S R W K N P B Y F C. A thread to
+   be notified that is negative or not declared is 5. 8 asks of each of the eight waits with a lock that the lock is declared, and its depth at
+   least 1 and at most the events so far; of one without a lock it asks nothing. A refusal leaves the state as it was. */
 struct dabzhoni_reply dabzhoni_step(struct dabzhoni_state *state, uint8_t letter, size_t thread, size_t place, int64_t value);
 
 /* The same for the short course: counts above 2, 4 and 2 or more than 200 events so far are 8 too, and 25, in place of 9, is that 200

@@ -16,9 +16,11 @@ stack=target/c_program/stack
 mkdir -p target/c_program
 tests/library &&
     cc -std=c11 -O1 -Wall -Wextra -Werror -Iinclude -o $stack tests/c_program/stack.c target/staticlib/libc_api.a -pthread &&
-    cargo build --release --offline --quiet --manifest-path tests/marker_a/Cargo.toml || exit 2
+    cargo build --release --offline --quiet --manifest-path tests/marker_a/Cargo.toml ||
+    { echo "tests/stack.sh: the static library, $stack or marker A is not built"; exit 2; }
+# a program that is not built fails below
 for program in mark mark_short; do
-    [ -x target/bin/$program ] || rt check $program > /dev/null || exit 2
+    [ -x target/bin/$program ] || rt check $program > target/mark.log 2>&1 || cat target/mark.log
 done
 
 # ---- the papers
@@ -157,16 +159,15 @@ for name in short-200-events short-201-events short-volatile-events short-waitin
     $A --short < "$work/$name.paper" | head -n 1 > "$work/a"
     entry step_short "$work/$name.paper" "$work/a"
 done
-for kind in {1..13}; do echo 8 0; done > "$work/a"
+for letter in {1..14}; do echo 8 0; done > "$work/a"
 entry out_of_range /dev/null "$work/a"
 entry out_of_range_short /dev/null "$work/a"
-# every other program that has an output to be held to
+# its_input PROGRAM: what a program that has an output to be held to reads
+its_input() { if [ -f "crates/$1/stdin" ]; then echo "crates/$1/stdin"; else echo /dev/null; fi; }
+# every program that has one; one that is not built fails
 for stdout in crates/*/stdout; do
     program=$(basename "$(dirname "$stdout")")
-    [ -x "target/bin/$program" ] || continue
-    input=crates/$program/stdin
-    [ -f "$input" ] || input=/dev/null
-    on "$KB" "target/bin/$program" < "$input" > "$work/got" 2> /dev/null
+    on "$KB" "target/bin/$program" < "$(its_input "$program")" > "$work/got" 2> /dev/null
     status=$?
     check "$program" "its own input" "$stdout"
 done
@@ -184,9 +185,14 @@ least() {
     done
     echo $high
 }
+# whole PROGRAM PAPER WANTED
+whole() { [ ! -x "target/bin/$1" ] || echo "    $1, the whole program: $(least "$1" "$2" "$3") KB (ulimit -s)"; }
 $A < "$work/long-listing.paper" > "$work/a"
 $A --short < "$work/short-long-listing.paper" > "$work/a-short"
-echo "    mark, the whole program: $(least mark "$work/long-listing.paper" "$work/a") KB (ulimit -s)"
-echo "    mark_short, the whole program: $(least mark_short "$work/short-long-listing.paper" "$work/a-short") KB (ulimit -s)"
+whole mark "$work/long-listing.paper" "$work/a"
+whole mark_short "$work/short-long-listing.paper" "$work/a-short"
+for program in forms papers; do
+    whole $program "$(its_input $program)" crates/$program/stdout
+done
 echo "$passed passed, $failed failed"
 [ "$failed" -eq 0 ] && [ "$passed" -gt 0 ]

@@ -198,7 +198,7 @@ static void volatiles(void) {
   reply("one event more", "U 0 1 0", course->over, course->events + 4);
   begin(2, 2, 2, "2");
   reply("a volatile variable that is not declared", "A 0 0 0", 8, 0);
-  reply("no letter, a volatile variable that is not declared", "X 0 0 0", 4, 4);
+  reply("no letter, a volatile variable that is not declared", "X 0 0 0", 8, 0);
   begin(2, course->variables, 2, course == &FULL ? "?" : "3");
   reply("the last variable volatile", "A 0 0 0", 0, 0);
 
@@ -365,13 +365,17 @@ static void steps(void) {
   reply("one event more", "A 0 0 0", course->over, course->events + 3);
   reply("one undeclared event more", "A 2 0 0", course->over, course->events + 3);
   reply("one bad event more", "U 0 0 0", course->over, course->events + 3);
+  reply("no letter, and no event more", "X 9 9 0", 4, course->events + 3);
   state.events = course->events + 1;
   reply("events out of range", "A 0 0 0", 8, 0);
-  reply("no letter, state out of range", "z 0 0 0", 4, course->events + 4);
+  reply("no letter, events out of range", "z 0 0 0", 8, 0);
+  state.events = UINT32_MAX;
+  reply("no letter, the greatest number of events", "X 0 0 0", 8, 0);
   dabzhoni_initial(&state, course->threads, course->variables, course->locks);
   reply("the greatest counts", "A 0 0 0", 0, 0);
   dabzhoni_initial(&state, course->threads + 1, 2, 2);
   reply("threads out of range", "A 0 0 0", 8, 0);
+  reply("no letter, threads out of range", "u 0 0 0", 8, 0);
   dabzhoni_initial(&state, 2, course->variables + 1, 2);
   reply("variables out of range", "A 0 0 0", 8, 0);
   dabzhoni_initial(&state, 2, 2, course->locks + 1);
@@ -379,6 +383,7 @@ static void steps(void) {
   dabzhoni_initial(&state, 2, 2, 2);
   state.holds[0].depth = 1;
   reply("depth without holder", "A 0 0 0", 8, 0);
+  reply("no letter, depth without holder", "Z 0 0 0", 8, 0);
   state.events = course->events;
   reply("depth without holder, and no event more", "A 0 0 0", 8, 0);
 
@@ -627,8 +632,8 @@ static bool listed(const char *first, const char *then) {
 
 static void said(const char *name, struct dabzhoni_marked m, struct dabzhoni_marked w) {
   if (memcmp(&m, &w, sizeof m))
-    printf("%s: number %zu, line %zu, events %zu, written %zu, sections %zu, denial %zu, its line %zu\n", name, m.number, m.line, m.events,
-           m.written, m.sections, m.denial, m.denial_line);
+    printf("%s: number %zu, line %zu, events %zu, written %zu, ordered %zu, sections %zu, denial %zu, its line %zu\n", name, m.number,
+           m.line, m.events, m.written, m.ordered, m.sections, m.denial, m.denial_line);
   expect(name, !memcmp(&m, &w, sizeof m));
 }
 
@@ -646,7 +651,10 @@ static void mark(const struct paper *full) {
   size_t length = strlen(p->text), events = 0;
   const char *ordering = p->ordering ? p->ordering : "";
   sscanf(p->memories, "accepted %zu", &events);
-  struct dabzhoni_marked w = {p->number, p->line, events, strlen(p->memories) + strlen(ordering), p->sections, p->denial, p->denial_line};
+  /* `ordering` is given and nothing denies it: there is an order */
+  bool ordered = p->ordering && !p->denial;
+  struct dabzhoni_marked w = {
+      p->number, p->line, events, strlen(p->memories) + strlen(ordering), ordered, p->sections, p->denial, p->denial_line};
 
   for (size_t k = 0; k < sizeof SCRATCHES / sizeof *SCRATCHES; k++) {
     size_t lent = SCRATCHES[k];
@@ -657,8 +665,7 @@ static void mark(const struct paper *full) {
     bool entries = true, zeros = true;
     for (size_t i = 0; i < p->sections; i++) entries = entries && order[i] == p->entries[i];
     part(p, "order list", entries && untouched(order + p->sections, order + ORDER + 1));
-    /* `ordering` is given and nothing denies it: there is an order */
-    size_t cleared = p->ordering && !p->denial ? lent : 0;
+    size_t cleared = ordered ? lent : 0;
     for (size_t i = 0; i < cleared; i++) zeros = zeros && scratch[i] == 0;
     part(p, "scratch", zeros && untouched(scratch + cleared, scratch + LONG_SCRATCH + 1));
   }

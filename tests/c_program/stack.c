@@ -2,7 +2,7 @@
      stack mark SIZE                   the listing
      stack mark_unordered SIZE
      stack step SIZE                   `accepted n` or `refused line number`: the paper's events one by one, each of the form of an event
-     stack out_of_range SIZE           number and line of a step of each kind from a state that refusal 8 refuses
+     stack out_of_range SIZE           number and line of a step of each kind, and of no letter, from a state that refusal 8 refuses
      stack mark_short SIZE, stack mark_short_unordered SIZE, stack step_short SIZE, stack out_of_range_short SIZE
                                        the same in the short course
    and to standard error the entry's name and how many bytes of stack it touched, those of a thread that does nothing left aside. A guard
@@ -143,7 +143,7 @@ int main(int count, char **args) {
     }
     state.holds[7].depth = 1;
     events = 1;
-    for (const char *k = "UALSRWKNPBYFC"; *k; k++) {
+    for (const char *k = "UALSRWKNPBYFCX"; *k; k++) {
       list[0].letter = *k;
       need(short_course ? "step_short" : "step", steps, size);
       printf("%zu %zu\n", reply.number, reply.line);

@@ -1,1 +1,3 @@
 pub mod Replies
+-- what is only computed
+pub mod Computed

@@ -1,6 +1,7 @@
 -- What a program in C is told in plain numbers: of one step, and of a whole trace.
 use Prim.Native.Nat.{ℕ}
 use mathlib.Core.Path.{_≡_}
+use mathlib.Core.Bool.{cond}
 use mathlib.Core.List.{List}
 use lib.IntN.{ℤ}
 use Rattle.rules.specs.declared.Verdict.{Verdict}
@@ -11,6 +12,7 @@ use Rattle.rules.specs.Limits.{Limits, noVolatiles, lineAfter}
 use Rattle.rules.specs.Rules.{told, numberIn, lineIn}
 use Rattle.state.specs.declared.State.{State}
 use Rattle.state.specs.State.{start}
+use Rattle.state.specs.Range.{inRange}
 use Rattle.machine.specs.declared.Answer.{Answer}
 use Rattle.machine.specs.Stepped.{stepped}
 use Rattle.ordering.specs.declared.Ordering.{Ordering}
@@ -35,25 +37,30 @@ initialOf t v l = start (record { threads = t; variables = v; locks = l; volatil
 abbrev pub answered : Answer → StepReply
 answered a = record { reply = replyOf (a .verdict); state = a .state }
 
--- 4. Line is no event of the form above: a letter that is none of the thirteen, and the state stays as it was
+-- 4. Line is no event of the form above: a letter that is none of the thirteen. Where the state is out of range it is 8 (line 0), before 4.
+unfoldable pub noLetter : Limits → State → Reply
+noLetter m s = cond (inRange m s) (record { number = 4; line = lineAfter (s .counts) (s .events) }) (record { number = 8; line = 0 })
+
+-- what the letter names; the state stays as it was where that is nothing
 abbrev pub onNamed : Limits → State → ℕ → Named → StepReply
-onNamed m s t Nothing = record { reply = record { number = 4; line = lineAfter (s .counts) (s .events) }; state = s }
+onNamed m s t Nothing = record { reply = noLetter m s; state = s }
 onNamed m s t (Of k) = answered (stepped m s (record { thread = t; line = lineAfter (s .counts) (s .events); kind = k }))
 
--- one step: letter, thread, variable or lock, and value, of F the thread that it notifies
+-- one step, 8, 4, 9, 5, row: letter, thread, variable or lock, and value, of F the thread that it notifies
 unfoldable pub stepReply : Limits → State → ℕ → ℕ → ℕ → ℤ → StepReply
 stepReply m s k t p x = onNamed m s t (kindOf k p x)
 
 -- ---- a whole trace
 
--- an order has so many sections; a denied one has a number, 20 to 22, and a line
+-- an order has so many sections, none too; a denied one has a number, 20 to 22, and a line; without guards, after a refusal and where none is
+-- wanted there is none
 abbrev pub orderReply : Ordering → OrderReply
-orderReply (Ordered c) = record { sections = c; denial = 0; line = 0 }
-orderReply (Unordered number line) = record { sections = 0; denial = number; line = line }
-orderReply NoOrder = record { sections = 0; denial = 0; line = 0 }
+orderReply (Ordered c) = record { ordered = 1; sections = c; denial = 0; line = 0 }
+orderReply (Unordered number line) = record { ordered = 0; sections = 0; denial = number; line = line }
+orderReply NoOrder = record { ordered = 0; sections = 0; denial = 0; line = 0 }
 
 abbrev pub withOrder : Report → Reply → OrderReply → MarkReply
-withOrder r v o = record { number = v .number; line = v .line; events = r .events; written = r .written; sections = o .sections; denial = o .denial; «denial_line» = o .line }
+withOrder r v o = record { number = v .number; line = v .line; events = r .events; written = r .written; ordered = o .ordered; sections = o .sections; denial = o .denial; «denial_line» = o .line }
 
 -- the numbers of a report: its refusal, the events of an accepted trace, the length of the listing, and the order
 unfoldable pub markReply : Report → MarkReply

@@ -3,11 +3,13 @@
 ghost use mathlib.Core.Path.{_≡_};
 ghost use Rattle.rules.specs.Limits.{full, short, limitsOf};
 ghost use Rattle.c_api.specs.Replies.{initialOf, replyOf, stepReply, orderReply, markReply, MarkReplies, BriefReplies};
+ghost use Rattle.c_api.specs.Computed.Stepping.{eventOf, replyTo};
 use ordering::Ordering;
 use report::Report;
 use rules::Counts;
 use rules::Course;
 use rules::Event;
+use rules::Kind;
 use rules::Named;
 use rules::Value;
 use rules::Verdict;
@@ -39,6 +41,42 @@ pub struct StepReply {
     pub state: State,
 }
 
+// The event that is tried. Where the letter names none it is of a thread that is not declared, so that it is refused: by 8, or else at the
+// line of the next event.
+fn event_of(h: Counts, named: Named, thread: usize, line: usize) -> Event
+    ensures { λ r. ⌜ r ≡ eventOf h named thread line ⌝ }
+{
+    match named {
+        Named::Nothing => Event {
+            thread: h.threads,
+            line: line,
+            kind: Kind::Assign(0, 0),
+        },
+        Named::Of(kind) => Event {
+            thread: thread,
+            line: line,
+            kind: kind,
+        },
+    }
+}
+
+// The reply, where the event that is tried has this one: of a letter that names none 8, which alone has line 0, and else 4.
+fn reply_to(named: Named, r: Reply) -> Reply
+    ensures { λ a. ⌜ a ≡ replyTo named r ⌝ }
+{
+    match named {
+        Named::Nothing => if r.line == 0 {
+            r
+        } else {
+            Reply {
+                number: 4,
+                line: r.line,
+            }
+        },
+        Named::Of(_) => r,
+    }
+}
+
 // One step, by value. For F the value is the thread that it notifies; for K, N, Y and C it is not looked at.
 pub fn step_numbers(
     course: Course,
@@ -53,32 +91,15 @@ pub fn step_numbers(
     let h = s.counts;
     let line = rules::line_after(h, s.events);
     let named = rules::kind_of(letter, place, value);
-    match named {
-        Named::Nothing => {
-            let no = Reply {
-                number: 4,
-                line: line,
-            };
-            StepReply {
-                reply: no,
-                state: s,
-            }
-        },
-        Named::Of(kind) => {
-            let e = Event {
-                thread: thread,
-                line: line,
-                kind: kind,
-            };
-            let a = machine::step(course, s, e);
-            let v = a.verdict;
-            let next = a.state;
-            let reply = reply_of(v);
-            StepReply {
-                reply: reply,
-                state: next,
-            }
-        },
+    let e = event_of(h, named, thread, line);
+    let a = machine::step(course, s, e);
+    let v = a.verdict;
+    let next = a.state;
+    let said = reply_of(v);
+    let reply = reply_to(named, said);
+    StepReply {
+        reply: reply,
+        state: next,
     }
 }
 
@@ -90,7 +111,7 @@ pub fn initial_numbers(threads: usize, variables: usize, locks: usize) -> State
         threads: threads,
         variables: variables,
         locks: locks,
-        volatiles: [false; 16],
+        volatiles: [false; rules::VARIABLES],
     };
     state::initial(h)
 }
@@ -137,8 +158,9 @@ pub extern "C" fn dabzhoni_step_short(
 
 // ---- A whole trace.
 
-// What is said of an order: how many entries the order list has, or the number and the line of what denies it.
+// What is said of an order: 1 where there is one, and how many entries the order list then has; or the number and the line of what denies it.
 pub struct OrderReply {
+    pub ordered: usize,
     pub sections: usize,
     pub denial: usize,
     pub line: usize,
@@ -149,16 +171,19 @@ pub fn order_reply(o: Ordering) -> OrderReply
 {
     match o {
         Ordering::Ordered(c) => OrderReply {
+            ordered: 1,
             sections: c,
             denial: 0,
             line: 0,
         },
         Ordering::Unordered(number, line) => OrderReply {
+            ordered: 0,
             sections: 0,
             denial: number as usize,
             line: line,
         },
         Ordering::NoOrder => OrderReply {
+            ordered: 0,
             sections: 0,
             denial: 0,
             line: 0,
@@ -167,13 +192,15 @@ pub fn order_reply(o: Ordering) -> OrderReply
 }
 
 // What is said of a trace: the number of a refusal and its line, both 0 where it is accepted; the events of an accepted one, else 0; the
-// length of the listing; how many entries the order list has; and 20 to 22 and its line where the order is denied, else 0.
+// length of the listing; 1 where there is an order, else 0; how many entries the order list has; and 20 to 22 and its line where the order is
+// denied, else 0.
 #[repr(C)]
 pub struct MarkReply {
     pub number: usize,
     pub line: usize,
     pub events: usize,
     pub written: usize,
+    pub ordered: usize,
     pub sections: usize,
     pub denial: usize,
     pub denial_line: usize,
@@ -192,6 +219,7 @@ pub fn mark_reply(r: Report) -> MarkReply
         line: v.line,
         events: r.events,
         written: r.written,
+        ordered: o.ordered,
         sections: o.sections,
         denial: o.denial,
         denial_line: o.line,

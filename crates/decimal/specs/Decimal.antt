@@ -30,6 +30,7 @@ naturalOf f =
     cond (eqb (length f) 0) natural.Bad
     (cond (cond (eqb (getD f 0 0) 48) (ltb 1 (length f)) false) natural.Bad (digitsFrom 0 f))
 
+-- n without a minus before it
 abbrev pub positiveOf : Width → Natural → Integer
 positiveOf w natural.Bad = integer.Bad
 positiveOf w (natural.Of n) = cond (ltb n (limit w)) (integer.Of (pos n)) integer.Outside

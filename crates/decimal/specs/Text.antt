@@ -7,12 +7,12 @@ use lib.Dec.{ltb, leb}
 use lib.ListN.{length, drop}
 use lib.IntN.{ℤ, pos, negsuc, natAbs}
 
--- the last k digits of n at most, none in front of its first
+-- n in base ten, or its last k digits where it has more
 unfoldable pub digitsIn : ℕ → ℕ → List ℕ
 digitsIn zero n = []
 digitsIn (suc k) n = cond (ltb n 10) ((48 + n) ∷ []) (digitsIn k (n / 10) ++ ((48 + n % 10) ∷ []))
 
--- n in base ten; twenty digits are enough for 64 bits
+-- n in base ten, for the numbers of 64 bits, which have at most twenty digits
 unfoldable pub naturalText : ℕ → List ℕ
 naturalText n = digitsIn 20 n
 

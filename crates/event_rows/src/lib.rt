@@ -1,17 +1,24 @@
 // The forms behind references: one step over a lent state, and a lent row of events. Each function here is thin: what it computes is a
 // call of a function over plain values.
 ghost use mathlib.Core.Path.{_≡_};
+ghost use mathlib.Core.Bool.{true};
+ghost use mathlib.Core.Option.{some};
 ghost use Prim.Native.Nat.{_<_, min};
-ghost use lib.ListN.{length};
+ghost use lib.ListN.{length, getD};
+ghost use Rattle.rules.specs.Events.{isLetter};
 ghost use Rattle.rules.specs.Limits.{limitsOf};
 ghost use Rattle.machine.specs.Stepped.{stepped};
-ghost use Rattle.records.specs.Records.{eventAt};
+ghost use Rattle.records.specs.Records.{letterIn, eventIn, recordAt};
 ghost use Rattle.event_rows.specs.EventRows.{filled, FillsEvents};
 ghost use Rattle.event_rows.specs.Computed.Kept.{Keeps};
+ghost use Rattle.event_rows.specs.Computed.Lettered.{lettered};
 use report::Report;
 use rules::Counts;
 use rules::Course;
 use rules::Event;
+use rules::Kind;
+use rules::Named;
+use rules::RECORDS;
 use rules::Value;
 use rules::Verdict;
 use state::State;
@@ -30,26 +37,66 @@ fn least(n: usize, a: usize, b: usize, c: usize) -> usize
     ensures { λ r. ⌜ r ≡ min (min n 2000) (min a (min b c)) ⌝ }
 {
     report::lesser(
-        report::lesser(n, 2000),
+        report::lesser(n, RECORDS),
         report::lesser(a, report::lesser(b, c)),
     )
 }
 
-// The event of the record at a place of two rows. The place gives the line.
+// How many records are filled in: the least of the counts, of which b is that of `what`, and of so many those before the first that packs no
+// event.
+fn count_of(what: &[u32], n: usize, a: usize, b: usize, c: usize) -> usize
+    requires { ⌜ b ≡ length (now what) ⌝ }
+    ensures { λ r. ⌜ r ≡ lettered (now (what .entry)) 0 (min (min n 2000) (min a (min b c))) ⌝ }
+{
+    let m = least(n, a, b, c);
+    let mut i: usize = 0;
+    while i < m {
+        if !rules::is_letter(records::letter_in(what[i])) {
+            return i;
+        }
+        i += 1;
+    }
+    i
+}
+
+// The event of a record that stands for this line, and packs one: the first arm is not taken.
+fn unpack(w: u32, value: Value, line: usize) -> Event
+    requires { ⌜ isLetter (letterIn w) ≡ true ⌝ }
+    ensures { λ r. ⌜ eventIn line w value ≡ some r ⌝ }
+{
+    let thread = records::thread_in(w);
+    let place = records::place_in(w);
+    let named = rules::kind_of(records::letter_in(w), place, value);
+    match named {
+        Named::Nothing => Event {
+            thread: thread,
+            line: line,
+            kind: Kind::Lock(place),
+        },
+        Named::Of(kind) => Event {
+            thread: thread,
+            line: line,
+            kind: kind,
+        },
+    }
+}
+
+// The event of the record at a place of two rows, which packs one. The place gives the line.
 fn event_at(h: Counts, what: &[u32], value: &[Value], i: usize) -> Event
-    requires { ⌜ (i < 2000) × ((i < length (now what)) × (i < length (now value))) ⌝ }
-    ensures { λ r. ⌜ r ≡ eventAt h (now (what .entry)) (now (value .entry)) i ⌝ }
+    requires { ⌜ (i < 2000) × ((i < length (now what)) × ((i < length (now value)) × (isLetter (letterIn (getD (now what) i 0)) ≡ true))) ⌝ }
+    ensures { λ r. ⌜ recordAt h (now (what .entry)) (now (value .entry)) i ≡ some r ⌝ }
 {
     let w = what[i];
     let x = value[i];
-    records::unpack(w, x, rules::line_after(h, i as u32))
+    unpack(w, x, rules::line_after(h, i as u32))
 }
 
-// Fills a lent row of events from the first n records of two rows, as far as all have places, and no more than 2,000.
+// Fills a lent row of events from the first n records of two rows, as far as all have places, up to the first record that packs no event, and no
+// more than 2,000.
 pub fn fill_records(records: &mut [Event], h: Counts, what: &[u32], value: &[Value], n: usize)
     ensures { λ _. ⌜ now (records .exit) ≡ filled h (now (what .entry)) (now (value .entry)) n (now (records .entry)) ⌝ }
 {
-    let m = least(n, records.len(), what.len(), value.len());
+    let m = count_of(what, n, records.len(), what.len(), value.len());
     let mut i: usize = 0;
     while i < m {
         let e = event_at(h, what, value, i);
@@ -62,8 +109,8 @@ pub fn fill_records(records: &mut [Event], h: Counts, what: &[u32], value: &[Val
 struct Kept {
     report: Report,
     head: Counts,
-    what: [u32; 2000],
-    value: [Value; 2000],
+    what: [u32; RECORDS],
+    value: [Value; RECORDS],
 }
 
 // Marks a whole trace, with its order and its listing, where so many places are lent for its records. 7 before all.
@@ -78,8 +125,8 @@ fn mark_kept(
     ensures { λ r. ⌜ Keeps (limitsOf course) (now (bytes .entry)) places (now (out .entry)) (now (list .entry)) (now (scratch .entry)) r (now (out .exit)) (now (list .exit)) (now (scratch .exit)) ⌝ }
 {
     let found = trace::find(course, bytes);
-    let mut what: [u32; 2000] = [0; 2000];
-    let mut value: [Value; 2000] = [0; 2000];
+    let mut what: [u32; RECORDS] = [0; RECORDS];
+    let mut value: [Value; RECORDS] = [0; RECORDS];
     let report = report::mark_lent(
         course,
         bytes,

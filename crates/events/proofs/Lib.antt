@@ -5,3 +5,4 @@ pub mod WalkLaws
 pub mod ReadLaws
 pub mod LinedLaws
 pub mod WidthLaws
+pub mod ShortLines

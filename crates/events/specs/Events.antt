@@ -51,6 +51,7 @@ lockEnd k t x = onNumber (naturalOf x) (λ l. right k t l (pos 0))
 abbrev pub notifyEnd : ℕ → ℕ → ℕ → List ℕ → Fields
 notifyEnd k t l x = onNumber (naturalOf x) (λ u. right k t l (pos (capped u)))
 
+-- a value in the last field
 abbrev pub valueEnd : Width → ℕ → ℕ → ℕ → List ℕ → Fields
 valueEnd w k t v x = onInteger (integerOf w x) (λ z. right k t v z)
 
@@ -66,6 +67,7 @@ afterThread w k t fs = cond (isLockLetter k) (lockFields k t fs) (field (λ v. l
 abbrev pub afterLetter : Width → ℕ → List (List ℕ) → Fields
 afterLetter w k fs = cond (isLetter k) (field (afterThread w k) fs) wrong
 
+-- a letter in the first field
 abbrev pub fromFields : Width → List (List ℕ) → Fields
 fromFields w [] = wrong
 fromFields w (x ∷ xs) = afterLetter w (letter x) xs

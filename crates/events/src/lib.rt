@@ -3,6 +3,7 @@ use decimal::Integer;
 use decimal::Natural;
 use rules::Counts;
 use rules::Course;
+use rules::RECORDS;
 use rules::Value;
 use rules::Verdict;
 ghost use mathlib.Core.Path.{_≡_};
@@ -225,8 +226,8 @@ pub fn read_lines(
     h: Counts,
     s: &[u8],
     from: usize,
-    what: &mut [u32; 2000],
-    value: &mut [Value; 2000],
+    what: &mut [u32; RECORDS],
+    value: &mut [Value; RECORDS],
 ) -> Read
     ensures { λ r. ⌜ Reads (limitsOf course) h (drop from (now (s .entry))) r (now (what .entry)) (now (what .exit)) (now (value .entry)) (now (value .exit)) ⌝ }
 {

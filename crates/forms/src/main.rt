@@ -68,7 +68,16 @@ fn value_at(values: &[Value], i: usize) {
 
 // ---- A trace where no order is wanted.
 
-// 0 where nothing is said of an order.
+// 1 where there is an order, else 0.
+fn ordered(o: Ordering) -> usize {
+    match o {
+        Ordering::Ordered(_) => 1,
+        Ordering::Unordered(_, _) => 0,
+        Ordering::NoOrder => 0,
+    }
+}
+
+// The sections of an order, what denies it, or 0.
 fn about_order(o: Ordering) -> usize {
     match o {
         Ordering::Ordered(c) => c,
@@ -77,14 +86,15 @@ fn about_order(o: Ordering) -> usize {
     }
 }
 
-// Number, line, events, written, and 0.
+// Number, line, events, written, whether there is an order, and what is said of it.
 fn reported(r: Report) {
     let v = r.verdict;
     let o = r.ordering;
     let number = rules::number_of(v);
     let line = rules::line_of(v);
+    let given = ordered(o);
     let order = about_order(o);
-    let ns = [number as usize, line, r.events, r.written, order];
+    let ns = [number as usize, line, r.events, r.written, given, order];
     row(&ns);
 }
 
@@ -511,7 +521,8 @@ fn fill(places: usize, what: &[u32], values: &[Value], n: usize)
     listed(rows[4]);
 }
 
-// As many events as are asked for, as there are records, as are lent, as there are values, as are lent again.
+// As many events as are asked for, as there are records, as are lent, as there are values, as are lent again; then up to a number that packs
+// none, the second and the first.
 fn fills() {
     io::write_all(STDOUT_FILENO, b"rows of events\n");
     // K 0 0, A 0 1 and the least value, N 0 0
@@ -521,6 +532,9 @@ fn fills() {
     // Y 0 0, F 0 0 and a thread, which a negative number is not, C 0 0
     let waited: [u32; 4] = [5832704, 4587520, 4587520, 4390912];
     let notified: [Value; 4] = [1, 1, -1, 1];
+    // K 0 0, X 0 0, N 0 0; then a number above all letters
+    let stray: [u32; 3] = [4915200, 5767168, 5111808];
+    let above: [u32; 3] = [4294967295, 4915200, 5111808];
     let many = [4915200u32; 7];
     let zeros: [Value; 7] = [0; 7];
     fill(5, &what, &values, 2);
@@ -529,6 +543,8 @@ fn fills() {
     fill(5, &what, &one, 3);
     fill(5, &waited, &notified, 4);
     fill(5, &many, &zeros, 7);
+    fill(5, &stray, &values, 3);
+    fill(5, &above, &values, 3);
 }
 
 // ---- A trace into lent events.
@@ -629,7 +645,8 @@ fn eventful_in(
 }
 
 // 7, with one place too few of each; then a trace that is refused, one without an order, and one with it, also from a longer
-// scratch and in the short course, one that is over its limits, one in which a thread waits and comes back, and one in which it still waits.
+// scratch and in the short course, one that is over its limits, one in which a thread waits and comes back, and one in which it still waits;
+// an order without sections, and no guards.
 fn traces(paper: &[u8]) {
     io::write_all(STDOUT_FILENO, b"a trace into events\n");
     eventful_in(Course::Full, paper, 1999, 32768, 1000, 1000);
@@ -674,6 +691,22 @@ fn traces(paper: &[u8]) {
     eventful_in(
         Course::Full,
         b"H 1 1 1\nG 0\nK 0 0\nY 0 0\nZ 24\n",
+        2000,
+        32768,
+        1000,
+        1000,
+    );
+    eventful_in(
+        Course::Full,
+        b"H 1 1 1\nG 0\nZ 12\n",
+        2000,
+        32768,
+        1000,
+        1000,
+    );
+    eventful_in(
+        Course::Full,
+        b"H 1 1 1\nG -\nZ 12\n",
         2000,
         32768,
         1000,

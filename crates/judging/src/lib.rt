@@ -29,8 +29,10 @@ ghost use Rattle.judging.specs.Computed.Checks.{
 };
 ghost use Rattle.judging.specs.Computed.Leads.{isWaiting, isBarred, isUntold, aheadRule, barredRule, isAccess, leadChecks, firstLead, leadRule, barsUse, barsWrite, barsEvent};
 ghost use Rattle.judging.specs.Computed.Turns.{holdFor, waitFor, afterUse, isUsed, useRule, cellTurn, readsTurn, storesTurn, waitTurn, lockTurn, eitherOf, turnOf};
+use rules::LOCKS;
 use rules::Main;
 use rules::Slot;
+use rules::THREADS;
 use rules::Value;
 use state::Cell;
 use state::Hold;
@@ -211,7 +213,7 @@ fn write_checks(c: Cell, s: Slot, x: Value) -> Checks
 fn depth_of(a: Hold, t: usize) -> u32
     ensures { λ r. ⌜ r ≡ depthOf a t ⌝ }
 {
-    if t < 8 {
+    if t < THREADS {
         if a.holder == t + 1 {
             return a.depth;
         }
@@ -223,7 +225,7 @@ fn depth_of(a: Hold, t: usize) -> u32
 fn others_hold(a: Hold, n: usize, t: usize) -> bool
     ensures { λ r. ⌜ r ≡ othersHold a n t ⌝ }
 {
-    if t < 8 {
+    if t < THREADS {
         return (0 < a.holder) & (a.holder <= n) & (a.holder != t + 1) & (0 < a.depth);
     }
     false
@@ -634,7 +636,7 @@ fn taken(a: Hold, t: usize) -> Hold
     ensures { λ r. ⌜ r ≡ holdFor a noWait t K ⌝ }
 {
     let n = depth_of(a, t);
-    if t < 8 {
+    if t < THREADS {
         if a.depth < 2000 {
             return Hold {
                 holder: t + 1,
@@ -649,7 +651,7 @@ fn left(a: Hold, t: usize) -> Hold
     ensures { λ r. ⌜ r ≡ holdFor a noWait t N ⌝ }
 {
     let n = depth_of(a, t);
-    if t < 8 {
+    if t < THREADS {
         if a.depth < 2000 {
             if n <= 1 {
                 return Hold {
@@ -670,7 +672,7 @@ fn left(a: Hold, t: usize) -> Hold
 fn given_up(a: Hold, t: usize) -> Hold
     ensures { λ r. ⌜ r ≡ holdFor a noWait t Y ⌝ }
 {
-    if t < 8 {
+    if t < THREADS {
         if a.depth < 2000 {
             return Hold {
                 holder: 0,
@@ -685,7 +687,7 @@ fn given_up(a: Hold, t: usize) -> Hold
 fn taken_again(a: Hold, w: Waiting, t: usize) -> Hold
     ensures { λ r. ⌜ r ≡ holdFor a w t C ⌝ }
 {
-    if t < 8 {
+    if t < THREADS {
         if a.depth < 2000 {
             return Hold {
                 holder: t + 1,
@@ -701,7 +703,7 @@ fn waiting(w: Waiting, a: Hold, l: usize, t: usize) -> Waiting
     ensures { λ r. ⌜ r ≡ waitFor w a l t Y ⌝ }
 {
     let n = depth_of(a, t);
-    if l < 8 {
+    if l < LOCKS {
         return Waiting {
             lock: l + 1,
             depth: n,
@@ -714,7 +716,7 @@ fn waiting(w: Waiting, a: Hold, l: usize, t: usize) -> Waiting
 fn notified(w: Waiting, l: usize) -> Waiting
     ensures { λ r. ⌜ r ≡ waitFor w noHold l 0 F ⌝ }
 {
-    if l < 8 {
+    if l < LOCKS {
         return Waiting {
             lock: w.lock,
             depth: w.depth,
@@ -727,7 +729,7 @@ fn notified(w: Waiting, l: usize) -> Waiting
 fn back(w: Waiting, l: usize) -> Waiting
     ensures { λ r. ⌜ r ≡ waitFor w noHold l 0 C ⌝ }
 {
-    if l < 8 {
+    if l < LOCKS {
         return Waiting {
             lock: 0,
             depth: 0,

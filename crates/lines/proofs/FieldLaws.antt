@@ -5,6 +5,8 @@ use mathlib.Core.List.{List, [], _∷_}
 use Prim.Native.Nat.{ℕ, zero, suc, _<_, _≤_, _+_, _-_}
 use native.Mathlib.Numerals.{add-one}
 use native.Mathlib.Omega.{arith}
+use native.Mathlib.Nat.{suc-ne-zero, not-suc-le-zero, le-of-suc-le-suc}
+use native.Mathlib.Decide.{ℕ-discrete}
 use borrow.Author.Tests.{eq-eqb, ne-eqb, eqb-true, eqb-false}
 use lib.Dec.{eqb}
 use lib.ListN.{length, getD, take, drop, drop-of-length-le, length-drop, List·getD-eq-default}
@@ -200,6 +202,23 @@ ended-before b (x ∷ xs) h l = by (eqb x b) (eqb (upTo b xs) 0) refl h (ended-b
         omega (arith, r k)
 
 -- the lines of a text: a line and those behind its end, or none
+-- one byte more makes no line
+no-line : (x : ℕ) (ls : List (List ℕ)) → ended ls ≡ [] → ended (onFirst x ls) ≡ []
+unfolding ended
+no-line x [] e = refl
+no-line x (l ∷ []) e = refl
+no-line x (l ∷ m ∷ ls) e = absurd (suc-ne-zero _ (ap length e))
+
+-- without a byte 10 there is no line
+pub no-lines : (s : List ℕ) → length s ≤ before 10 s → linesOf s ≡ []
+unfolding linesOf ended splitOn before
+no-lines [] h = refl
+no-lines (x ∷ xs) h = by (ℕ-discrete x 10) (λ z. no-lines xs z)
+  where
+    by : Dec (x ≡ 10) → (length xs ≤ before 10 xs → linesOf xs ≡ []) → linesOf (x ∷ xs) ≡ []
+    by (yes q) more = absurd (not-suc-le-zero (rw (eq-eqb x 10 q) at h))
+    by (no q) more = rw (ne-eqb x 10 q) (no-line x (splitOn 10 xs) (more (le-of-suc-le-suc (rw (ne-eqb x 10 q) at h))))
+
 pub lines-more : (s : List ℕ) → before 10 s < length s → linesOf s ≡ take (before 10 s) s ∷ linesOf (drop (before 10 s + 1) s)
 unfolding linesOf ended
 lines-more s h =

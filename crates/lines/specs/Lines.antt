@@ -14,6 +14,7 @@ unfoldable pub upTo : ℕ → List ℕ → ℕ
 upTo b [] = 0
 upTo b (x ∷ xs) = cond (eqb (upTo b xs) 0) (cond (eqb x b) 1 0) (suc (upTo b xs))
 
+-- one byte more in front of the first piece
 abbrev pub onFirst : ℕ → List (List ℕ) → List (List ℕ)
 onFirst x [] = (x ∷ []) ∷ []
 onFirst x (f ∷ fs) = (x ∷ f) ∷ fs

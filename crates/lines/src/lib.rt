@@ -62,7 +62,7 @@ pub fn count_fields(s: &[u8]) -> usize
     n
 }
 
-// The place of the first space from `at` on, or the length where there is none.
+// The place of the first space from `at` on; where there is none, the length, or `at` where it is greater.
 pub fn space_from(s: &[u8], at: usize) -> usize
     ensures { λ r. ⌜ r ≡ at + before 32 (drop at (now (s .entry))) ⌝ }
 {

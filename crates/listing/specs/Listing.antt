@@ -1,5 +1,5 @@
 -- Document 01, "One paper whole": the lines that are printed for a trace.
-use Prim.Native.Nat.{ℕ, suc, _+_, _*_}
+use Prim.Native.Nat.{ℕ, suc}
 use mathlib.Core.Bool.{false, cond}
 use mathlib.Core.List.{List, [], _∷_, _++_, map}
 use lib.IntN.{ℤ, pos}
@@ -8,7 +8,7 @@ use Rattle.rules.specs.declared.Cached.{Cached}
 use Rattle.rules.specs.declared.Counts.{Counts}
 use Rattle.rules.specs.declared.Main.{Main}
 use Rattle.rules.specs.declared.Memories.{Memories}
-use Rattle.rules.specs.Limits.{full, allowed}
+use Rattle.rules.specs.Limits.{full, cellNumber, allowed}
 use Rattle.rules.specs.Memories.{Copy, below, each}
 use Rattle.decimal.specs.Text.{wordRow, wordValue, ended, room, andThen}
 use Rattle.sections.specs.CriticalSections.{Entry}
@@ -104,7 +104,7 @@ usableCopy t v c = cond (c .usable) (record { thread = t; variable = v; value = 
 
 -- the copy of thread t and variable v stands at 16 * t + v
 abbrev pub copyAt : List Cached → ℕ → ℕ → List Copy
-copyAt cs t v = usableCopy t v (getD cs (16 * t + v) noCached)
+copyAt cs t v = usableCopy t v (getD cs (cellNumber t v) noCached)
 
 -- the usable copies of thread t, of the first n variables
 abbrev pub copiesAt : List Cached → ℕ → ℕ → List Copy

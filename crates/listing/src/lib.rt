@@ -1,10 +1,12 @@
 // The lines that are printed for a trace. Each goes to the front of what remains of an output, and its writer answers its length.
 // Where less room remains than a line may need, nothing of it is written.
+use rules::CELLS;
 use rules::Cached;
 use rules::Counts;
 use rules::Course;
 use rules::Main;
 use rules::Memories;
+use rules::VARIABLES;
 use rules::Value;
 ghost use Prim.Native.Nat.{_≤_, _<_};
 ghost use lib.ListN.{length};
@@ -107,7 +109,7 @@ fn write_section(out: &mut [u8], w: u64) -> usize
 // ---- Lines one after the other.
 
 // The values of the first n variables in main memory.
-fn write_mains(out: &mut [u8], main: [Main; 16], n: usize) -> usize
+fn write_mains(out: &mut [u8], main: [Main; VARIABLES], n: usize) -> usize
     requires { ⌜ n ≤ 16 ⌝ }
     ensures { λ r. ⌜ Wrote (writeAll (mainLines (each (mainAt main) (below n)))) (now (out .entry)) r (now (out .exit)) ⌝ }
 {
@@ -123,14 +125,14 @@ fn write_mains(out: &mut [u8], main: [Main; 16], n: usize) -> usize
 }
 
 // The usable copies of thread t, of the first n variables.
-fn write_thread(out: &mut [u8], copies: [Cached; 128], t: usize, n: usize) -> usize
+fn write_thread(out: &mut [u8], copies: [Cached; CELLS], t: usize, n: usize) -> usize
     requires { ⌜ (t < 8) × (n ≤ 16) ⌝ }
     ensures { λ r. ⌜ Wrote (writeAll (copyLines (each (copyAt copies t) (below n)))) (now (out .entry)) r (now (out .exit)) ⌝ }
 {
     let mut a: usize = 0;
     let mut v: usize = 0;
     while v < n {
-        let i = 16 * t + v;
+        let i = VARIABLES * t + v;
         let c = copies[i];
         let b = write_copy(&mut out[a..], t, v, c);
         a += b;
@@ -140,7 +142,7 @@ fn write_thread(out: &mut [u8], copies: [Cached; 128], t: usize, n: usize) -> us
 }
 
 // The usable copies of the first m threads, by thread then variable, of the first n variables.
-fn write_copies(out: &mut [u8], copies: [Cached; 128], n: usize, m: usize) -> usize
+fn write_copies(out: &mut [u8], copies: [Cached; CELLS], n: usize, m: usize) -> usize
     requires { ⌜ (n ≤ 16) × (m ≤ 8) ⌝ }
     ensures { λ r. ⌜ Wrote (writeAll (copyLines (each (copiesAt copies n) (below m)))) (now (out .entry)) r (now (out .exit)) ⌝ }
 {

@@ -20,6 +20,7 @@ ghost use Rattle.machine.specs.Computed.Tallies.{noTally, moved, tallyAf
 use judging::Ends;
 use judging::OnSome;
 use judging::Parts;
+use rules::CELLS;
 use rules::Cached;
 use rules::Counts;
 use rules::Course;
@@ -27,9 +28,12 @@ use rules::Event;
 use rules::Main;
 use rules::Memories;
 use rules::Slot;
+use rules::THREADS;
+use rules::VARIABLES;
 use rules::Value;
 use rules::Verdict;
 use state::Cell;
+use state::SLOTS;
 use state::State;
 
 // What is said of an event, and the state that is left.
@@ -144,8 +148,8 @@ fn no_tally() -> Tally
 // 27: whether a volatile variable bars letter k of thread t on volatile variable v.
 fn volatile_order(
     h: Counts,
-    cells: [Cell; 128],
-    stores: [Slot; 1024],
+    cells: [Cell; CELLS],
+    stores: [Slot; SLOTS],
     t: usize,
     v: usize,
     k: u8,
@@ -177,8 +181,8 @@ fn volatile_order(
 fn lead_of(
     h: Counts,
     c: Cell,
-    cells: [Cell; 128],
-    stores: [Slot; 1024],
+    cells: [Cell; CELLS],
+    stores: [Slot; SLOTS],
     t: usize,
     v: usize,
     k: u8,
@@ -207,8 +211,8 @@ fn refuse(number: u8, line: usize) -> Outcome
         usable: false,
     };
     let memories = Memories {
-        main: [zero; 16],
-        copies: [none; 128],
+        main: [zero; VARIABLES],
+        copies: [none; CELLS],
     };
     let refused = Verdict::Refused(number, line);
     Outcome {
@@ -226,18 +230,18 @@ fn refuse_after(number: u8, h: Counts, n: u32) -> Outcome
 }
 
 // The copies in the cells of a state, where these are the positions of the threads' last locks.
-fn copies_of(cells: [Cell; 128], locked: [usize; 8]) -> [Cached; 128]
+fn copies_of(cells: [Cell; CELLS], locked: [usize; THREADS]) -> [Cached; CELLS]
     ensures { λ r. ⌜ r ≡ memoriesOf (wordsIn (stateOf cells locked [])) .copies ⌝ }
 {
     let none = Cached {
         value: 0,
         usable: false,
     };
-    let mut r = [none; 128];
+    let mut r = [none; CELLS];
     let mut i: usize = 0;
-    while i < 128 {
+    while i < CELLS {
         let c = cells[i];
-        let last = locked[i / 16];
+        let last = locked[i / VARIABLES];
         let copy = Cached {
             value: c.copy,
             usable: last < c.source,
@@ -249,7 +253,7 @@ fn copies_of(cells: [Cell; 128], locked: [usize; 8]) -> [Cached; 128]
 }
 
 // All is accepted, with these memories.
-fn accept(main: [Main; 16], copies: [Cached; 128]) -> Outcome
+fn accept(main: [Main; VARIABLES], copies: [Cached; CELLS]) -> Outcome
     ensures { λ r. ⌜ r ≡ record { verdict = said accepted; memories = record { main = main; copies = copies } } ⌝ }
 {
     let memories = Memories {
@@ -264,7 +268,7 @@ fn accept(main: [Main; 16], copies: [Cached; 128]) -> Outcome
 }
 
 // The records of two rows, one after the other, from a state in range: line by line 4, 9, 5 and the row of its letter.
-fn run(start: State, counted: [Tally; 8], what: &[u32], value: &[Value]) -> Outcome
+fn run(start: State, counted: [Tally; THREADS], what: &[u32], value: &[Value]) -> Outcome
     requires { ⌜ Ready start counted ⌝ ∗ ⌜ length (now value) ≡ length (now what) ⌝ }
     ensures { λ r. ⌜ r ≡ outcomeOf (walk full start (rowLines (start .counts) (now (what .entry)) (now (value .entry)))) ⌝ }
 {
@@ -453,7 +457,7 @@ pub fn mark_row(h: Counts, what: &[u32], value: &[Value]) -> Outcome
     }
     let s = state::initial(h);
     let none = no_tally();
-    run(s, [none; 8], what, value)
+    run(s, [none; THREADS], what, value)
 }
 
 // ---- One step.

@@ -7,11 +7,14 @@ ghost use Rattle.rules.specs.Rules.{refused};
 ghost use Rattle.marking.specs.Marking.{refusedWith, Marks};
 ghost use Rattle.marking.specs.Computed.Rows.{readMarking};
 use events::Read;
+use rules::CELLS;
 use rules::Cached;
 use rules::Counts;
 use rules::Course;
 use rules::Main;
 use rules::Memories;
+use rules::RECORDS;
+use rules::VARIABLES;
 use rules::Value;
 use rules::Verdict;
 use trace::Guards;
@@ -41,16 +44,16 @@ pub fn refuse(number: u8, line: usize) -> Marking
             threads: 0,
             variables: 0,
             locks: 0,
-            volatiles: [false; 16],
+            volatiles: [false; VARIABLES],
         },
         guards: Guards {
             given: false,
-            locks: [0; 16],
+            locks: [0; VARIABLES],
         },
         events: 0,
         memories: Memories {
-            main: [zero; 16],
-            copies: [none; 128],
+            main: [zero; VARIABLES],
+            copies: [none; CELLS],
         },
     }
 }
@@ -84,8 +87,8 @@ fn mark_read(h: Counts, guards: Guards, read: Read, what: &[u32], value: &[Value
 pub fn mark(
     course: Course,
     bytes: &[u8],
-    what: &mut [u32; 2000],
-    value: &mut [Value; 2000],
+    what: &mut [u32; RECORDS],
+    value: &mut [Value; RECORDS],
 ) -> Marking
     ensures { λ r. ⌜ Marks (limitsOf course) (now (bytes .entry)) (now (what .entry)) (now (value .entry)) r (now (what .exit)) (now (value .exit)) ⌝ }
 {

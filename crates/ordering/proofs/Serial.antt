@@ -1,4 +1,4 @@
--- Demand 3 of an accepted trace with guards: what is given for it is what `SerialOrder` demands.
+-- Demand 3 of an accepted trace with guards: what is given for it is what `SerialAnswer` demands.
 use Prim.Native.Nat.{ℕ, zero, suc, _+_, _-_, _≤_, _<_}
 use native.Mathlib.Omega.{arith}
 use mathlib.Core.Path.{_≡_, refl, sym, ap, _∙_, subst}
@@ -30,7 +30,7 @@ use Rattle.sections.proofs.Demand3.{trace-declared, demand-3}
 use Rattle.sections.proofs.Entries.{entry-back}
 use Rattle.ordering.specs.declared.Ordering.{Ordering}
 use Rattle.ordering.specs.Answer.{guardOf, answerOf, answerFor, entriesFor, ordered, Given}
-use Rattle.ordering.specs.Serial.{SerialOrder}
+use Rattle.ordering.specs.Serial.{SerialAnswer}
 use Rattle.ordering.proofs.Answering.{judged}
 
 -- ---- the lines of an entry are event lines, and its thread is declared
@@ -149,7 +149,7 @@ module _ (m : Limits) (h : Counts) (g : Guards) (events : List Event) (a : Accep
 
   -- what is answered to a denial, and the list then
   serial : (d : Denial) → denial h guard events ≡ d → (list list′ : List ℕ) → list′ ≡ cond (ordered (answerOf d (length (order h events)))) (over (entriesFor h events) list) list
-      → SerialOrder h g events (answerOf d (length (order h events))) list′
+      → SerialAnswer h g events (answerOf d (length (order h events))) list′
   unfolding answerOf
   serial fit q list list′ w =
       subst (λ (ss : List Entry). Demand3 h guard events fit ss) (sym listed) (subst (λ (x : Denial). Demand3 h guard events x (order h events)) q whole)
@@ -166,8 +166,8 @@ module _ (m : Limits) (h : Counts) (g : Guards) (events : List Event) (a : Accep
 
   -- Demand 3: with guards, what is given for the trace is an order or a denial, as demanded.
   pub demand-3-given : g .given ≡ true → (list scratch : List ℕ) (o : Ordering) (list′ scratch′ : List ℕ)
-      → Given (answerFor h g events) (entriesFor h events) list scratch o list′ scratch′ → SerialOrder h g events o list′
+      → Given (answerFor h g events) (entriesFor h events) list scratch o list′ scratch′ → SerialAnswer h g events o list′
   demand-3-given w list scratch o list′ scratch′ c =
       let said = judged h g events w in
-      subst (λ (x : Ordering). SerialOrder h g events x list′) (sym (c .answers ∙ said))
+      subst (λ (x : Ordering). SerialAnswer h g events x list′) (sym (c .answers ∙ said))
       (serial (denial h guard events) refl list list′ (c .lists ∙ ap (λ (x : Ordering). cond (ordered x) (over (entriesFor h events) list) list) said))

@@ -14,7 +14,7 @@ use Rattle.ordering.specs.Answer.{guardOf}
 
 -- The sequential memory is fed the events and the first c numbers of the order list; where an order is denied nothing is run. A trace that is
 -- due demand 3 gets an order or a denial, and nothing else.
-abbrev pub SerialOrder : Counts → Guards → List Event → Ordering → List ℕ → Type 0
-SerialOrder h g events (Ordered c) list = Demand3 h (guardOf (g .locks)) events fit (map entryIn (take c list))
-SerialOrder h g events (Unordered number line) list = Demand3 h (guardOf (g .locks)) events (denied number line) []
-SerialOrder h g events NoOrder list = ⊥
+abbrev pub SerialAnswer : Counts → Guards → List Event → Ordering → List ℕ → Type 0
+SerialAnswer h g events (Ordered c) list = Demand3 h (guardOf (g .locks)) events fit (map entryIn (take c list))
+SerialAnswer h g events (Unordered number line) list = Demand3 h (guardOf (g .locks)) events (denied number line) []
+SerialAnswer h g events NoOrder list = ⊥

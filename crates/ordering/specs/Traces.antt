@@ -15,7 +15,7 @@ use Rattle.ordering.specs.declared.Ordering.{Ordering}
 use Rattle.ordering.specs.declared.Ordering.the-variants.{NoOrder}
 use Rattle.ordering.specs.declared.Outcome.{Outcome}
 use Rattle.ordering.specs.Answer.{answerFor, entriesFor, Given}
-use Rattle.ordering.specs.Serial.{SerialOrder}
+use Rattle.ordering.specs.Serial.{SerialAnswer}
 
 -- Then, with guards, 20 and 21 event by event, 22 last. Of the order of a refused trace nothing is said.
 unfoldable pub orderingOf : Limits → List ℕ → Ordering
@@ -27,7 +27,7 @@ entriesOf m s = entriesFor (traceOf m s .head) (eventsIn m s)
 
 -- Demand 3, of the answer o and the numbers in the order list after it: the sequential memory is fed these numbers and the trace's events
 abbrev pub SerialTrace : Limits → List ℕ → Ordering → List ℕ → Type 0
-SerialTrace m s o list′ = SerialOrder (traceOf m s .head) (traceOf m s .guards) (eventsIn m s) o list′
+SerialTrace m s o list′ = SerialAnswer (traceOf m s .head) (traceOf m s .guards) (eventsIn m s) o list′
 
 -- a whole trace, marked and ordered; 7 before all, and nothing is touched after it
 pub record OrdersTrace (m : Limits) (s whats : List ℕ) (values : List ℤ) (list scratch : List ℕ) (r : Outcome) (whats′ : List ℕ) (values′ : List ℤ) (list′ scratch′ : List ℕ) : Type 0 where

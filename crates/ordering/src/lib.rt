@@ -13,13 +13,17 @@ ghost use Rattle.ordering.specs.Answer.{guardOf, answerFor, entriesFor, 
 ghost use Rattle.ordering.specs.Computed.Parts.{Fits, past, guardCell, underIn, Holdable, Held, pendingAfter, lateAfter, pendingIn, unfinishedIn, toldAs, codeOf, idleOr, Filled, unlessZero, nonzero, Put, Orders, Written};
 ghost use Rattle.ordering.specs.Traces.{OrdersTrace};
 use marking::Marking;
+use rules::CELLS;
 use rules::Counts;
 use rules::Course;
+use rules::RECORDS;
+use rules::THREADS;
+use rules::VARIABLES;
 use rules::Value;
 use rules::Verdict;
 use trace::Guards;
 
-// What is said of the order of a trace. `answerOf` in specs/Answer.antt has the values of each case.
+// What is said of the order of a trace. `answerFor` in specs/Answer.antt says when each case is given, with its number and values.
 pub enum Ordering {
     // An order, with so many sections.
     Ordered(usize),
@@ -35,7 +39,7 @@ fn guard_cell(t: usize, g: usize) -> usize
     requires { ⌜ t < 8 ⌝ }
     ensures { λ r. ⌜ r ≡ guardCell t g ⌝ }
 {
-    if g < 16 { t * 16 + g } else { 0 }
+    if g < VARIABLES { t * VARIABLES + g } else { 0 }
 }
 
 fn one(b: bool) -> u32
@@ -47,9 +51,9 @@ fn one(b: bool) -> u32
 // What thread t holds after its event on p, and how often. A Y remembers its holds of the lock and a C takes them again: the level and what is remembered change
 // places, for one of them is 0.
 fn hold(
-    levels: &mut [u32; 128],
-    depths: &mut [u32; 8],
-    remembered: &mut [u32; 8],
+    levels: &mut [u32; CELLS],
+    depths: &mut [u32; THREADS],
+    remembered: &mut [u32; THREADS],
     t: usize,
     p: usize,
     k: u8,
@@ -57,7 +61,7 @@ fn hold(
     requires { ⌜ Holdable (now levels) (now depths) (now remembered) t p k ⌝ }
     ensures { λ r. ⌜ Held (now (levels .entry)) (now (depths .entry)) (now (remembered .entry)) t p k r (now (levels .exit)) (now (depths .exit)) (now (remembered .exit)) ⌝ }
 {
-    let c = t * 16 + p;
+    let c = t * VARIABLES + p;
     if (k == b'Y') | (k == b'C') {
         let level = levels[c];
         let kept = remembered[t];
@@ -88,7 +92,7 @@ fn late_after(b: bool, k: u8, any: bool) -> bool
 }
 
 // Whether thread t owes an assign on one of the first n variables.
-fn owes_some(pending: &[bool; 128], t: usize, n: usize) -> bool
+fn owes_some(pending: &[bool; CELLS], t: usize, n: usize) -> bool
     requires { ⌜ t < 8 ⌝ }
     requires { ⌜ n ≤ 16 ⌝ }
     ensures { λ r. ⌜ r ≡ some n (pendingIn (now (pending .entry)) t) ⌝ }
@@ -96,14 +100,19 @@ fn owes_some(pending: &[bool; 128], t: usize, n: usize) -> bool
     let mut any = false;
     let mut v: usize = 0;
     while v < n {
-        any = pending[t * 16 + v] | any;
+        any = pending[t * VARIABLES + v] | any;
         v += 1;
     }
     any
 }
 
 // 22: at the end a lock is held or an assign owed, or a thread is waiting.
-fn unfinished(h: Counts, depths: &[u32; 8], pending: &[bool; 128], remembered: &[u32; 8]) -> bool
+fn unfinished(
+    h: Counts,
+    depths: &[u32; THREADS],
+    pending: &[bool; CELLS],
+    remembered: &[u32; THREADS],
+) -> bool
     requires { ⌜ h .threads ≤ 8 ⌝ }
     requires { ⌜ h .variables ≤ 16 ⌝ }
     ensures { λ r. ⌜ r ≡ unfinishedIn h (now (depths .entry)) (now (pending .entry)) (now (remembered .entry)) ⌝ }
@@ -121,12 +130,12 @@ fn unfinished(h: Counts, depths: &[u32; 8], pending: &[bool; 128], remembered: &
 }
 
 // Whether thread t holds g, the guard of a variable.
-fn is_under(levels: &[u32; 128], t: usize, g: usize) -> bool
+fn is_under(levels: &[u32; CELLS], t: usize, g: usize) -> bool
     requires { ⌜ t < 8 ⌝ }
     ensures { λ r. ⌜ r ≡ underIn (now (levels .entry)) t g ⌝ }
 {
     let c = guard_cell(t, g);
-    (g < 16) & (0 < levels[c])
+    (g < VARIABLES) & (0 < levels[c])
 }
 
 // Denied by this rule, after i events.
@@ -146,15 +155,15 @@ fn broken(bare: bool) -> u8
 }
 
 // The first pass: 20 and 21 event by event, 22 last. Accepted where nothing denies an order.
-fn deny(h: Counts, locks: [usize; 16], what: &[u32], value: &[Value]) -> Verdict
+fn deny(h: Counts, locks: [usize; VARIABLES], what: &[u32], value: &[Value]) -> Verdict
     requires { ⌜ Fits h (now what) (now value) ⌝ }
     ensures { λ r. ⌜ r ≡ toldAs (denial h (guardOf locks) (rowEvents h (now (what .entry)) (now (value .entry)))) ⌝ }
 {
-    let mut levels: [u32; 128] = [0; 128];
-    let mut pending: [bool; 128] = [false; 128];
-    let mut depths: [u32; 8] = [0; 8];
-    let mut remembered: [u32; 8] = [0; 8];
-    let mut late: [bool; 8] = [false; 8];
+    let mut levels: [u32; CELLS] = [0; CELLS];
+    let mut pending: [bool; CELLS] = [false; CELLS];
+    let mut depths: [u32; THREADS] = [0; THREADS];
+    let mut remembered: [u32; THREADS] = [0; THREADS];
+    let mut late: [bool; THREADS] = [false; THREADS];
     let mut i: usize = 0;
     while i < what.len() {
         let w = what[i];
@@ -170,7 +179,7 @@ fn deny(h: Counts, locks: [usize; 16], what: &[u32], value: &[Value]) -> Verdict
         }
         let depth = hold(&mut levels, &mut depths, &mut remembered, t, p, k);
         late[t] = late_after(was, k, 0 < depth);
-        let c = t * 16 + p;
+        let c = t * VARIABLES + p;
         pending[c] = pending_after(pending[c], k);
         i += 1;
     }
@@ -208,11 +217,11 @@ fn fill(h: Counts, what: &[u32], value: &[Value], scratch: &mut [u64]) -> usize
     requires { ⌜ full .scratch ≤ length (now scratch) ⌝ }
     ensures { λ r. ⌜ Filled h (now (what .entry)) (now (value .entry)) r (now (scratch .exit)) ⌝ }
 {
-    let mut levels: [u32; 128] = [0; 128];
-    let mut depths: [u32; 8] = [0; 8];
-    let mut remembered: [u32; 8] = [0; 8];
-    let mut first: [u64; 8] = [0; 8];
-    let mut top: [usize; 8] = [0; 8];
+    let mut levels: [u32; CELLS] = [0; CELLS];
+    let mut depths: [u32; THREADS] = [0; THREADS];
+    let mut remembered: [u32; THREADS] = [0; THREADS];
+    let mut first: [u64; THREADS] = [0; THREADS];
+    let mut top: [usize; THREADS] = [0; THREADS];
     let mut n: usize = 0;
     let mut i: usize = 0;
     while i < what.len() {
@@ -341,8 +350,8 @@ pub struct Outcome {
 pub fn order_trace(
     course: Course,
     bytes: &[u8],
-    what: &mut [u32; 2000],
-    value: &mut [Value; 2000],
+    what: &mut [u32; RECORDS],
+    value: &mut [Value; RECORDS],
     list: &mut [u64],
     scratch: &mut [u64],
 ) -> Outcome

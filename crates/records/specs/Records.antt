@@ -1,4 +1,4 @@
--- A record as two plain numbers: what the event is (letter, thread, variable or lock), and its value. A record is kept at its event's place in
+-- A record as two plain numbers: what the event is (letter, thread, variable or lock), and its value, of an F the thread that it notifies. A record is kept at its event's place in
 -- two rows, and the place gives the line.
 use Prim.Native.Nat.{ℕ, _+_, _*_, _/_, _%_}
 use mathlib.Core.Bool.{cond}
@@ -50,7 +50,7 @@ recordAt h ws xs i = eventIn (lineAfter h i) (getD ws i 0) (getD xs i (pos 0))
 unfoldable pub rowLines : Counts → List ℕ → List ℤ → List (Option Event)
 rowLines h ws xs = from (recordAt h ws xs) 0 (length ws)
 
--- the same as events, where each number names a kind; another stands for a read
+-- the same as events, of rows where each number names a kind; no contract of an entry cites what another stands for
 abbrev pub orRead : Named → ℕ → ℤ → Kind
 orRead named.Nothing p x = Read p x
 orRead (named.Of k) p x = k

@@ -1,9 +1,7 @@
 // Records: an event as two plain numbers. Their layout is in specs/Records.antt.
 ghost use mathlib.Core.Path.{_≡_};
-ghost use Rattle.records.specs.Records.{whatOf, packed, letterIn, threadIn, placeIn, unpacked};
+ghost use Rattle.records.specs.Records.{whatOf, packed, letterIn, threadIn, placeIn};
 use rules::Event;
-use rules::Named;
-use rules::Value;
 
 // What an event is, from its letter, thread, and variable or lock.
 pub fn what_of(letter: u8, thread: usize, place: usize) -> u32
@@ -40,25 +38,4 @@ pub fn place_in(w: u32) -> usize
     ensures { λ r. ⌜ r ≡ placeIn w ⌝ }
 {
     (w % 256) as usize
-}
-
-// The event of a record that stands for this line.
-pub fn unpack(w: u32, value: Value, line: usize) -> Event
-    ensures { λ r. ⌜ r ≡ unpacked line w value ⌝ }
-{
-    let thread = thread_in(w);
-    let place = place_in(w);
-    let named = rules::kind_of(letter_in(w), place, value);
-    match named {
-        Named::Nothing => Event {
-            thread: thread,
-            line: line,
-            kind: rules::Kind::Read(place, value),
-        },
-        Named::Of(kind) => Event {
-            thread: thread,
-            line: line,
-            kind: kind,
-        },
-    }
 }

@@ -1,5 +1,5 @@
 -- What is reported of a trace: after 7, of a refused trace, and of an accepted one.
-use Prim.Native.Nat.{ℕ, _+_, _≤_, min}
+use Prim.Native.Nat.{ℕ, _≤_, min}
 use native.Mathlib.Omega.{arith}
 use mathlib.Core.Path.{_≡_, refl, sym, ap, _∙_}
 use mathlib.Core.Bool.{Bool, true, false, cond, _||_}
@@ -8,7 +8,7 @@ use lib.Dec.{ltb}
 use lib.IntN.{ℤ}
 use lib.ListN.{length, length-map, length-append, take, drop}
 use lib.Seq.{take-at, length-take-le}
-use borrow.Author.Tests.{le-leb, le-ltb, ltb-false}
+use borrow.Author.Tests.{le-leb, ltb-false}
 use Rattle.rules.specs.declared.Event.{Event}
 use Rattle.rules.specs.declared.Counts.{Counts}
 use Rattle.rules.specs.declared.Course.{Course}
@@ -295,23 +295,12 @@ module _ (course : Course) where
 
   -- ---- the listing in the output
 
-  -- it ends within the output
-  pub written-in : (s : List ℕ) (places : ℕ) (out list scratch : List ℕ) (r : Report) (out′ list′ scratch′ : List ℕ) → Reports m s places out list scratch r out′ list′ scratch′ → r .written ≤ length out′
-  written-in s places out list scratch r out′ list′ scratch′ c = by (tooLittle m places out list scratch) (c .says) (c .prints)
+  -- how much is written: nothing where too little is lent
+  pub written-by : (s : List ℕ) (places : ℕ) (out list scratch : List ℕ) (r : Report) (out′ list′ scratch′ : List ℕ) → Reports m s places out list scratch r out′ list′ scratch′
+      → r .written ≡ cond (tooLittle m places out list scratch) 0 (length (listingOf m s))
+  unfolding reportOf
+  written-by s places out list scratch r out′ list′ scratch′ c = ap (λ (x : Report). x .written) (c .says) ∙ by (tooLittle m places out list scratch)
     where
-      by : (b : Bool) → r ≡ cond b tooLittleReport (reportOf m s (orderingOf m s) (listingOf m s)) → out′ ≡ cond b out (over (listingOf m s) out) → r .written ≤ length out′
-      by true p q = let n : r .written ≡ 0 = ap (λ (x : Report). x .written) p in omega arith
-      by false p q =
-          let n : r .written ≡ length (listingOf m s) = ap (λ (x : Report). x .written) p ∙ (unfold reportOf in refl) in
-          let l : length out′ ≡ length (over (listingOf m s) out) = ap length q in
-          omega (arith, n, l, length-append (listingOf m s) (drop (length (listingOf m s)) out))
-
-  -- enough is lent
-  pub enough-lent : (places : ℕ) (out list scratch : List ℕ) → m .records ≤ places → m .output ≤ length out → m .entries ≤ length list → m .scratch ≤ length scratch → tooLittle m places out list scratch ≡ false
-  unfolding lentShort orderShort
-  enough-lent places out list scratch p q l k = rw (le-ltb places (m .records) p, le-ltb (length out) (m .output) q, le-ltb (length list) (m .entries) l, le-ltb (length scratch) (m .scratch) k) refl
-
-  -- where enough is lent, it is written whole
-  pub written-is : (s : List ℕ) (places : ℕ) (out list scratch : List ℕ) (r : Report) (out′ list′ scratch′ : List ℕ) → Reports m s places out list scratch r out′ list′ scratch′
-      → tooLittle m places out list scratch ≡ false → r .written ≡ length (listingOf m s)
-  written-is s places out list scratch r out′ list′ scratch′ c e = ap (λ (x : Report). x .written) (c .says) ∙ (rw e (unfold reportOf in refl))
+      by : (b : Bool) → cond b tooLittleReport (reportOf m s (orderingOf m s) (listingOf m s)) .written ≡ cond b 0 (length (listingOf m s))
+      by true = refl
+      by false = refl

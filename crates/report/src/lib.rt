@@ -13,6 +13,7 @@ use ordering::Ordering;
 use rules::Counts;
 use rules::Course;
 use rules::Memories;
+use rules::RECORDS;
 use rules::Value;
 use rules::Verdict;
 
@@ -106,8 +107,8 @@ pub fn mark_lent(
     course: Course,
     bytes: &[u8],
     places: usize,
-    what: &mut [u32; 2000],
-    value: &mut [Value; 2000],
+    what: &mut [u32; RECORDS],
+    value: &mut [Value; RECORDS],
     out: &mut [u8],
     list: &mut [u64],
     scratch: &mut [u64],
@@ -152,8 +153,8 @@ pub fn mark_trace(
 ) -> Report
     ensures { λ r. ⌜ Fills (limitsOf course) (now (bytes .entry)) (now (whats .entry)) (now (values .entry)) (now (out .entry)) (now (list .entry)) (now (scratch .entry)) r (now (whats .exit)) (now (values .exit)) (now (out .exit)) (now (list .exit)) (now (scratch .exit)) ⌝ }
 {
-    let mut what: [u32; 2000] = [0; 2000];
-    let mut value: [Value; 2000] = [0; 2000];
+    let mut what: [u32; RECORDS] = [0; RECORDS];
+    let mut value: [Value; RECORDS] = [0; RECORDS];
     let places = lesser(whats.len(), values.len());
     let r = mark_lent(
         course,
@@ -184,8 +185,8 @@ pub fn mark_unordered(
     if rules::is_lent_short(lesser(whats.len(), values.len()), out.len()) {
         return lent_short();
     }
-    let mut what: [u32; 2000] = [0; 2000];
-    let mut value: [Value; 2000] = [0; 2000];
+    let mut what: [u32; RECORDS] = [0; RECORDS];
+    let mut value: [Value; RECORDS] = [0; RECORDS];
     let m = marking::mark(course, bytes, &mut what, &mut value);
     let nothing = Ordering::NoOrder;
     let said = m.verdict;

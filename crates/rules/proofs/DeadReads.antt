@@ -277,7 +277,7 @@ pub refused-dead : (h : Counts) (es : List Event) (e : Event) → T (legal h es)
 refused-dead h es e l k p = record {
   goes = legal-by-cons (judgeBut 23) h e es k (refused-last h (wordsOf es) e p) (legal-but 23 h es l);
   before = 0;
-  waits = length-some (reads (e .thread) (loc e) (e ∷ es)) (rw (← (reads-cell (e ∷ es) (e .thread) (loc e))) (barred .waits));
+  outstanding = length-some (reads (e .thread) (loc e) (e ∷ es)) (rw (← (reads-cell (e ∷ es) (e .thread) (loc e))) (barred .waits));
   never = λ more g. omega (arith, barred-ever h (e ∷ es) (e .thread) (loc e) barred more g .1);
 }
   where
@@ -299,7 +299,7 @@ dead-refused h es e l t v c z d = go (judge-only 23 h (wordsOf es) e (legal-by-r
     go : (judge h (wordsOf es) e ≡ 0) ⊎ (judge h (wordsOf es) e ≡ 23) → judge h (wordsOf es) e ≡ 23
     go (inl q) =
         let m = all-loadable h (e ∷ es) (legal-cons h e es (legal-by-known (judgeBut 23) h e es (d .goes)) q l) t v c z in
-        absurd (omega (arith, d .waits, d .never (m .more) (legal-but 23 h (m .more ++ (e ∷ es)) (m .goes)), m .loads))
+        absurd (omega (arith, d .outstanding, d .never (m .more) (legal-but 23 h (m .more ++ (e ∷ es)) (m .goes)), m .loads))
     go (inr q) = q
 
 -- On a variable that is not volatile, of a thread that does not wait after it, 23 is said exactly of an event that leaves T a read of V which can never be loaded.

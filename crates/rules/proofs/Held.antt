@@ -1,6 +1,6 @@
 -- The holds on a lock, after a legal list: each K of T is held, given up at a Y, or undone by an N; each Y but the last has its C;
 -- and who waits on a lock does not hold it. So "held" is more K than N, with Y and C counted as document 02 (i) says.
-use Prim.Native.Nat.{ℕ, suc, pred, _+_, _-_, _≤_, _<_}
+use Prim.Native.Nat.{ℕ, suc, pred, _+_, _≤_, _<_}
 use native.Mathlib.Omega.{arith}
 use mathlib.Core.Path.{_≡_, refl, sym, ap, _∙_, subst}
 use mathlib.Core.Bool.{Bool, true, false, not, cond, _&&_, _||_, true≢false, false≢true}

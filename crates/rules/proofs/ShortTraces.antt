@@ -1,42 +1,63 @@
 -- The tables of short traces, and the 1-2-3 run, are what the definitions give: by computation.
 use mathlib.Core.Path.{_≡_, refl}
-use mathlib.Core.List.{[], _∷_, map, reverse}
-use mathlib.Core.Option.{some as found}
-use lib.IntN.{pos}
+use mathlib.Core.List.{List, [], _∷_, map, reverse}
+use mathlib.Core.Option.{Option, none, some as found}
+use lib.IntN.{ℤ, pos}
 use Rattle.rules.specs.declared.Event.{Event}
+use Rattle.rules.specs.declared.Counts.{Counts}
 use Rattle.rules.specs.Events.{capped, is, of, on, subjectOf, onLock, locks, unlocks, eqZ}
 use Rattle.rules.specs.Limits.{full, volatile, anyVolatile, firstLine, lineAfter, declared}
 use Rattle.rules.specs.Words.{latest, valueIn, letterIn, lastAt, count, inOrder, by, locksBy, reads, stores, copy, fresh, pending, announced, lastLock, lastWrite, usable, gripAfter, grip, depth, remembered, tells, notified, main, afterLoad, afterAssign, loadedRead, usedRead, lastAssign}
 use Rattle.rules.specs.Rules.{wordsOf, some, noPartner, lockTaken, notHeld, pendingBars, notFresh, notStored, readBeforeWrite, unwritten, notWritten, notUsable, differs, eightAlready, deadRead, wrongNeighbour, barsUse, barsWrite, useBarred, writeBarred, volatileOrder, prescientVolatile, waits, ofWaiting, notNotified, breaks, rows, rowIn, firstBroken, judge, answer, verdict, accepted, refused, markFrom, mark}
 use Rattle.rules.specs.PrescientStores.{judgeStrict, verdictStrict, markStrict}
 use Rattle.rules.specs.Memories.{below, each, memory}
-use Rattle.rules.specs.Traces.{ev, U, A, L, S, R, W, P, B, K, N, Y, F, C, trace, with-main, traces, slips, deadReads, prescientStores, volatileTraces, waitingTraces, twoVolatile, computedWith, computed, two, oneTwoThreeCounts, oneTwoThree}
+use Rattle.rules.specs.Traces.{Trace, ev, U, A, L, S, R, W, P, B, K, N, Y, F, C, trace, with-main, traces, slips, deadReads, prescientStores, checkTraces, volatileTraces, waitingTraces, twoVolatile, two, oneTwoThreeCounts, oneTwoThree}
 
-pub short-traces : map computed traces ≡ traces
-unfolding ev U A L S R W P B K N trace with-main traces computedWith computed capped is of on subjectOf onLock locks unlocks eqZ declared volatile anyVolatile firstLine latest valueIn letterIn lastAt count inOrder by locksBy reads stores copy fresh pending announced lastLock lastWrite usable gripAfter grip depth remembered tells notified main afterLoad afterAssign loadedRead usedRead lastAssign wordsOf some noPartner lockTaken notHeld pendingBars notFresh notStored readBeforeWrite unwritten notWritten notUsable differs eightAlready deadRead wrongNeighbour barsUse barsWrite useBarred writeBarred volatileOrder prescientVolatile waits ofWaiting notNotified breaks rows rowIn firstBroken judge answer verdict markFrom mark
-short-traces = refl
+-- y, where a row says what main memory is
+abbrev where-said : Option ℤ → ℤ → Option ℤ
+where-said none y = none
+where-said (found x) y = found y
 
-pub slips-computed : map computed slips ≡ slips
-unfolding ev U A L S R W P B K N trace with-main slips computedWith computed capped is of on subjectOf onLock locks unlocks eqZ declared volatile anyVolatile firstLine latest valueIn letterIn lastAt count inOrder by locksBy reads stores copy fresh pending announced lastLock lastWrite usable gripAfter grip depth remembered tells notified main afterLoad afterAssign loadedRead usedRead lastAssign wordsOf some noPartner lockTaken notHeld pendingBars notFresh notStored readBeforeWrite unwritten notWritten notUsable differs eightAlready deadRead wrongNeighbour barsUse barsWrite useBarred writeBarred volatileOrder prescientVolatile waits ofWaiting notNotified breaks rows rowIn firstBroken judge answer verdict markFrom mark
-slips-computed = refl
+-- each row of a table has the verdict that the definitions give its events with these counts, and main memory of variable 0 where it says it
+pub record Computed (h : Counts) (rows : List Trace) : Type 0 where
+  pub verdicts : map (λ (r : Trace). mark full h (r .events)) rows ≡ map (λ (r : Trace). r .marked) rows
+  pub mains : map (λ (r : Trace). where-said (r .main0) (main 0 (reverse (r .events)))) rows ≡ map (λ (r : Trace). r .main0) rows
 
-pub dead-reads-computed : map computed deadReads ≡ deadReads
-unfolding ev U A L S R W P B K N trace with-main deadReads computedWith computed capped is of on subjectOf onLock locks unlocks eqZ declared volatile anyVolatile firstLine latest valueIn letterIn lastAt count inOrder by locksBy reads stores copy fresh pending announced lastLock lastWrite usable gripAfter grip depth remembered tells notified main afterLoad afterAssign loadedRead usedRead lastAssign wordsOf some noPartner lockTaken notHeld pendingBars notFresh notStored readBeforeWrite unwritten notWritten notUsable differs eightAlready deadRead wrongNeighbour barsUse barsWrite useBarred writeBarred volatileOrder prescientVolatile waits ofWaiting notNotified breaks rows rowIn firstBroken judge answer verdict markFrom mark
-dead-reads-computed = refl
+tables : Computed two traces × Computed two slips × Computed two deadReads × Computed two prescientStores × Computed two checkTraces × Computed twoVolatile volatileTraces × Computed two waitingTraces
+unfolding ev U A L S R W P B K N Y F C trace with-main traces slips deadReads prescientStores checkTraces volatileTraces waitingTraces capped is of on subjectOf onLock locks unlocks eqZ declared volatile anyVolatile firstLine latest valueIn letterIn lastAt count inOrder by locksBy reads stores copy fresh pending announced lastLock lastWrite usable gripAfter grip depth remembered tells notified main afterLoad afterAssign loadedRead usedRead lastAssign wordsOf some noPartner lockTaken notHeld pendingBars notFresh notStored readBeforeWrite unwritten notWritten notUsable differs eightAlready deadRead wrongNeighbour barsUse barsWrite useBarred writeBarred volatileOrder prescientVolatile waits ofWaiting notNotified breaks rows rowIn firstBroken judge answer verdict markFrom mark
+tables = (
+  record { verdicts = refl; mains = refl },
+  record { verdicts = refl; mains = refl },
+  record { verdicts = refl; mains = refl },
+  record { verdicts = refl; mains = refl },
+  record { verdicts = refl; mains = refl },
+  record { verdicts = refl; mains = refl },
+  record { verdicts = refl; mains = refl },
+)
 
-pub prescient-stores-computed : map computed prescientStores ≡ prescientStores
-unfolding ev U A L S R W P B K N trace with-main prescientStores computedWith computed capped is of on subjectOf onLock locks unlocks eqZ declared volatile anyVolatile firstLine latest valueIn letterIn lastAt count inOrder by locksBy reads stores copy fresh pending announced lastLock lastWrite usable gripAfter grip depth remembered tells notified main afterLoad afterAssign loadedRead usedRead lastAssign wordsOf some noPartner lockTaken notHeld pendingBars notFresh notStored readBeforeWrite unwritten notWritten notUsable differs eightAlready deadRead wrongNeighbour barsUse barsWrite useBarred writeBarred volatileOrder prescientVolatile waits ofWaiting notNotified breaks rows rowIn firstBroken judge answer verdict markFrom mark
-prescient-stores-computed = refl
+pub short-traces : Computed two traces
+short-traces = tables .0
+
+pub slips-computed : Computed two slips
+slips-computed = tables .1
+
+pub dead-reads-computed : Computed two deadReads
+dead-reads-computed = tables .2
+
+pub prescient-stores-computed : Computed two prescientStores
+prescient-stores-computed = tables .3
+
+-- each check of the ten rows of document 01, and their order
+pub checks-computed : Computed two checkTraces
+checks-computed = tables .4
 
 -- 26, 27 at U and at W, and 28, with the line `V 0 1`
-pub volatile-traces : map (computedWith twoVolatile) volatileTraces ≡ volatileTraces
-unfolding ev U A L S R W P B K N trace with-main volatileTraces computedWith capped is of on subjectOf onLock locks unlocks eqZ declared volatile anyVolatile firstLine latest valueIn letterIn lastAt count inOrder by locksBy reads stores copy fresh pending announced lastLock lastWrite usable gripAfter grip depth remembered tells notified main afterLoad afterAssign loadedRead usedRead lastAssign wordsOf some noPartner lockTaken notHeld pendingBars notFresh notStored readBeforeWrite unwritten notWritten notUsable differs eightAlready deadRead wrongNeighbour barsUse barsWrite useBarred writeBarred volatileOrder prescientVolatile waits ofWaiting notNotified breaks rows rowIn firstBroken judge answer verdict markFrom mark
-volatile-traces = refl
+pub volatile-traces : Computed twoVolatile volatileTraces
+volatile-traces = tables .5
 
 -- waiting and notification: 29, 30, and what Y, F and C are checked for
-pub waiting-traces : map computed waitingTraces ≡ waitingTraces
-unfolding ev U A L S R W P B K N Y F C trace with-main waitingTraces computedWith computed capped is of on subjectOf onLock locks unlocks eqZ declared volatile anyVolatile firstLine latest valueIn letterIn lastAt count inOrder by locksBy reads stores copy fresh pending announced lastLock lastWrite usable gripAfter grip depth remembered tells notified main afterLoad afterAssign loadedRead usedRead lastAssign wordsOf some noPartner lockTaken notHeld pendingBars notFresh notStored readBeforeWrite unwritten notWritten notUsable differs eightAlready deadRead wrongNeighbour barsUse barsWrite useBarred writeBarred volatileOrder prescientVolatile waits ofWaiting notNotified breaks rows rowIn firstBroken judge answer verdict markFrom mark
-waiting-traces = refl
+pub waiting-traces : Computed two waitingTraces
+waiting-traces = tables .6
 
 -- with every store counted, the row of `K P N` is as document 01 has it
 pub strict-computed : markStrict full two [] (map (λ (e : Event). found e) (K 0 0 ∷ P 0 0 5 ∷ N 0 0 ∷ [])) ≡ refused 16 (lineAfter two 2)

@@ -1,7 +1,7 @@
 -- Lines without Y, F and C are marked as before waiting and notification; others so too, or by the first of these behind accepted events, which was 4.
 use Prim.Native.Nat.{ℕ, suc, pred}
 use mathlib.Core.Path.{_≡_, refl, sym, ap, subst, _∙_}
-use mathlib.Core.Bool.{true, false, not, cond, and-false}
+use mathlib.Core.Bool.{true, false, not, cond, _||_, and-false, or-assoc, or-false}
 use mathlib.Core.List.{List, [], _∷_, map}
 use mathlib.Core.Logic.{_⊎_}
 use mathlib.Core.Option.{Option, some}
@@ -9,17 +9,24 @@ use lib.Dec.{T, ltb}
 use lib.ListN.{length}
 use Rattle.rules.specs.declared.Event.{Event}
 use Rattle.rules.specs.declared.Counts.{Counts}
-use Rattle.rules.specs.Events.{C, F, K, N, Y, among, is, locks}
+use Rattle.rules.specs.Events.{A, B, C, F, K, L, N, P, R, S, U, W, Y, among, isLetter, is, locks}
 use Rattle.rules.specs.Limits.{Limits}
 use Rattle.rules.specs.Words.{latest, letterIn, lastAt, by, locksBy, gripAfter, grip, tells}
 use Rattle.rules.specs.Words as Earlier
 use Rattle.rules.specs.Rules.{wordsOf, waits, ofWaiting, notNotified, breaks, rows, firstBroken, judge, answer, verdict, Accepted, markRead, pastRead}
 use Rattle.rules.specs.Ten.{tenLetters, isTen, tenLine, AllTen, tenDepth, tenLocks, tenLastLock, tenUsable, tenWordsOf, tenJudge, tenVerdict, markTen, pastTen}
+use Rattle.rules.proofs.Letters.{eqb-turn}
 use Rattle.rules.proofs.Laws.{allOf, is-apart, none-some}
 use Rattle.rules.proofs.Plain.{row-led}
 use Rattle.rules.proofs.Fewer.{all-pass, fewer-marked, pass-same, past-pass, only-pass}
 use Rattle.rules.proofs.Readings.{past-accepted}
 use Rattle.rules.proofs.Fewer as Fewer
+
+-- the thirteen letters are the ten and Y, F and C
+pub ten-letters : (k : ℕ) → isLetter k ≡ (among tenLetters k || among (Y ∷ F ∷ C ∷ []) k)
+unfolding isLetter
+ten-letters k =
+    rw (eqb-turn k U, eqb-turn k A, eqb-turn k L, eqb-turn k S, eqb-turn k R, eqb-turn k W, eqb-turn k K, eqb-turn k N, eqb-turn k P, eqb-turn k B, eqb-turn k Y, eqb-turn k F, eqb-turn k C) (simp (or-assoc, or-false) refl)
 
 -- ---- one event of the ten kinds
 

@@ -27,7 +27,7 @@ judgeBut n h w e = firstBroken (except n (rowIn rows (letter (e .kind)))) h w e
 pub record Dead (h : Counts) (t v : ℕ) (es : List Event) : Type 0 where
   pub goes : T (legalBy (judgeBut 23) h es)
   pub before : ℕ
-  pub waits : before < length (reads t v es)
+  pub outstanding : before < length (reads t v es)
   pub never : (more : List Event) → T (legalBy (judgeBut 23) h (more ++ es)) → count (by (L ∷ []) t v) more ≤ before
 
 -- how many events load the outstanding reads of T on V: a load for each, and B before them where V is owed

@@ -1,5 +1,5 @@
 -- The limits of documents 01 and 02, each named once.
-use Prim.Native.Nat.{ℕ, zero, suc, _+_, _^_, _≤_, _<_}
+use Prim.Native.Nat.{ℕ, zero, suc, _+_, _*_, _^_, _≤_, _<_}
 use mathlib.Core.Bool.{Bool, true, false, not, cond, _&&_, _||_}
 use mathlib.Core.List.{List}
 use lib.Dec.{ltb, leb}
@@ -108,6 +108,14 @@ pub record UpToFull (m : Limits) : Type 0 where
 -- At most 8 outstanding reads and 8 outstanding stores for each thread and variable.
 abbrev pub most : ℕ
 most = 8
+
+-- Document 02 (b): the cell of thread t and variable v is 16 × thread + variable.
+abbrev pub cellNumber : ℕ → ℕ → ℕ
+cellNumber t v = full .variables * t + v
+
+-- how many cells there are
+abbrev pub cellCount : ℕ
+cellCount = full .threads * full .variables
 
 -- f holds of a number below n
 unfoldable pub some : ℕ → (ℕ → Bool) → Bool

@@ -8,6 +8,7 @@ use Rattle.rules.specs.declared.Cached.{Cached}
 use Rattle.rules.specs.declared.Counts.{Counts}
 use Rattle.rules.specs.declared.Main.{Main}
 use Rattle.rules.specs.declared.Memories.{Memories}
+use Rattle.rules.specs.Limits.{full, cellCount}
 use Rattle.rules.specs.Rules.{Words}
 
 -- the numbers below n, rising
@@ -43,13 +44,13 @@ from f i (suc n) = f i ∷ from f (suc i) n
 abbrev pub mainIn : Words → ℕ → Main
 mainIn w v = record { value = w .main v }
 
--- the copy of thread i / 16 and variable i % 16
+-- the copy of cell i
 abbrev pub cachedIn : Words → ℕ → Cached
-cachedIn w i = record { value = w .copy (i / 16) (i % 16); usable = w .usable (i / 16) (i % 16) }
+cachedIn w i = let t = i / full .variables in let v = i % full .variables in record { value = w .copy t v; usable = w .usable t v }
 
 unfoldable pub memoriesOf : Words → Memories
-memoriesOf w = record { main = from (mainIn w) 0 16; copies = from (cachedIn w) 0 128 }
+memoriesOf w = record { main = from (mainIn w) 0 (full .variables); copies = from (cachedIn w) 0 cellCount }
 
 -- after a refusal
 abbrev pub noMemories : Memories
-noMemories = record { main = replicate 16 (record { value = pos 0 }); copies = replicate 128 (record { value = pos 0; usable = false }) }
+noMemories = record { main = replicate (full .variables) (record { value = pos 0 }); copies = replicate cellCount (record { value = pos 0; usable = false }) }

@@ -33,7 +33,7 @@ madeUnwritten t v es = someMade t v es (stores t v es)
 -- ---- 16 at N, and so at Y, as document 01 has it
 
 -- The first rule of its row that e breaks, 0 where it breaks none; 16 at N by document 01: "N while T has an outstanding store. The syllabus counts
--- an early store here like the others."
+-- an early store here like the others." (Of the numbers that lead a row N and Y can break 29 alone.)
 unfoldable pub judgeStrict : Counts → Words → Event → ℕ
 judgeStrict h w e =
     cond (unlocks e)

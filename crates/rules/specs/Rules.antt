@@ -20,7 +20,7 @@ unfoldable pub use Rattle.rules.specs.Limits.{some}
 use Rattle.rules.specs.Words.{first, accesses}
 use Rattle.rules.specs.Words as Earlier
 
--- the words that the rules use, for each thread and variable (or lock)
+-- the words that the rules use, for each thread and variable (or lock); and the last lock, by which a copy is usable after a load
 pub record Words : Type 0 where
   pub events : ℕ
   pub copy : ℕ → ℕ → ℤ
@@ -182,7 +182,8 @@ wrongNeighbour h w e =
     is accesses e
     && (volatile h (loc e) && (differ (is (U ∷ []) e) (w .afterLoad (e .thread) (loc e)) || differ (is (S ∷ []) e) (w .afterAssign (e .thread) (loc e))))
 
--- V stands in the way of T's use whose read is at r: an assign of V is not written, or its write or the read of a use is not before r
+-- V stands in the way of T's use whose read is at r: an assign of V is not written, or its write or the read of a use is not before r. (0 stands for none,
+-- and is before every read that events reach.)
 unfoldable pub barsUse : Words → ℕ → ℕ → ℕ → Bool
 barsUse w t r v = w .fresh t v || not (none? (w .stores t v)) || not (ltb (w .lastWrite t v) r) || not (ltb (w .usedRead t v) r)
 
@@ -220,7 +221,7 @@ unfoldable pub ofWaiting : Counts → Words → Event → Bool
 ofWaiting h w e = not (is (C ∷ R ∷ W ∷ []) e) && waits h w (e .thread)
 
 -- 30. F for a thread not waiting on that lock or already notified, C by one not notified on it. (The thread that an F is for, and C's own, is its
--- subject.)
+-- subject. Who is notified waits: `notified-waits` in proofs/Held.antt.)
 unfoldable pub notNotified : Words → Event → Bool
 notNotified w e =
     is (F ∷ []) e && (not (waitsOn w (subject e) (loc e)) || w .notified (subject e) (loc e))
@@ -252,8 +253,8 @@ pub record Row : Type 0 where
   pub kind : ℕ
   pub checks : List ℕ
 
--- What is checked hangs on the kind, and the ten rows of this table are fixed; Y is checked as N is, F needs the lock held, C is checked as K is. These
--- numbers lead each row.
+-- What is checked hangs on the kind, and the ten rows of this table are fixed. Document 02: 23, dead read, after 19 in the rows of R, A and P; Y is checked
+-- as N is, F needs the lock held, C is checked as K is. These numbers lead each row.
 abbrev pub rowsBehind : List ℕ → List Row
 rowsBehind lead =
     row U (17 ∷ 18 ∷ [])

@@ -1,18 +1,17 @@
 -- Document 01, "Short traces": the rows marked as proved, one table, two of them with the verdict of document 02 (a) and one with that
--- of (d); more traces of both documents, volatile variables, waiting; and the 1-2-3 run. `proofs/ShortTraces.antt` proves each table by one theorem, and that the run is accepted.
-use Prim.Native.Nat.{ℕ, zero, suc}
+-- of (d); more traces of both documents, the checks of the rows, volatile variables, waiting; and the 1-2-3 run. `proofs/ShortTraces.antt` proves each table by one theorem, and that the run is accepted.
+use Prim.Native.Nat.{ℕ, pred}
 use mathlib.Core.Bool.{true, false}
-use mathlib.Core.List.{List, [], _∷_, reverse}
+use mathlib.Core.List.{List, [], _∷_, _++_}
 use mathlib.Core.Option.{Option, none, some}
-use lib.IntN.{ℤ, pos}
+use lib.IntN.{ℤ, pos, negsuc}
 use lib.ListN.{replicate}
 use Rattle.rules.specs.declared.Kind.{Kind}
 use Rattle.rules.specs.declared.Kind.the-variants.{Use, Assign, Load, Store, Read, Write, Lock, Unlock, PrescientStore, PrescientAssign, Wait, Notify, Resume}
 use Rattle.rules.specs.declared.Event.{Event}
 use Rattle.rules.specs.declared.Counts.{Counts}
-use Rattle.rules.specs.Limits.{full, noVolatiles, lineAfter}
-use Rattle.rules.specs.Words.{main}
-use Rattle.rules.specs.Rules.{Marked, accepted, refused, mark}
+use Rattle.rules.specs.Limits.{noVolatiles, lineAfter}
+use Rattle.rules.specs.Rules.{Marked, accepted, refused}
 
 -- the line of an event plays no part in the rules
 unfoldable pub ev : ℕ → Kind → Event
@@ -64,8 +63,7 @@ two = record { threads = 2; variables = 2; locks = 2; volatiles = noVolatiles }
 
 -- the refusal of event n, from 1, in a trace with these counts
 abbrev pub badWith : Counts → ℕ → ℕ → Marked
-badWith h number zero = accepted
-badWith h number (suc n) = refused number (lineAfter h n)
+badWith h number n = refused number (lineAfter h (pred n))
 
 abbrev pub bad : ℕ → ℕ → Marked
 bad = badWith two
@@ -81,6 +79,13 @@ trace es m = record { events = es; marked = m; main0 = none }
 
 unfoldable pub with-main : List Event → Marked → ℤ → Trace
 with-main es m x = record { events = es; marked = m; main0 = some x }
+
+-- eight stores of thread 0 on variable 0
+abbrev pub eightStores : List Event
+eightStores = pair ++ pair ++ pair ++ pair ++ pair ++ pair ++ pair ++ pair
+  where
+    pair : List Event
+    pair = A 0 0 1 ∷ S 0 0 1 ∷ []
 
 unfoldable pub traces : List Trace
 traces =
@@ -133,6 +138,53 @@ prescientStores =
     ∷ with-main (K 0 0 ∷ P 0 0 5 ∷ N 0 0 ∷ W 0 0 5 ∷ B 0 0 5 ∷ []) accepted (pos 5)
     ∷ []
 
+-- The ten rows of document 01: each check, on whichever variable, and the order of two that one event breaks.
+unfoldable pub checkTraces : List Trace
+checkTraces =
+    -- U: 17, 18
+    trace (U 0 0 5 ∷ []) (bad 17 1)
+    ∷ trace (A 0 0 5 ∷ U 0 0 6 ∷ []) (bad 18 2)
+    ∷ trace (A 0 0 4294967296 ∷ U 0 0 0 ∷ []) (bad 18 2)
+    ∷ trace (ev 0 (Assign 0 (negsuc 0)) ∷ ev 0 (Use 0 (negsuc 1)) ∷ []) (bad 18 2)
+    ∷ trace (P 0 0 5 ∷ W 0 0 5 ∷ B 0 0 5 ∷ U 0 0 5 ∷ []) accepted
+    -- L: 10, 13, 18
+    ∷ trace (P 0 0 5 ∷ L 0 0 0 ∷ []) (bad 10 2)
+    ∷ trace (P 0 0 5 ∷ W 0 0 5 ∷ R 0 0 5 ∷ L 0 0 6 ∷ []) (bad 13 4)
+    ∷ trace (R 0 0 0 ∷ L 0 0 1 ∷ []) (bad 18 2)
+    -- S: 13, 14, 17, 18, 19
+    ∷ trace (P 0 0 5 ∷ S 0 0 5 ∷ []) (bad 13 2)
+    ∷ trace (P 0 0 5 ∷ A 0 0 6 ∷ S 0 0 6 ∷ []) (bad 13 3)
+    ∷ trace (S 0 0 0 ∷ []) (bad 14 1)
+    ∷ trace (A 0 0 5 ∷ K 0 0 ∷ S 0 0 6 ∷ []) (bad 17 3)
+    ∷ trace (A 0 0 5 ∷ S 0 0 6 ∷ []) (bad 18 2)
+    ∷ trace (eightStores ++ (A 0 0 5 ∷ S 0 0 6 ∷ [])) (bad 18 18)
+    ∷ trace (eightStores ++ (A 0 0 5 ∷ S 0 0 5 ∷ [])) (bad 19 18)
+    -- R: 18, 19
+    ∷ trace (replicate 8 (R 0 0 0) ++ (R 0 0 1 ∷ [])) (bad 18 9)
+    ∷ trace (replicate 8 (R 0 0 0) ++ (R 0 0 0 ∷ [])) (bad 19 9)
+    ∷ trace (replicate 8 (R 0 0 0) ++ (R 0 1 0 ∷ R 1 0 0 ∷ [])) accepted
+    -- W: 10, 18
+    ∷ trace (W 0 0 1 ∷ []) (bad 10 1)
+    ∷ trace (A 0 0 5 ∷ S 0 0 5 ∷ W 0 0 6 ∷ []) (bad 18 3)
+    -- K: 11, 13
+    ∷ trace (K 1 0 ∷ P 0 0 5 ∷ K 0 0 ∷ []) (bad 11 3)
+    ∷ trace (P 0 1 5 ∷ K 0 0 ∷ []) (bad 13 2)
+    -- N: 12, 15, 16
+    ∷ trace (A 0 0 5 ∷ N 0 0 ∷ []) (bad 12 2)
+    ∷ trace (K 0 0 ∷ A 0 0 5 ∷ S 0 0 5 ∷ A 0 1 6 ∷ N 0 0 ∷ []) (bad 15 5)
+    ∷ trace (K 0 0 ∷ A 0 1 5 ∷ S 0 1 5 ∷ N 0 0 ∷ []) (bad 16 4)
+    -- P: 13, 19
+    ∷ trace (P 0 0 5 ∷ P 0 0 6 ∷ []) (bad 13 2)
+    ∷ trace (eightStores ++ (P 0 0 5 ∷ [])) (bad 19 17)
+    -- B: 10, 18
+    ∷ trace (B 0 0 5 ∷ []) (bad 10 1)
+    ∷ trace (P 0 0 5 ∷ B 0 0 6 ∷ []) (bad 18 2)
+    -- 5 before the row
+    ∷ trace (U 2 0 0 ∷ []) (bad 5 1)
+    ∷ trace (U 0 2 0 ∷ []) (bad 5 1)
+    ∷ trace (N 0 2 ∷ []) (bad 5 1)
+    ∷ []
+
 -- Document 02 (f): two threads, variables and locks, and the line `V 0 1`.
 abbrev pub twoVolatile : Counts
 twoVolatile = record { threads = 2; variables = 2; locks = 2; volatiles = true ∷ true ∷ replicate 14 false }
@@ -165,8 +217,11 @@ volatileTraces =
     -- 28
     ∷ trace (P 0 0 5 ∷ []) (badVolatile 28 1)
     ∷ trace (B 0 0 5 ∷ []) (badVolatile 28 1)
-    -- another thread's assign stands in no way
+    -- another thread's assign stands in no way, at U and at W
     ∷ trace (R 0 0 0 ∷ A 1 1 5 ∷ L 0 0 0 ∷ U 0 0 0 ∷ []) accepted
+    ∷ trace (A 0 0 5 ∷ A 0 1 6 ∷ A 1 0 7 ∷ S 0 0 5 ∷ S 0 1 6 ∷ W 0 1 6 ∷ []) (badVolatile 27 6)
+    -- a read between load and use is left aside
+    ∷ trace (R 0 0 0 ∷ L 0 0 0 ∷ R 0 0 0 ∷ U 0 0 0 ∷ []) accepted
     ∷ []
 
 -- Document 02 (i), waiting and notification.
@@ -191,6 +246,7 @@ waitingTraces =
     ∷ trace (K 0 0 ∷ P 0 0 5 ∷ Y 0 0 ∷ W 0 0 5 ∷ R 0 1 0 ∷ B 0 0 5 ∷ []) (bad 29 6)
     ∷ trace (K 0 0 ∷ Y 0 0 ∷ K 0 1 ∷ []) (bad 29 3)
     ∷ trace (K 0 0 ∷ Y 0 0 ∷ F 0 0 0 ∷ []) (bad 29 3)
+    ∷ trace (K 0 0 ∷ Y 0 0 ∷ K 1 1 ∷ Y 1 1 ∷ F 0 0 1 ∷ []) (bad 29 5)
     -- 30: an F for a thread that does not wait, waits on another lock, or is notified; a C by one that does not wait, is not notified, or waits on
     -- another lock
     ∷ trace (F 0 0 1 ∷ []) (bad 30 1)
@@ -204,17 +260,6 @@ waitingTraces =
     -- the thread that F notifies is not declared
     ∷ trace (K 0 0 ∷ F 0 0 2 ∷ []) (bad 5 2)
     ∷ []
-
--- the same row, as the definitions give it with these counts
-unfoldable pub computedWith : Counts → Trace → Trace
-computedWith h r = record {
-  events = r .events;
-  marked = mark full h (r .events);
-  main0 = elim (r .main0) [ none ↦ none | some x ↦ some (main 0 (reverse (r .events))) ];
-}
-
-unfoldable pub computed : Trace → Trace
-computed r = computedWith two r
 
 -- ---- the 1-2-3 run of document 000, section 2.3
 -- Thread 0 is its first thread, variable 0 is x, variable 1 is y, lock 0 is o. The locals a, b and c make no events: thread 0

@@ -15,7 +15,7 @@ use Rattle.rules.specs.Projections.{keep}
 -- ---- rules 4.1 and 4.2: “A use action by t on v is permitted only if the previous action by t on v was load, and a load action by t on v is permitted
 -- only if the next action by t on v is use.” The same of store and assign.
 
--- the letters of T's own events on V, R and W left aside, in the order of the list
+-- the letters of T's own events on V, R and W left aside, in the order of the list: where it has the latest event last, that of the trace
 unfoldable pub lettersOn : ℕ → ℕ → List Event → List ℕ
 lettersOn t v es = map (λ e. letter (e .kind)) (keep (by accesses t v) es)
 

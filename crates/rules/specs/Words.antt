@@ -102,7 +102,7 @@ unfoldable pub lastWrite : ℕ → ℕ → List Event → ℕ
 lastWrite t v es = lastAt (by (W ∷ []) t v) es
 
 -- Usable: since T's last K, on whichever lock (or the start), there is an A or B of V, or an L whose read came after that K.
--- (The read of a load is the oldest that is outstanding before it.)
+-- (The read of a load is the oldest that is outstanding before it: so it is after legal events, and no verdict asks others.)
 unfoldable pub usable : ℕ → ℕ → List Event → Bool
 usable t v [] = false
 usable t v (e ∷ es) =
@@ -130,13 +130,13 @@ unfoldable pub grip : ℕ → ℕ → List Event → Grip
 grip t l [] = record { held = 0; remembered = 0 }
 grip t l (e ∷ es) = gripAfter t l e (grip t l es)
 
--- how many holds T has on the lock. Held by T: more K than N by T on that lock, less what T gave up at a Y and has not taken again. (After legal events:
--- `balanced` in proofs/Held.antt.)
+-- How many holds T has on the lock. After legal events, and no verdict asks others, it is by how much the K of T on that lock are more than its N, less
+-- what T gave up at a Y and has not taken again (`balanced` in proofs/Held.antt). Held by T: more K than N by T on that lock.
 unfoldable pub depth : ℕ → ℕ → List Event → ℕ
 depth t l es = grip t l es .held
 
--- the number that T remembers of the lock. A thread waits from its Y to its C: while this is not 0. (After legal events: `waits-between` in
--- proofs/Held.antt.)
+-- the number that T remembers of the lock. A thread waits from its Y to its C: after legal events, while this is not 0 (`waits-between` in
+-- proofs/Held.antt)
 unfoldable pub remembered : ℕ → ℕ → List Event → ℕ
 remembered t l es = grip t l es .remembered
 
@@ -166,7 +166,7 @@ afterLoad t v es = letterIn (L ∷ []) (latest (by accesses t v) es)
 unfoldable pub afterAssign : ℕ → ℕ → List Event → Bool
 afterAssign t v es = letterIn (A ∷ []) (latest (by accesses t v) es)
 
--- the position of the read of T's latest load on V. (The read of a load is the oldest that is outstanding before it.)
+-- the position of the read of T's latest load on V, the oldest that is outstanding before the load
 unfoldable pub loadedRead : ℕ → ℕ → List Event → ℕ
 loadedRead t v [] = 0
 loadedRead t v (e ∷ es) = cond (by (L ∷ []) t v e) (first (reads t v es) .position) (loadedRead t v es)

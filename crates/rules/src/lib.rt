@@ -7,6 +7,26 @@ ghost use Rattle.rules.specs.Rules.{told, numberIn, lineIn};
 // The value of a variable. Its width is `valueWidth` in specs/Limits.antt.
 pub type Value = i64;
 
+// ---- The limits of the full course that arrays and lent parts have. The contracts below say that they are those of specs/Limits.antt.
+
+pub const THREADS: usize = 8;
+
+pub const VARIABLES: usize = 16;
+
+pub const LOCKS: usize = 8;
+
+// The cells of a state: one for each thread and variable.
+pub const CELLS: usize = THREADS * VARIABLES;
+
+// The places lent for records, output, order list and scratch.
+pub const RECORDS: usize = 2000;
+
+pub const OUTPUT: usize = 32768;
+
+pub const ENTRIES: usize = 1000;
+
+pub const SCRATCH: usize = 1000;
+
 // The thirteen kinds, each with its own data: a variable and a value, a lock, or a lock and a thread.
 pub enum Kind {
     Use(usize, Value),
@@ -42,8 +62,8 @@ pub struct Event {
     pub kind: Kind,
 }
 
-// An outstanding read or store: its value, and the position of its event among all events, from 1. With 64 bits for each it has no padding, and the
-// empty queues of a first state are cleared at once.
+// An outstanding read or store: its value, and a position among all events, from 1: of a read its own, of a store that of its assign, of a P its own.
+// With 64 bits for each it has no padding, and the empty queues of a first state are cleared at once.
 #[repr(C)]
 pub struct Slot {
     pub value: Value,
@@ -56,7 +76,7 @@ pub struct Counts {
     pub threads: usize,
     pub variables: usize,
     pub locks: usize,
-    pub volatiles: [bool; 16],
+    pub volatiles: [bool; VARIABLES],
 }
 
 // The course that a trace is written for: each has its own limits.
@@ -79,8 +99,8 @@ pub struct Cached {
 
 // The memories after the last event: each variable in main memory, and the copy of thread t and variable v at 16 * t + v.
 pub struct Memories {
-    pub main: [Main; 16],
-    pub copies: [Cached; 128],
+    pub main: [Main; VARIABLES],
+    pub copies: [Cached; CELLS],
 }
 
 // Accepted, or refused with this number and line.
@@ -234,16 +254,16 @@ pub fn most_counts(course: Course) -> Counts
 {
     match course {
         Course::Full => Counts {
-            threads: 8,
-            variables: 16,
-            locks: 8,
-            volatiles: [false; 16],
+            threads: THREADS,
+            variables: VARIABLES,
+            locks: LOCKS,
+            volatiles: [false; VARIABLES],
         },
         Course::Short => Counts {
             threads: 2,
             variables: 4,
             locks: 2,
-            volatiles: [false; 16],
+            volatiles: [false; VARIABLES],
         },
     }
 }
@@ -252,7 +272,7 @@ pub fn most_counts(course: Course) -> Counts
 pub fn is_volatile(h: Counts, v: usize) -> bool
     ensures { λ r. ⌜ r ≡ volatile h v ⌝ }
 {
-    if v < 16 { h.volatiles[v] } else { false }
+    if v < VARIABLES { h.volatiles[v] } else { false }
 }
 
 // Whether some variable is volatile: there is a V line.
@@ -261,7 +281,7 @@ pub fn any_volatile(h: Counts) -> bool
 {
     let mut any = false;
     let mut v: usize = 0;
-    while v < 16 {
+    while v < VARIABLES {
         any = h.volatiles[v] | any;
         v += 1;
     }
@@ -274,7 +294,7 @@ fn stray_volatile(h: Counts) -> bool
 {
     let mut any = false;
     let mut v: usize = 0;
-    while v < 16 {
+    while v < VARIABLES {
         any = ((h.variables <= v) & h.volatiles[v]) | any;
         v += 1;
     }
@@ -344,14 +364,14 @@ pub fn line_after(h: Counts, n: u32) -> usize
 pub fn is_lent_short(records: usize, out: usize) -> bool
     ensures { λ r. ⌜ r ≡ lentShort full records out ⌝ }
 {
-    (records < 2000) | (out < 32768)
+    (records < RECORDS) | (out < OUTPUT)
 }
 
 // 7, where an order is wanted, also these: places lent for the order list and the scratch.
 pub fn is_order_short(list: usize, scratch: usize) -> bool
     ensures { λ r. ⌜ r ≡ orderShort full list scratch ⌝ }
 {
-    (list < 1000) | (scratch < 1000)
+    (list < ENTRIES) | (scratch < SCRATCH)
 }
 
 // ---- Verdicts.

@@ -1,5 +1,5 @@
 -- The lines of a trace: the event in a line, the events up to a line, and what a thread holds after it. Entries, denials and all
--- that follows here speak of lines; `position` alone goes from a line to the place of its event in the list.
+-- that follows here speak of lines; `position` goes from a line to the place of its event in the list.
 use Prim.Native.Nat.{ℕ, zero, suc, _-_}
 use mathlib.Core.Bool.{Bool, false, _&&_}
 use mathlib.Core.List.{List, [], _∷_, reverse}
@@ -13,7 +13,7 @@ use Rattle.rules.specs.Words.{locksBy}
 use Rattle.rules.specs.Rules as Rules
 use Rattle.rules.specs.Rules.{wordsOf, held}
 
--- the number of event lines up to this line: its event's position, from 1; 0 before the first
+-- the position of the event in this line, from 1; 0 before the first. Behind the last event it goes on, where there is none.
 unfoldable pub position : Counts → ℕ → ℕ
 position h line = suc line - firstLine h
 

@@ -1,4 +1,4 @@
--- What the rules 10 to 19 and 23 read of the earlier events, for one thread and one variable, as one cell that each event
+-- What the rules on copies, reads and stores read of the earlier events, for one thread and one variable, as one cell that each event
 -- changes. X is the type of the values, z the value before any.
 use Prim.Native.Nat.{ℕ, suc, _≤_}
 use native.Mathlib.Decide.{ℕ-discrete}

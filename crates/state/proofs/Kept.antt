@@ -18,7 +18,7 @@ use Rattle.state.specs.declared.Hold.{Hold}
 use Rattle.state.specs.declared.Waiting.{Waiting}
 use Rattle.state.specs.declared.State.{State}
 use Rattle.state.specs.State.{noSlot, noHold, noWait, blank, queued, cellAt, readsAt, depthOf, wordsIn}
-use Rattle.state.specs.Range.{every, holdOk, holdsIn, holdsOk, waitOk, waitsIn, waitsOk, cellOk, cellsIn, cellsOk, slotAt, slotsIn, queueOk, queuesIn, queuesOk, inRange}
+use Rattle.state.specs.Range.{every, holdOk, holdsIn, holdsOk, waitOk, threadsIn, threadsOk, cellOk, cellsIn, cellsOk, slotAt, slotsIn, queueOk, queuesIn, queuesOk, inRange}
 use Rattle.state.specs.Step.{pushed, popped, nextCell, readAfter, storeAfter, holdAfter, waitAfter, lockedAfter, varOf, lockOf, behind, stepState}
 use Rattle.state.specs.Step.{Within}
 use Rattle.state.proofs.LeafLaws.{both-true, both, depth-under, every-at, every-all, cell-same}
@@ -44,7 +44,7 @@ unfolding queueOk queued
 queue-fits n ss i q e =
     let p = both-true (leb (q .len) 8) (every 8 (slotsIn n ss i q)) e in
     let few = leb-true (q .len) 8 (p .0) in
-    (few, up-around n ss (8 * i) (q .first) (q .len) (λ j h. one j h (every-at 8 (slotsIn n ss i q) (p .1) j (under j h few))))
+    (few, up-around n ss i (q .first) (q .len) (λ j h. one j h (every-at 8 (slotsIn n ss i q) (p .1) j (under j h few))))
   where
     under : (j : ℕ) → j < q .len → q .len ≤ 8 → j < 8
     under j h k = omega arith
@@ -60,7 +60,7 @@ queue-ok n ss i q f =
   where
     one : (j : ℕ) (b : Bool) → leb (q .len) j ≡ b → (b || leb (slotAt ss i q j .position) n) ≡ true
     one j true p = refl
-    one j false p = le-leb (slotAt ss i q j .position) n (around-up n ss (8 * i) (q .first) (q .len) (f .1) j (leb-false (q .len) j p))
+    one j false p = le-leb (slotAt ss i q j .position) n (around-up n ss i (q .first) (q .len) (f .1) j (leb-false (q .len) j p))
 
 -- ---- a lock
 
@@ -70,8 +70,13 @@ pub record HoldFits (t n : ℕ) (a : Hold) : Type 0 where
   pub none : a .holder ≡ 0 → a .depth ≡ 0
   pub some : a .depth ≡ 0 → a .holder ≡ 0
 
-hold-fits : (t n : ℕ) (a : Hold) (p : ℕ) → holdOk t n a p ≡ true → HoldFits t n a × (p ≤ n)
-hold-fits t n a p e = (record { holder = leb-true (a .holder) t (q .0); depth = leb-true (a .depth) n (q .1); none = λ z. left z (eqb (a .holder) 0) (eqb (a .depth) 0) refl (eq-eqb (a .holder) 0 z) (qc .1); some = λ z. right z (eqb (a .holder) 0) (eqb (a .depth) 0) refl (eq-eqb (a .depth) 0 z) (qd .1) }, leb-true p n (qe .1))
+hold-fits : (t n : ℕ) (a : Hold) → holdOk t n a ≡ true → HoldFits t n a
+hold-fits t n a e = record {
+  holder = leb-true (a .holder) t (q .0);
+  depth = leb-true (a .depth) n (q .1);
+  none = λ z. left z (eqb (a .holder) 0) (eqb (a .depth) 0) refl (eq-eqb (a .holder) 0 z) (qc .1);
+  some = λ z. right z (eqb (a .holder) 0) (eqb (a .depth) 0) refl (eq-eqb (a .depth) 0 z) (qd .1);
+}
   where
     A1 : Bool
     A1 = leb (a .holder) t && leb (a .depth) n
@@ -82,11 +87,8 @@ hold-fits t n a p e = (record { holder = leb-true (a .holder) t (q .0); depth = 
     D1 : Bool
     D1 = eqb (a .holder) 0 || not (eqb (a .depth) 0)
 
-    qe : ((A1 && C1 && D1) ≡ true) × (leb p n ≡ true)
-    qe = both-true (A1 && C1 && D1) (leb p n) e
-
     qd : ((A1 && C1) ≡ true) × (D1 ≡ true)
-    qd = both-true (A1 && C1) D1 (qe .0)
+    qd = both-true (A1 && C1) D1 e
 
     qc : (A1 ≡ true) × (C1 ≡ true)
     qc = both-true A1 C1 (qd .0)
@@ -103,10 +105,10 @@ hold-fits t n a p e = (record { holder = leb-true (a .holder) t (q .0); depth = 
     right z false true r s h = absurd (subst T (sym h) tt)
     right z false false r s h = absurd (subst T (sym s) tt)
 
-hold-ok : (t n : ℕ) (a : Hold) (p : ℕ) → HoldFits t n a → p ≤ n → holdOk t n a p ≡ true
-hold-ok t n a p f h = rw (le-leb (a .holder) t (f .holder), le-leb (a .depth) n (f .depth), le-leb p n h) (go (eqb (a .holder) 0) (eqb (a .depth) 0) refl refl)
+hold-ok : (t n : ℕ) (a : Hold) → HoldFits t n a → holdOk t n a ≡ true
+hold-ok t n a f = rw (le-leb (a .holder) t (f .holder), le-leb (a .depth) n (f .depth)) (go (eqb (a .holder) 0) (eqb (a .depth) 0) refl refl)
   where
-    go : (x y : Bool) → eqb (a .holder) 0 ≡ x → eqb (a .depth) 0 ≡ y → ((not x || y) && (x || not y) && true) ≡ true
+    go : (x y : Bool) → eqb (a .holder) 0 ≡ x → eqb (a .depth) 0 ≡ y → ((not x || y) && (x || not y)) ≡ true
     go true true p q = refl
     go true false p q = absurd (eqb-false (a .depth) 0 q (f .none (eqb-true (a .holder) 0 p)))
     go false true p q = absurd (eqb-false (a .holder) 0 p (f .some (eqb-true (a .depth) 0 q)))
@@ -177,34 +179,37 @@ module _ (m : Limits) (s : State) where
   abbrev A2 : Bool
   A2 = allowed m (s .counts) && leb (s .events) (m .events)
 
+  abbrev thread : (t : ℕ) → threadsIn s t ≡ true → (waitOk (s .counts .locks) (s .events) (getD (s .waits) t noWait) ≡ true) × (leb (getD (s .locked) t 0) (s .events) ≡ true)
+  thread t e = both-true (waitOk (s .counts .locks) (s .events) (getD (s .waits) t noWait)) (leb (getD (s .locked) t 0) (s .events)) e
+
   pub range : inRange m s ≡ true → Range m s
-  unfolding inRange holdsOk waitsOk cellsOk queuesOk
+  unfolding inRange holdsOk threadsOk cellsOk queuesOk
   range e =
-      let seven = both-true (A2 && every 8 (holdsIn s) && every 8 (waitsIn s) && every 128 (cellsIn s) && every 128 Q) (every 128 O) e in
-      let six = both-true (A2 && every 8 (holdsIn s) && every 8 (waitsIn s) && every 128 (cellsIn s)) (every 128 Q) (seven .0) in
-      let five = both-true (A2 && every 8 (holdsIn s) && every 8 (waitsIn s)) (every 128 (cellsIn s)) (six .0) in
-      let four = both-true (A2 && every 8 (holdsIn s)) (every 8 (waitsIn s)) (five .0) in
+      let seven = both-true (A2 && every 8 (holdsIn s) && every 8 (threadsIn s) && every 128 (cellsIn s) && every 128 Q) (every 128 O) e in
+      let six = both-true (A2 && every 8 (holdsIn s) && every 8 (threadsIn s) && every 128 (cellsIn s)) (every 128 Q) (seven .0) in
+      let five = both-true (A2 && every 8 (holdsIn s) && every 8 (threadsIn s)) (every 128 (cellsIn s)) (six .0) in
+      let four = both-true (A2 && every 8 (holdsIn s)) (every 8 (threadsIn s)) (five .0) in
       let three = both-true A2 (every 8 (holdsIn s)) (four .0) in
       let two = both-true (allowed m (s .counts)) (leb (s .events) (m .events)) (three .0) in
       record {
         counts = two .0;
         events = leb-true (s .events) (m .events) (two .1);
-        hold = λ l h. hold-fits (s .counts .threads) (s .events) (getD (s .holds) l noHold) (getD (s .locked) l 0) (every-at 8 (holdsIn s) (three .1) l h) .0;
-        locked = λ t h. hold-fits (s .counts .threads) (s .events) (getD (s .holds) t noHold) (getD (s .locked) t 0) (every-at 8 (holdsIn s) (three .1) t h) .1;
-        wait = λ t h. wait-fits (s .counts .locks) (s .events) (getD (s .waits) t noWait) (every-at 8 (waitsIn s) (four .1) t h);
+        hold = λ l h. hold-fits (s .counts .threads) (s .events) (getD (s .holds) l noHold) (every-at 8 (holdsIn s) (three .1) l h);
+        locked = λ t h. leb-true (getD (s .locked) t 0) (s .events) (thread t (every-at 8 (threadsIn s) (four .1) t h) .1);
+        wait = λ t h. wait-fits (s .counts .locks) (s .events) (getD (s .waits) t noWait) (thread t (every-at 8 (threadsIn s) (four .1) t h) .0);
         cell = λ i h. cell-fits (s .events) (getD (s .cells) i blank) (every-at 128 (cellsIn s) (five .1) i h);
         reads = λ i h. queue-fits (s .events) (s .reads) i (getD (s .cells) i blank .reads) (every-at 128 Q (six .1) i h);
         stores = λ i h. queue-fits (s .events) (s .stores) i (getD (s .cells) i blank .stores) (every-at 128 O (seven .1) i h);
       }
 
   pub in-range : Range m s → inRange m s ≡ true
-  unfolding inRange holdsOk waitsOk cellsOk queuesOk
+  unfolding inRange holdsOk threadsOk cellsOk queuesOk
   in-range r =
       rw (
         r .counts,
         le-leb (s .events) (m .events) (r .events),
-        every-all 8 (holdsIn s) (λ i h. hold-ok (s .counts .threads) (s .events) (getD (s .holds) i noHold) (getD (s .locked) i 0) (r .hold i h) (r .locked i h)),
-        every-all 8 (waitsIn s) (λ t h. wait-ok (s .counts .locks) (s .events) (getD (s .waits) t noWait) (r .wait t h)),
+        every-all 8 (holdsIn s) (λ i h. hold-ok (s .counts .threads) (s .events) (getD (s .holds) i noHold) (r .hold i h)),
+        every-all 8 (threadsIn s) (λ t h. rw (wait-ok (s .counts .locks) (s .events) (getD (s .waits) t noWait) (r .wait t h), le-leb (getD (s .locked) t 0) (s .events) (r .locked t h)) refl),
         every-all 128 (cellsIn s) (λ i h. cell-ok (s .events) (getD (s .cells) i blank) (r .cell i h)),
         every-all 128 Q (λ i h. queue-ok (s .events) (s .reads) i (getD (s .cells) i blank .reads) (r .reads i h)),
         every-all 128 O (λ i h. queue-ok (s .events) (s .stores) i (getD (s .cells) i blank .stores) (r .stores i h)),

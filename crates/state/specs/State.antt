@@ -13,6 +13,7 @@ use Rattle.rules.specs.declared.Main.{Main}
 use Rattle.state.specs.declared.State.{State}
 use Rattle.rules.specs.declared.Slot.{Slot}
 use Rattle.rules.specs.declared.Counts.{Counts}
+use Rattle.rules.specs.Limits.{full, most, cellNumber, cellCount}
 use Rattle.rules.specs.Rules.{Words}
 
 abbrev pub noSlot : Slot
@@ -48,29 +49,33 @@ blank = record {
   «after_assign» = false;
 }
 
--- the n slots from the f-th on of the eight that begin at b, round and round
+-- the place of slot f of the eight of cell i, round and round
+abbrev pub slotNumber : ℕ → ℕ → ℕ
+slotNumber i f = most * i + f % most
+
+-- the n slots of cell i from the f-th on
 unfoldable pub around : List Slot → ℕ → ℕ → ℕ → List Slot
-around ss b f zero = []
-around ss b f (suc n) = getD ss (b + f % 8) noSlot ∷ around ss b (suc f) n
+around ss i f zero = []
+around ss i f (suc n) = getD ss (slotNumber i f) noSlot ∷ around ss i (suc f) n
 
 -- the queue of cell i, the oldest first
 unfoldable pub queued : List Slot → ℕ → Ring → List Slot
-queued ss i q = around ss (8 * i) (q .first) (q .len)
+queued ss i q = around ss i (q .first) (q .len)
 
 -- the cell of thread t and variable v; a blank one for those that no state holds
 unfoldable pub cellAt : State → ℕ → ℕ → Cell
-cellAt s t v = cond (ltb t 8 && ltb v 16) (getD (s .cells) (16 * t + v) blank) blank
+cellAt s t v = cond (ltb t (full .threads) && ltb v (full .variables)) (getD (s .cells) (cellNumber t v) blank) blank
 
 -- its outstanding reads and stores, the oldest first
 unfoldable pub readsAt : State → ℕ → ℕ → List Slot
-readsAt s t v = queued (s .reads) (16 * t + v) (cellAt s t v .reads)
+readsAt s t v = queued (s .reads) (cellNumber t v) (cellAt s t v .reads)
 
 unfoldable pub storesAt : State → ℕ → ℕ → List Slot
-storesAt s t v = queued (s .stores) (16 * t + v) (cellAt s t v .stores)
+storesAt s t v = queued (s .stores) (cellNumber t v) (cellAt s t v .stores)
 
 -- how many times t holds a lock: its depth, where t is the holder
 unfoldable pub depthOf : Hold → ℕ → ℕ
-depthOf a t = cond (ltb t 8 && eqb (a .holder) (t + 1)) (a .depth) 0
+depthOf a t = cond (ltb t (full .threads) && eqb (a .holder) (t + 1)) (a .depth) 0
 
 -- the number that a thread remembers of lock l: that of its waiting, where it waits on l
 unfoldable pub rememberedOf : Waiting → ℕ → ℕ
@@ -109,11 +114,11 @@ unfoldable pub start : Counts → State
 start h = record {
   counts = h;
   events = 0;
-  cells = replicate 128 blank;
-  reads = replicate 1024 noSlot;
-  stores = replicate 1024 noSlot;
-  locked = replicate 8 0;
-  holds = replicate 8 noHold;
-  memory = replicate 16 noMain;
-  waits = replicate 8 noWait;
+  cells = replicate cellCount blank;
+  reads = replicate (most * cellCount) noSlot;
+  stores = replicate (most * cellCount) noSlot;
+  locked = replicate (full .threads) 0;
+  holds = replicate (full .locks) noHold;
+  memory = replicate (full .variables) noMain;
+  waits = replicate (full .threads) noWait;
 }

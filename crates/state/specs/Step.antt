@@ -1,5 +1,5 @@
 -- The state after an accepted event, part by part. `proofs/StepWords.antt` proves that its words are those after the event.
-use Prim.Native.Nat.{ℕ, max, _+_, _-_, _*_, _%_, _<_}
+use Prim.Native.Nat.{ℕ, max, _+_, _-_, _%_, _<_}
 use mathlib.Core.Bool.{true, false, cond}
 use mathlib.Core.List.{List, [], _∷_}
 use lib.Dec.{ltb, leb}
@@ -11,21 +11,22 @@ use Rattle.state.specs.declared.Hold.{Hold}
 use Rattle.state.specs.declared.Waiting.{Waiting}
 use Rattle.rules.specs.declared.Main.{Main}
 use Rattle.state.specs.declared.State.{State}
-use Rattle.state.specs.State.{noSlot, noHold, noMain, noWait, cellAt, readsAt, depthOf, start}
+use Rattle.state.specs.State.{noSlot, noHold, noMain, noWait, slotNumber, cellAt, readsAt, depthOf, start}
 use Rattle.rules.specs.declared.Event.{Event}
 use Rattle.rules.specs.declared.Slot.{Slot}
 use Rattle.rules.specs.declared.Counts.{Counts}
 use Rattle.rules.specs.declared.Kind.{Kind}
 use Rattle.rules.specs.Events.{A, B, C, F, K, L, N, P, R, S, U, W, Y, letter, place, value, among, lockLetters, subjectOf, subject}
+use Rattle.rules.specs.Limits.{full, most, cellNumber}
 use Rattle.rules.specs.Words.{first, accesses}
 
 -- one more at the end of a queue; a full one has no place for it
 abbrev pub pushed : Ring → Ring
-pushed q = cond (ltb (q .len) 8) (record { first = q .first; len = q .len + 1 }) q
+pushed q = cond (ltb (q .len) most) (record { first = q .first; len = q .len + 1 }) q
 
 -- the oldest taken off
 abbrev pub popped : Ring → Ring
-popped q = record { first = (q .first + 1) % 8; len = q .len - 1 }
+popped q = record { first = (q .first + 1) % most; len = q .len - 1 }
 
 -- the cell after an event on it with letter k and value x, at position p; r is its oldest outstanding read
 unfoldable pub nextCell : ℕ → Slot → ℕ → ℤ → Cell → Cell
@@ -86,14 +87,14 @@ lockOf k = cond (among lockLetters (letter k)) (place k) 0
 
 -- the thread, subject, variable and lock of an event have their places in the arrays
 pub record Within (t : ℕ) (k : Kind) : Type 0 where
-  pub thread : t < 8
-  pub subject : subjectOf (letter k) t (value k) < 8
-  pub variable : varOf k < 16
-  pub lock : lockOf k < 8
+  pub thread : t < full .threads
+  pub subject : subjectOf (letter k) t (value k) < full .threads
+  pub variable : varOf k < full .variables
+  pub lock : lockOf k < full .locks
 
 -- the place behind the last of the queue of cell i
 abbrev pub behind : ℕ → Ring → ℕ
-behind i q = 8 * i + (q .first + q .len) % 8
+behind i q = slotNumber i (q .first + q .len)
 
 -- the parts that an event is on, put back as it leaves them
 unfoldable pub stepState : State → Event → State
@@ -107,7 +108,7 @@ stepState s e =
     let a = getD (s .holds) l noHold in
     let w = getD (s .waits) u noWait in
     let p = s .events + 1 in
-    let i = 16 * t + v in
+    let i = cellNumber t v in
     let c = cellAt s t v in
     let rb = behind i (c .reads) in
     let sb = behind i (c .stores) in

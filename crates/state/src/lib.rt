@@ -6,12 +6,16 @@ ghost use Prim.Native.Nat.{_<_};
 ghost use lib.ListN.{length};
 ghost use Rattle.rules.specs.Limits.{limitsOf};
 ghost use Rattle.state.specs.State.{start};
-ghost use Rattle.state.specs.Range.{holdOk, holdsOk, waitOk, waitsOk, cellOk, cellsOk, slotOk, queuesOk, inRange};
+ghost use Rattle.state.specs.Range.{holdOk, holdsOk, waitOk, threadsOk, cellOk, cellsOk, slotOk, queuesOk, inRange};
 ghost use Rattle.state.specs.Computed.Places.{cellPlace, slotPlace, ringOf, Shape};
+use rules::CELLS;
 use rules::Counts;
 use rules::Course;
+use rules::LOCKS;
 use rules::Main;
 use rules::Slot;
+use rules::THREADS;
+use rules::VARIABLES;
 use rules::Value;
 
 // A queue of at most eight: its oldest is at place `first` of the cell's eight places (modulo 8), the others follow it round.
@@ -58,23 +62,26 @@ pub struct Waiting {
     pub notified: bool,
 }
 
+// The places of outstanding reads, and of outstanding stores: eight for each cell.
+pub const SLOTS: usize = 8 * CELLS;
+
 #[repr(C)]
 pub struct State {
-    // The declared threads, variables and locks.
+    // The declared threads, variables and locks, and the volatile variables.
     pub counts: Counts,
     // The events so far. A position is an event's number among them, from 1.
     pub events: u32,
     // The cell of thread t and variable v is number 16 * t + v.
-    pub cells: [Cell; 128],
-    // The eight places of cell i begin at 8 * i.
-    pub reads: [Slot; 1024],
-    pub stores: [Slot; 1024],
-    // The position of each thread's last lock.
-    pub locked: [usize; 8],
-    pub holds: [Hold; 8],
-    pub memory: [Main; 16],
+    pub cells: [Cell; CELLS],
+    // The eight places of cell i begin at 8 * i. The position of a store is that of its assign.
+    pub reads: [Slot; SLOTS],
+    pub stores: [Slot; SLOTS],
+    // The position of each thread's last K or C.
+    pub locked: [usize; THREADS],
+    pub holds: [Hold; LOCKS],
+    pub memory: [Main; VARIABLES],
     // The waiting of each thread.
-    pub waits: [Waiting; 8],
+    pub waits: [Waiting; THREADS],
 }
 
 // The state before the first event, for these declared counts.
@@ -114,13 +121,13 @@ pub fn initial(h: Counts) -> State
     State {
         counts: h,
         events: 0,
-        cells: [cell; 128],
-        reads: [slot; 1024],
-        stores: [slot; 1024],
-        locked: [0; 8],
-        holds: [hold; 8],
-        memory: [main; 16],
-        waits: [idle; 8],
+        cells: [cell; CELLS],
+        reads: [slot; SLOTS],
+        stores: [slot; SLOTS],
+        locked: [0; THREADS],
+        holds: [hold; LOCKS],
+        memory: [main; VARIABLES],
+        waits: [idle; THREADS],
     }
 }
 
@@ -136,9 +143,9 @@ fn wide(x: u8) -> usize
 pub fn cell_place(t: usize, v: usize) -> usize
     ensures { λ r. ⌜ (r ≡ cellPlace t v) × (r < 128) ⌝ }
 {
-    if t < 8 {
-        if v < 16 {
-            return 16 * t + v;
+    if t < THREADS {
+        if v < VARIABLES {
+            return VARIABLES * t + v;
         }
     }
     0
@@ -148,7 +155,7 @@ pub fn cell_place(t: usize, v: usize) -> usize
 pub fn slot_place(i: usize, q: Ring, j: u8) -> usize
     ensures { λ r. ⌜ (r ≡ slotPlace i q j) × (r < 1024) ⌝ }
 {
-    if i < 128 {
+    if i < CELLS {
         let f = wide(q.first);
         return 8 * i + (f + wide(j)) % 8;
     }
@@ -157,14 +164,13 @@ pub fn slot_place(i: usize, q: Ring, j: u8) -> usize
 
 // ---- Refusal 8.
 
-fn hold_ok(threads: usize, n: u32, a: Hold, p: usize) -> bool
-    ensures { λ r. ⌜ r ≡ holdOk threads n a p ⌝ }
+fn hold_ok(threads: usize, n: u32, a: Hold) -> bool
+    ensures { λ r. ⌜ r ≡ holdOk threads n a ⌝ }
 {
     (a.holder <= threads)
         & (a.depth <= n)
         & ((a.holder != 0) | (a.depth == 0))
         & ((a.holder == 0) | (a.depth != 0))
-        & (p <= n as usize)
 }
 
 fn holds_ok(s: State) -> bool
@@ -173,11 +179,11 @@ fn holds_ok(s: State) -> bool
     let n = s.events;
     let h = s.counts;
     let mut ok = true;
-    let mut i: usize = 0;
-    while i < 8 {
-        let a = s.holds[i];
-        ok = hold_ok(h.threads, n, a, s.locked[i]) & ok;
-        i += 1;
+    let mut l: usize = 0;
+    while l < LOCKS {
+        let a = s.holds[l];
+        ok = hold_ok(h.threads, n, a) & ok;
+        l += 1;
     }
     ok
 }
@@ -188,16 +194,16 @@ fn wait_ok(locks: usize, n: u32, w: Waiting) -> bool
     (w.lock == 0) | ((w.lock <= locks) & (0 < w.depth) & (w.depth <= n))
 }
 
-fn waits_ok(s: State) -> bool
-    ensures { λ r. ⌜ r ≡ waitsOk s ⌝ }
+fn threads_ok(s: State) -> bool
+    ensures { λ r. ⌜ r ≡ threadsOk s ⌝ }
 {
     let n = s.events;
     let h = s.counts;
     let mut ok = true;
     let mut t: usize = 0;
-    while t < 8 {
+    while t < THREADS {
         let w = s.waits[t];
-        ok = wait_ok(h.locks, n, w) & ok;
+        ok = wait_ok(h.locks, n, w) & (s.locked[t] <= n as usize) & ok;
         t += 1;
     }
     ok
@@ -216,7 +222,7 @@ fn cells_ok(s: State) -> bool
     let n = s.events;
     let mut ok = true;
     let mut i: usize = 0;
-    while i < 128 {
+    while i < CELLS {
         let c = s.cells[i];
         ok = cell_ok(n, c) & ok;
         i += 1;
@@ -239,12 +245,12 @@ fn slot_ok(n: u32, len: u8, j: u8, s: Slot) -> bool
 }
 
 // The queues of all cells, of their stores or of their reads: at most eight each, with positions up to n.
-fn queues_ok(n: u32, cells: [Cell; 128], slots: [Slot; 1024], stores: bool) -> bool
+fn queues_ok(n: u32, cells: [Cell; CELLS], slots: [Slot; SLOTS], stores: bool) -> bool
     ensures { λ r. ⌜ r ≡ queuesOk n cells slots (ringOf stores) ⌝ }
 {
     let mut ok = true;
     let mut i: usize = 0;
-    while i < 128 {
+    while i < CELLS {
         let c = cells[i];
         let q = ring_of(c, stores);
         let len = q.len;
@@ -264,13 +270,13 @@ fn queues_ok(n: u32, cells: [Cell; 128], slots: [Slot; 1024], stores: bool) -> b
 
 // The arrays of a state have the lengths of their types.
 fn sized(
-    cells: [Cell; 128],
-    reads: [Slot; 1024],
-    stores: [Slot; 1024],
-    locked: [usize; 8],
-    holds: [Hold; 8],
-    memory: [Main; 16],
-    waits: [Waiting; 8],
+    cells: [Cell; CELLS],
+    reads: [Slot; SLOTS],
+    stores: [Slot; SLOTS],
+    locked: [usize; THREADS],
+    holds: [Hold; LOCKS],
+    memory: [Main; VARIABLES],
+    waits: [Waiting; THREADS],
 ) -> bool
     ensures { λ r. ⌜ (r ≡ true) × (length cells ≡ 128) × (length reads ≡ 1024) × (length stores ≡ 1024) × (length locked ≡ 8) × (length holds ≡ 8) × (length memory ≡ 16) × (length waits ≡ 8) ⌝ }
 {
@@ -293,7 +299,7 @@ pub fn in_range(course: Course, s: State) -> bool
         & rules::is_allowed(course, h)
         & (s.events <= rules::most_events(course))
         & holds_ok(s)
-        & waits_ok(s)
+        & threads_ok(s)
         & cells_ok(s)
         & queues_ok(s.events, cells, reads, false)
         & queues_ok(s.events, cells, stores, true)

@@ -118,6 +118,7 @@ abbrev pub lockOf : ℕ → Natural → Natural
 lockOf l natural.Bad = natural.Bad
 lockOf l (natural.Of n) = cond (ltb n l) (natural.Of n) natural.Bad
 
+-- on with this lock, where there is one
 abbrev pub withLock : Natural → (ℕ → GuardLine) → GuardLine
 withLock natural.Bad f = badLine
 withLock (natural.Of n) f = f n
@@ -153,6 +154,7 @@ abbrev pub risingOf : ℕ → ℕ → Natural → Natural
 risingOf v low natural.Bad = natural.Bad
 risingOf v low (natural.Of n) = cond (leb low n && ltb n v) (natural.Of n) natural.Bad
 
+-- on with this variable, where there is one
 abbrev pub withVariable : Natural → (ℕ → VolatileLine) → VolatileLine
 withVariable natural.Bad f = badVolatiles
 withVariable (natural.Of n) f = f n
@@ -196,6 +198,7 @@ secondOf s at e h =
 abbrev pub behindCounts : Limits → List ℕ → ℕ → ℕ → Counts → Trace
 behindCounts m s a e h = cond (allowed m h) (secondOf (drop (a + 1) s) (a + 1) e h) (unfound (overLimits m))
 
+-- 3, then what stands behind a right head
 abbrev pub behindHead : Limits → List ℕ → ℕ → ℕ → Headed → Trace
 behindHead m s a e r = cond (r .ok) (behindCounts m s a e (r .head)) (unfound wrongHead)
 
@@ -207,6 +210,7 @@ firstHead s = cond (ltb (before 10 s) (length s)) (headOf (splitOn 32 (take (bef
 unfoldable pub firstOf : Limits → List ℕ → ℕ → Trace
 firstOf m s e = behindHead m s (before 10 s) e (firstHead s)
 
+-- 2, then what stands before a right trailer
 abbrev pub behindTrailer : Limits → List ℕ → Trailer → Trace
 behindTrailer m s trailer.Wrong = unfound wrongTrailer
 behindTrailer m s (trailer.At e) = firstOf m (take e s) e

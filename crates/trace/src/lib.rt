@@ -2,6 +2,7 @@
 use decimal::Natural;
 use rules::Counts;
 use rules::Course;
+use rules::VARIABLES;
 use rules::Verdict;
 ghost use mathlib.Core.Path.{_≡_};
 ghost use Prim.Native.Nat.{_+_, _≤_};
@@ -15,7 +16,7 @@ ghost use Rattle.trace.specs.Trace.{trailerNumber, checkAt, trailerOf, n
 // The guards of a trace: whether line 2 names locks, and then the lock of each variable, 0 past the last.
 pub struct Guards {
     pub given: bool,
-    pub locks: [usize; 16],
+    pub locks: [usize; VARIABLES],
 }
 
 // A trace that was found, with the places where its events start and its trailer starts; all 0 after a refusal.
@@ -43,13 +44,13 @@ pub struct Headed {
 pub struct GuardLine {
     pub ok: bool,
     pub given: bool,
-    pub locks: [usize; 16],
+    pub locks: [usize; VARIABLES],
 }
 
 // A line 3 that begins with V: whether it is right, and which variables it names.
 pub struct VolatileLine {
     pub ok: bool,
-    pub volatiles: [bool; 16],
+    pub volatiles: [bool; VARIABLES],
 }
 
 // The number of a trailer, a line without its end.
@@ -104,7 +105,7 @@ fn no_head() -> Headed
             threads: 0,
             variables: 0,
             locks: 0,
-            volatiles: [false; 16],
+            volatiles: [false; VARIABLES],
         },
     }
 }
@@ -126,7 +127,7 @@ fn check_head(t: Natural, v: Natural, l: Natural) -> Headed
         threads,
         variables,
         locks,
-        volatiles: [false; 16],
+        volatiles: [false; VARIABLES],
     };
     if rules::is_allowed(Course::Full, c) {
         Headed { ok: true, head: c }
@@ -158,7 +159,7 @@ fn bad_line() -> GuardLine
     GuardLine {
         ok: false,
         given: false,
-        locks: [0; 16],
+        locks: [0; VARIABLES],
     }
 }
 
@@ -177,7 +178,7 @@ fn read_locks(s: &[u8], v: usize, l: usize) -> GuardLine
     requires { ⌜ (v ≤ full .variables) × (length (splitOn 32 (now s)) ≡ v + 1) ⌝ }
     ensures { λ r. ⌜ r ≡ locksFrom 0 noLocks l (drop 1 (splitOn 32 (now (s .entry)))) ⌝ }
 {
-    let mut g = [0usize; 16];
+    let mut g = [0usize; VARIABLES];
     let mut e = lines::space_from(s, 0);
     let mut i: usize = 0;
     while i < v {
@@ -217,7 +218,7 @@ fn read_guards(s: &[u8], v: usize, l: usize) -> GuardLine
             GuardLine {
                 ok: true,
                 given: false,
-                locks: [0; 16],
+                locks: [0; VARIABLES],
             }
         } else if lines::count_fields(s) == v + 1 {
             read_locks(s, v, l)
@@ -234,7 +235,7 @@ fn bad_volatiles() -> VolatileLine
 {
     VolatileLine {
         ok: false,
-        volatiles: [false; 16],
+        volatiles: [false; VARIABLES],
     }
 }
 
@@ -259,7 +260,7 @@ fn read_flags(s: &[u8], v: usize) -> VolatileLine
     requires { ⌜ v ≤ full .variables ⌝ }
     ensures { λ r. ⌜ r ≡ volatilesFrom v 0 noVolatiles (drop 1 (splitOn 32 (now (s .entry)))) ⌝ }
 {
-    let mut g = [false; 16];
+    let mut g = [false; VARIABLES];
     let mut low: usize = 0;
     let mut e = lines::space_from(s, 0);
     while e < s.len() {
@@ -303,11 +304,11 @@ fn refuse(number: u8, line: usize) -> Trace
             threads: 0,
             variables: 0,
             locks: 0,
-            volatiles: [false; 16],
+            volatiles: [false; VARIABLES],
         },
         guards: Guards {
             given: false,
-            locks: [0; 16],
+            locks: [0; VARIABLES],
         },
         from: 0,
         to: 0,

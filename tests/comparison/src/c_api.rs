@@ -119,12 +119,13 @@ pub struct Marked {
     pub line: usize,
     pub events: usize,
     pub written: usize,
+    pub ordered: usize,
     pub sections: usize,
     pub denial: usize,
     pub denial_line: usize,
 }
 
-const _: () = assert!(size_of::<Marked>() == 56);
+const _: () = assert!(offset_of!(Marked, ordered) == 32 && offset_of!(Marked, denial_line) == 56 && size_of::<Marked>() == 64);
 
 #[link(name = "c_api", kind = "static")]
 extern "C" {

@@ -7,6 +7,7 @@ use papers::compare::{close, run, Size};
 use papers::generate::Rng;
 use papers::{Course, COURSES};
 use std::rc::Rc;
+use std::thread;
 use std::time::Instant;
 
 fn main() {
@@ -23,20 +24,24 @@ fn main() {
         aimed: 40 * times as usize,
         short: 5,
     };
+    // The steps run beside the papers.
+    let steps = thread::spawn(move || COURSES.map(|course| all_steps(course, times as usize, seed)));
     let papers = Rc::new(Papers::new());
     let same = Rc::clone(&papers);
     let (mut passed, mut failed) = run(Box::new(move |course, paper, with_a| same.check(course, paper, with_a)), size);
     println!("{}", papers.orders());
-    for course in COURSES {
-        let tally = all_steps(course, times as usize, seed);
+    for (lines, tally) in steps.join().expect("the steps") {
+        print!("{lines}");
         (passed, failed) = (passed + tally.passed, failed + tally.failed);
     }
     close((passed, failed))
 }
 
-fn all_steps(course: Course, times: usize, seed: u64) -> Tally {
+/// What is said of the steps of a course, a line for each part, and how they went.
+fn all_steps(course: Course, times: usize, seed: u64) -> (String, Tally) {
     let mut rng = Rng::new(seed);
     let mut tally = Tally::default();
+    let mut lines = String::new();
     let mut part = |name: &str, count: usize, one: &mut dyn FnMut(&mut Tally, &mut Rng)| {
         let start = Instant::now();
         let (passed, accepted) = (tally.passed + tally.failed, tally.accepted);
@@ -44,7 +49,8 @@ fn all_steps(course: Course, times: usize, seed: u64) -> Tally {
             one(&mut tally, &mut rng);
         }
         let (passed, accepted) = (tally.passed + tally.failed - passed, tally.accepted - accepted);
-        println!("{course:?} course, {name}: {passed} in {:.1} s, {accepted} accepted", start.elapsed().as_secs_f64());
+        let seconds = start.elapsed().as_secs_f64();
+        lines += &format!("{course:?} course, {name}: {passed} in {seconds:.1} s, {accepted} accepted\n");
     };
     part("steps along traces", 600, &mut |tally, rng| {
         let length = rng.between(0, 80);
@@ -64,5 +70,5 @@ fn all_steps(course: Course, times: usize, seed: u64) -> Tally {
     }
     part("steps from states out of range", 20, &mut |tally, rng| steps::out_of_range(tally, rng, course));
     steps::every_answer(&mut tally, course);
-    tally
+    (lines, tally)
 }

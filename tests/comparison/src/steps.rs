@@ -759,28 +759,32 @@ fn reached(rng: &mut Rng, course: Course) -> Kept {
     state
 }
 
-/// From a state in range: each number of refusal 8 out of range in turn, at every place.
+/// From a state in range: each number of refusal 8 out of range in turn, at every place, with an event and with a byte that is no letter; and
+/// every such byte from the state itself, and where no event may follow.
 pub fn out_of_range(tally: &mut Tally, rng: &mut Rng, course: Course) {
     let mut s = if rng.chance(50) { reached(rng, course) } else { state_in_range(rng, course) };
     s.events = s.events.max(1);
     assert!(!model::out_of_range(course, &s));
+    let others: Vec<u8> = (0..=255).filter(|letter| !LETTERS.contains(letter)).collect();
     for (name, places, spoil) in SPOILS {
         for i in 0..places {
             let mut bad = s.clone();
             spoil(&mut bad, i, rng, course);
             assert!(model::out_of_range(course, &bad), "{name} {i}");
             let e = any_event(rng, &s);
-            let said =
-                stepped(course, &bad, &e, (8, 0)).map(|_| ()).map_err(|report| format!("{name} {i} out of range: {report}"));
-            tally.count((8, 0), said);
+            for e in [e, Event { letter: rng.pick(&others), ..e }] {
+                let said =
+                    stepped(course, &bad, &e, (8, 0)).map(|_| ()).map_err(|report| format!("{name} {i} out of range: {report}"));
+                tally.count((8, 0), said);
+            }
         }
     }
-    // a letter that is none of the thirteen: 4 before all others
-    let (mut bad, mut stray) = (s.clone(), s.clone());
-    bad.counts.threads = 9;
-    (stray.counts.variables, stray.counts.volatiles[15]) = (1, true);
-    for kept in [&s, &bad, &stray] {
-        for letter in (0..=255).filter(|letter| !LETTERS.contains(letter)) {
+    // 4 behind 8 and before 9
+    let mut last = s.clone();
+    last.events = course.events();
+    assert!(!model::out_of_range(course, &last));
+    for kept in [&s, &last] {
+        for &letter in &others {
             let e = Event { letter, ..any_event(rng, &s) };
             let wanted = (4, kept.events as usize + kept.counts.first_line());
             tally.count(wanted, stepped(course, kept, &e, wanted).map(|_| ()));

@@ -101,6 +101,7 @@ fn said(m: marker_c::Marked) -> Marked {
         line: m.line,
         events: m.events,
         written: m.written,
+        ordered: m.ordered,
         sections: m.sections,
         denial: m.denial,
         denial_line: m.denial_line,
@@ -226,6 +227,7 @@ fn wanted(bytes: &[u8], listing: &str) -> Wanted {
         marked: Marked {
             events: first[0] as usize,
             written,
+            ordered: usize::from(ordered),
             sections: entries.len(),
             denial: denied.as_ref().map_or(0, |n| n[1] as usize),
             denial_line: denied.as_ref().map_or(0, |n| n[0] as usize),
@@ -354,7 +356,7 @@ fn by(
         ordered(course, marker, lent, bytes, n, listing, wanted).map_err(|e| format!("scratch of {}: {e}", n.scratch))?;
     }
     let memories = unordered(listing);
-    let brief = Marked { written: memories.len(), sections: 0, denial: 0, denial_line: 0, ..wanted.marked };
+    let brief = Marked { written: memories.len(), ordered: 0, sections: 0, denial: 0, denial_line: 0, ..wanted.marked };
     let marked = lent.mark_unordered(course, marker, bytes, lengths[0]);
     lent.told(marked, brief, memories, &wanted.records).map_err(|e| format!("no order wanted: {e}"))
 }

@@ -22,6 +22,7 @@ pub struct Marked {
     pub line: usize,
     pub events: usize,
     pub written: usize,
+    pub ordered: usize,
     pub sections: usize,
     pub denial: usize,
     pub denial_line: usize,
@@ -129,10 +130,11 @@ fn into(course: Course, paper: &[u8], what: &mut [u32], values: &mut [Value], ou
     let mut lines = MaybeUninit::uninit();
     let mut listing = Listing::new(&mut lines);
     listing.memories(&machine);
-    let mut sections = 0;
+    let (mut ordered, mut sections) = (0, 0);
     if let Some(order) = order {
         if denial.1 == 0 {
             order.scratch.fill(0);
+            ordered = 1;
             sections = listing.sections(machine.sections(), order.list);
         } else {
             listing.pair(b"unordered", denial.0, denial.1);
@@ -141,6 +143,7 @@ fn into(course: Course, paper: &[u8], what: &mut [u32], values: &mut [Value], ou
     Marked {
         events: machine.len(),
         written: listing.copy_to(out),
+        ordered,
         sections,
         denial: denial.1,
         denial_line: denial.0,

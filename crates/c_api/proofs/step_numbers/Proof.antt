@@ -2,7 +2,8 @@
 use borrow.Author.Needs.{needs}
 use mir.ValLaws.{toZ-ofZ}
 use Rattle.rules.specs.Limits.{limitsOf, valueWidth}
-use Rattle.c_api.proofs.StepLaws.{none-named, one-named}
+use Rattle.rules.proofs.Bounds.{up-to-full}
+use Rattle.c_api.proofs.StepLaws.{step-told}
 use Rattle.c_api.proofs.step_numbers.Statement.{statement}
 use Rattle.c_api.proofs.step_numbers.Tie as tie
 
@@ -12,11 +13,8 @@ line-after-requires c κs = search needs
 kind-of-requires : tie.Need-kind-of-requires
 kind-of-requires c κs = search needs
 
-enum-told : tie.Need-enum-told
-enum-told c = search needs
-
-enum-known-named : tie.Need-enum-known-named
-enum-known-named c = search needs
+event-of-requires : tie.Need-event-of-requires
+event-of-requires c κs = search needs
 
 step-requires : tie.Need-step-requires
 step-requires c κs = search needs
@@ -24,16 +22,14 @@ step-requires c κs = search needs
 reply-of-requires : tie.Need-reply-of-requires
 reply-of-requires c κs = search needs
 
+reply-to-requires : tie.Need-reply-to-requires
+reply-to-requires c κs = search needs
+
 returns : tie.Need-returns
 returns c =
-    let a = c .before .before .before .before .before .args in
-    none-named (limitsOf (a .course)) (a .s) (a .letter) (a .thread) (a .place) (a .value) _ (toZ-ofZ valueWidth _ (c .before .before .before .before .before .fits .value)) _ (c .before .before .kind-of .ensures) _ (c .before .before .before .line-after .ensures) (c .enum-told .given .1)
-
-returns-2 : tie.Need-returns-2
-returns-2 c =
-    let a = c .before .before .before .before .before .before .before .before .before .args in
-    one-named (limitsOf (a .course)) (a .s) (a .letter) (a .thread) (a .place) (a .value) _ (toZ-ofZ valueWidth _ (c .before .before .before .before .before .before .before .before .before .fits .value)) _ (c .before .before .before .before .before .before .kind-of .ensures) _
-    (c .before .before .before .before .before .before .before .line-after .ensures) _ _ _ (c .before .before .before .before .named .given .1) (c .before .before .step .ensures) (c .reply-of .ensures)
+    let a = c .before .before .before .before .before .before .before .before .args in
+    step-told (limitsOf (a .course)) (a .s) (up-to-full (a .course)) (a .thread) (a .letter) (a .place) (a .value) _ (toZ-ofZ valueWidth _ (c .before .before .before .before .before .before .before .before .fits .value)) _ (c .before .before .before .before .before .kind-of .ensures)
+    _ _ _ _ _ (c .before .before .before .before .before .before .line-after .ensures) (c .before .before .before .before .event-of .ensures) (c .before .before .before .step .ensures) (c .before .reply-of .ensures) (c .reply-to .ensures)
 
 pub step-numbers-spec : {M : Type 1} → statement M
 step-numbers-spec =
@@ -41,9 +37,8 @@ step-numbers-spec =
     (tie.spec
     line-after-requires
     kind-of-requires
-    enum-told
-    enum-known-named
+    event-of-requires
     step-requires
     reply-of-requires
-    returns
-    returns-2)
+    reply-to-requires
+    returns)

@@ -1,9 +1,9 @@
 -- `event_rows::event_at` meets its contract: the event of the two numbers at its place, in the line of that place.
 use Prim.Native.Nat.{ℕ}
-use mathlib.Core.Path.{_≡_, _∙_, ap₂}
+use mathlib.Core.Path.{_≡_, sym, _∙_, ap₂}
 use lib.IntN.{ℤ, pos}
 use lib.ListN.{getD}
-use Rattle.records.specs.Records.{unpacked, eventAt}
+use Rattle.records.specs.Records.{eventIn, recordAt}
 use mir.Val.{ofZ, toZ}
 use mir.ValLaws.{toZ-ofZ}
 use Rattle.rules.specs.Limits.{valueWidth}
@@ -12,7 +12,7 @@ use Rattle.event_rows.proofs.event_at.Statement.{statement}
 use Rattle.event_rows.proofs.event_at.Tie as tie
 use Rattle.event_rows.proofs.event_at.Reads as reads
 use Rattle.event_rows.proofs.event_at.Lts as lts
-use Rattle.records.proofs.unpack.Reads as unpack-reads
+use Rattle.event_rows.proofs.unpack.Reads as unpack-reads
 use Rattle.rules.proofs.line_after.Reads as line-after-reads
 
 mul-w : tie.Need-mul-w
@@ -37,10 +37,10 @@ unpack-requires : tie.Need-unpack-requires
 unpack-requires c κs = search needs
 
 returns : tie.Need-returns
-unfolding eventAt
+unfolding recordAt
 returns c =
     let same : toZ valueWidth (ofZ valueWidth (getD (c .before .before .before .before .before .args .value .now) (c .before .before .before .before .before .args .i) (pos 0))) ≡ (getD (c .before .before .before .before .before .args .value .now) (c .before .before .before .before .before .args .i) (pos 0)) = toZ-ofZ valueWidth _ (search needs) in
-    c .unpack .ensures ∙ ap₂ (λ (l : ℕ) (x : ℤ). unpacked l (getD (c .before .before .before .before .before .args .what .now) (c .before .before .before .before .before .args .i) 0) x) (c .before .line-after .ensures) same
+    ap₂ (λ (l : ℕ) (x : ℤ). eventIn l (getD (c .before .before .before .before .before .args .what .now) (c .before .before .before .before .before .args .i) 0) x) (sym (c .before .line-after .ensures)) (sym same) ∙ c .unpack .ensures
 
 pub event-at-spec : {M : Type 1} → statement M
 event-at-spec =

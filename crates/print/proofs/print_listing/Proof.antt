@@ -1,53 +1,81 @@
--- `print::print_listing` meets its contract: the listing is written whole. Assumes nothing.
-use Prim.Native.Nat.{ℕ}
+-- `print::print_listing` meets its contract: what is handed on is the listing, whole.
+use Prim.Native.Nat.{ℕ, _≤_}
 use native.Mathlib.Omega.{arith}
-use mathlib.Core.Path.{sym}
-use denote.Ref.{now}
-use lib.ListN.{replicate, length-replicate}
+use mathlib.Core.Path.{_≡_, sym, ap, _∙_}
+use mathlib.Core.Bool.{cond}
+use mathlib.Core.List.{List}
+use lib.Dec.{ltb}
+use lib.ListN.{length, replicate}
 use lib.Seq.{length-take-le}
-use Rattle.report.proofs.Reported.{written-in, enough-lent, written-is}
+use denote.Ref.{now}
+use Rattle.rules.specs.declared.Course.{Course}
+use Rattle.rules.specs.Limits.{full, limitsOf}
+use Rattle.rules.proofs.Bounds.{up-to-full}
+use Rattle.decimal.specs.Text.{over}
+use Rattle.decimal.proofs.TextLaws.{over-length}
+use Rattle.report.specs.Report.{listingOf}
+use Rattle.report.proofs.Theorems.{listing-room}
 use borrow.Author.Needs.{needs}
 use Rattle.print.proofs.print_listing.Statement.{statement}
 use Rattle.print.proofs.print_listing.Tie as tie
 
-slice-aggregate-mark-lent : tie.Need-slice-aggregate-mark-lent
-slice-aggregate-mark-lent c = search needs
+module _ (m : Course) (s : List ℕ) (r : ℕ) (out′ : List ℕ) where
+  abbrev text : List ℕ
+  text = listingOf (limitsOf m) s
 
-slice-aggregate-mark-lent-2 : tie.Need-slice-aggregate-mark-lent-2
-slice-aggregate-mark-lent-2 c = search needs
+  abbrev lent : List ℕ
+  lent = replicate 32768 0
 
-slice-aggregate-mark-lent-3 : tie.Need-slice-aggregate-mark-lent-3
-slice-aggregate-mark-lent-3 c = search needs
+  -- the output has room for the whole listing
+  whole : (r ≡ cond (ltb (length lent) (full .output)) 0 (length text)) × (out′ ≡ cond (ltb (length lent) (full .output)) lent (over text lent)) → (r ≡ length text) × (r ≤ length out′)
+  whole e = (count, omega (arith, count, fits, size))
+    where
+      count : r ≡ length text
+      count = e .0
 
-mark-lent-requires : tie.Need-mark-lent-requires
-mark-lent-requires c κs = search needs
+      fits : length text ≤ 32768
+      fits = listing-room (limitsOf m) (up-to-full m) s
+
+      size : length out′ ≡ 32768
+      size = ap length (e .1) ∙ over-length text lent fits
+
+slice-aggregate-list-trace : tie.Need-slice-aggregate-list-trace
+slice-aggregate-list-trace c = search needs
+
+list-trace-requires : tie.Need-list-trace-requires
+list-trace-requires c κs = search needs
 
 array-share-prefix-out : tie.Need-array-share-prefix-out
-array-share-prefix-out c = written-in (c .before .before .before .before .before .before .before .before .before .before .args .course) _ _ _ _ _ (c .before .before .before .mark-lent .result) _ _ _ (c .before .before .before .mark-lent .ensures .reports)
+array-share-prefix-out c = let a = c .before .before .before .before .args in whole (a .course) (now (a .s)) _ _ (c .before .list-trace .ensures) .1
 
 slice-aggregate-write-all : tie.Need-slice-aggregate-write-all
-slice-aggregate-write-all c = sym (length-take-le _ _ (written-in (c .before .before .before .before .before .before .before .before .before .before .before .args .course) _ _ _ _ _ (c .before .before .before .before .mark-lent .result) _ _ _ (c .before .before .before .before .mark-lent .ensures .reports)))
+slice-aggregate-write-all c = let a = c .before .before .before .before .before .args in sym (length-take-le _ _ (whole (a .course) (now (a .s)) _ _ (c .before .before .list-trace .ensures) .1))
 
 write-all-requires : tie.Need-write-all-requires
 write-all-requires c κs = search needs
 
+slice-aggregate-write-all-2 : tie.Need-slice-aggregate-write-all-2
+slice-aggregate-write-all-2 c = search needs
+
+write-all-requires-2 : tie.Need-write-all-requires-2
+write-all-requires-2 c κs = search needs
+
 returns : tie.Need-returns
-returns c =
-    let a = c .before .before .before .before .before .before .before .before .before .before .before .before .args in
-    let m = c .before .before .before .before .before .mark-lent in
-    written-is (a .course) (now (a .s)) 2000 (replicate 32768 0) (replicate 1000 0) (replicate 1000 0) (m .result) _ _ _ (m .ensures .reports)
-    (enough-lent (a .course) 2000 (replicate 32768 0) (replicate 1000 0) (replicate 1000 0) (omega arith) (omega (arith, length-replicate {A = ℕ} 32768 0)) (omega (arith, length-replicate {A = ℕ} 1000 0))
-    (omega (arith, length-replicate {A = ℕ} 1000 0)))
+returns c = let a = c .before .before .before .before .before .before .before .before .before .args in whole (a .course) (now (a .s)) _ _ (c .before .before .before .before .before .before .list-trace .ensures) .0
+
+returns-2 : tie.Need-returns-2
+returns-2 c = let a = c .before .before .before .before .before .before .before .args in whole (a .course) (now (a .s)) _ _ (c .before .before .before .before .list-trace .ensures) .0
 
 pub print-listing-spec : {M : Type 1} → statement M
 print-listing-spec =
     tie.close
     (tie.spec
-    slice-aggregate-mark-lent
-    slice-aggregate-mark-lent-2
-    slice-aggregate-mark-lent-3
-    mark-lent-requires
+    slice-aggregate-list-trace
+    list-trace-requires
     array-share-prefix-out
     slice-aggregate-write-all
     write-all-requires
-    returns)
+    slice-aggregate-write-all-2
+    write-all-requires-2
+    returns
+    returns-2)

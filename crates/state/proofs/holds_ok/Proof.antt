@@ -8,10 +8,10 @@ use Rattle.state.proofs.holds_ok.Statement.{statement}
 use Rattle.state.proofs.holds_ok.Tie as tie
 
 abbrev Inv-loop : tie.InvT-loop
-Inv-loop s n h ok₀ i₀ ok i = (i ≤ 8) × (ok ≡ every i (holdsIn s))
+Inv-loop s n h ok₀ l₀ ok l = (l ≤ 8) × (ok ≡ every l (holdsIn s))
 
 abbrev μ-loop : tie.MeasureT-loop
-μ-loop s n h ok₀ i₀ ok i = 8 - i
+μ-loop s n h ok₀ l₀ ok l = 8 - l
 
 loop-holds : tie.Need-loop-holds Inv-loop μ-loop
 loop-holds c = (search needs, every-zero (holdsIn (c .before .args .t1)))
@@ -22,25 +22,19 @@ mul-a c = search needs
 element-copy-out-a : tie.Need-element-copy-out-a Inv-loop μ-loop
 element-copy-out-a c = search needs
 
-mul-hold-ok : tie.Need-mul-hold-ok Inv-loop μ-loop
-mul-hold-ok c = search needs
-
-element-copy-out-hold-ok : tie.Need-element-copy-out-hold-ok Inv-loop μ-loop
-element-copy-out-hold-ok c = search needs
-
 hold-ok-requires : tie.Need-hold-ok-requires Inv-loop μ-loop
 hold-ok-requires c κs = search needs
 
-add-i : tie.Need-add-i Inv-loop μ-loop
-add-i c = search needs
+add-l : tie.Need-add-l Inv-loop μ-loop
+add-l c = search needs
 
 loop-less : tie.Need-loop-less Inv-loop μ-loop
 loop-less c = search needs
 
 loop-again : tie.Need-loop-again Inv-loop μ-loop
 loop-again c =
-    let l = c .before .before .before .before .loop in
-    (search needs, every-more (l .i) (holdsIn (c .before .before .before .before .before .before .args .t1)) (l .inv .1) (c .hold-ok .ensures))
+    let l = c .before .before .before .loop in
+    (search needs, every-more (l .l) (holdsIn (c .before .before .before .before .before .args .t1)) (l .inv .1) (c .hold-ok .ensures))
 
 returns : tie.Need-returns Inv-loop μ-loop
 unfolding holdsOk
@@ -55,10 +49,8 @@ holds-ok-spec =
     loop-holds
     mul-a
     element-copy-out-a
-    mul-hold-ok
-    element-copy-out-hold-ok
     hold-ok-requires
-    add-i
+    add-l
     loop-less
     loop-again
     returns)

@@ -5,13 +5,13 @@ use mathlib.Core.Bool.{Bool, true, _&&_}
 use lib.Dec.{leb}
 use Rattle.rules.specs.Limits.{Limits, limitsOf, allowed}
 use Rattle.state.specs.declared.State.{State}
-use Rattle.state.specs.Range.{holdsOk, waitsOk, cellsOk, queuesOk, inRange}
+use Rattle.state.specs.Range.{holdsOk, threadsOk, cellsOk, queuesOk, inRange}
 use borrow.Author.Needs.{needs}
 use Rattle.state.proofs.in_range.Statement.{statement}
 use Rattle.state.proofs.in_range.Tie as tie
 
 -- what is asked, one after the other
-asked : (m : Limits) (s : State) {z a : Bool} {n : ℕ} {b w c d e : Bool} → z ≡ true → a ≡ allowed m (s .counts) → n ≡ m .events → b ≡ holdsOk s → w ≡ waitsOk s → c ≡ cellsOk s
+asked : (m : Limits) (s : State) {z a : Bool} {n : ℕ} {b w c d e : Bool} → z ≡ true → a ≡ allowed m (s .counts) → n ≡ m .events → b ≡ holdsOk s → w ≡ threadsOk s → c ≡ cellsOk s
     → d ≡ queuesOk (s .events) (s .cells) (s .reads) (λ x. x .reads) → e ≡ queuesOk (s .events) (s .cells) (s .stores) (λ x. x .stores)
     → (z && a && leb (s .events) n && b && w && c && d && e) ≡ inRange m s
 unfolding inRange
@@ -29,8 +29,8 @@ most-events-requires c κs = search needs
 holds-ok-requires : tie.Need-holds-ok-requires
 holds-ok-requires c κs = search needs
 
-waits-ok-requires : tie.Need-waits-ok-requires
-waits-ok-requires c κs = search needs
+threads-ok-requires : tie.Need-threads-ok-requires
+threads-ok-requires c κs = search needs
 
 cells-ok-requires : tie.Need-cells-ok-requires
 cells-ok-requires c κs = search needs
@@ -46,7 +46,7 @@ returns c =
     let a = c .before .before .before .before .before .before .before .before .before .before .before .before .before .before .before .before .before .args in
     let z = c .before .before .before .before .before .before .before .before .sized .ensures in (
       asked (limitsOf (a .course)) (a .s) (z .0) (c .before .before .before .before .before .before .before .is-allowed .ensures) (c .before .before .before .before .before .before .most-events .ensures)
-          (c .before .before .before .before .holds-ok .ensures) (c .before .before .before .waits-ok .ensures) (c .before .before .cells-ok .ensures) (c .before .queues-ok .ensures) (c .queues-ok2 .ensures),
+          (c .before .before .before .before .holds-ok .ensures) (c .before .before .before .threads-ok .ensures) (c .before .before .cells-ok .ensures) (c .before .queues-ok .ensures) (c .queues-ok2 .ensures),
       record { cells = z .1; reads = z .2; stores = z .3; locked = z .4; holds = z .5; memory = z .6; waits = z .7 },
     )
 
@@ -58,7 +58,7 @@ in-range-spec =
     is-allowed-requires
     most-events-requires
     holds-ok-requires
-    waits-ok-requires
+    threads-ok-requires
     cells-ok-requires
     queues-ok-requires
     queues-ok-requires-2

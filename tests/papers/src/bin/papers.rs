@@ -1,5 +1,6 @@
 //! Writes papers and their listings, NAME.txt, NAME.out and, for the short course, NAME.short: `papers DIR [RANDOM]`, the papers with known
-//! listings and some random ones. The listings that are not known are marker A's.
+//! listings and some random ones. The listings that are not known are marker A's. A number before the name keeps names apart that agree in
+//! their letters and digits.
 
 use papers::{by_a, expected, generate, short_course, volatiles, waiting, Course};
 use std::path::Path;
@@ -19,10 +20,11 @@ fn main() {
         let short = short(&e.paper);
         (e, short)
     });
-    for (e, short) in plain.chain(short_course::papers()).chain(volatiles::papers()).chain(waiting::papers()) {
+    let known = plain.chain(short_course::papers()).chain(volatiles::papers()).chain(waiting::papers());
+    for (number, (e, short)) in known.enumerate() {
         let words: Vec<String> =
             e.name.split(|c: char| !c.is_ascii_alphanumeric()).filter(|w| !w.is_empty()).map(str::to_ascii_lowercase).collect();
-        write(&words.join("-"), &e.paper, &e.listing, &short);
+        write(&format!("{:04}-{}", number + 1, words.join("-")), &e.paper, &e.listing, &short);
     }
     for seed in 1..=random {
         let paper = if seed % 3 == 0 { generate::damaged_paper(seed) } else { generate::random_paper(seed) };

@@ -1,0 +1,46 @@
+#!/usr/bin/env bash
+# What the programs and the script `mark` do with input that cannot be read, comes in pieces or is too long, and with output that cannot be
+# written. The last line is 'N passed, M failed'.
+set -u
+cd "$(dirname "$0")/.." || exit 2
+passed=0
+failed=0
+# Runs the command; its exit status, standard output and standard error on one line each are the second word on.
+expect() {
+    local what=$1 wanted=$2 out err status
+    shift 2
+    err=$(mktemp)
+    out=$("$@" 2> "$err")
+    status=$?
+    out="$status|$out|$(cat "$err")"
+    rm -f "$err"
+    if [ "$out" = "$wanted" ]; then
+        passed=$((passed + 1))
+    else
+        failed=$((failed + 1))
+        printf '%s: wanted %q, got %q\n' "$what" "$wanted" "$out"
+    fi
+}
+
+paper=$'H 1 1 0\nG -\nZ 12\n'
+folder() { "$1" < /; }
+closed() { "$1" <&-; }
+pieces() { { printf '%s' "${paper:0:9}"; sleep 0.2; printf '%s' "${paper:9}"; } | "$1"; }
+long() { head -c "$2" /dev/zero | "$1"; }
+full() { printf '%s' "$paper" | "$1" > /dev/full; }
+for program in target/bin/mark target/bin/mark_short; do
+    expect "$program, a folder" '0||the paper cannot be read' folder "$program"
+    expect "$program, no input" '0||the paper cannot be read' closed "$program"
+    expect "$program, in pieces" $'0|accepted 0\nmain 0 0|' pieces "$program"
+    expect "$program, 65,536 bytes" '0|refused 0 2|' long "$program" 65536
+    expect "$program, 65,537 bytes" '0|refused 0 1|' long "$program" 65537
+    expect "$program, a full disk" '0||the listing cannot be written' full "$program"
+done
+expect 'a folder' "2||mark: 'examples' is not a file that can be read" ./mark examples
+expect 'no such file' "2||mark: 'nosuch' is not a file that can be read" ./mark nosuch
+refused='0|refused 6 16|'
+expect 'a paper' "$refused" ./mark examples/refused.txt
+expect 'the short course' "$refused" ./mark --short examples/refused.txt
+expect 'the course behind the file' "$refused" ./mark examples/refused.txt --short
+echo "$passed passed, $failed failed"
+[ "$failed" -eq 0 ]
