@@ -84,7 +84,7 @@ module _ (x y : ℤ) (n : ℕ) (t : Bool) (same : y ≡ x) (size : n ≡ natAbs 
   is-positive-text g = rw (size, same, text-positive x (ap isNegative (sym same) ∙ sym sign ∙ g))
 
 -- one more byte of a text that is copied
-pub over-take : {A : Type 0} (t o : List A) (i : ℕ) (d : A) → i < length t → length t ≤ length o → set (over (take i t) o) i (getD t i d) ≡ over (take (i + 1) t) o
+pub over-take : {A : Type 0} (t o : List A) (i : ℕ) (d : A) → i < length t → i < length o → set (over (take i t) o) i (getD t i d) ≡ over (take (i + 1) t) o
 over-take {A} t o i d h l =
     let n : length (take i t) ≡ i = length-take-le i t (omega arith) in
     let s : set (over (take i t) o) (length (take i t)) (getD t i d) ≡ over (take i t ++ (getD t i d ∷ [])) o = over-next (take i t) o (getD t i d) (omega arith) in

@@ -2,7 +2,7 @@
 -- Assumes nothing.
 use mathlib.Core.Path.{_≡_, refl, sym, ap, _∙_}
 use mathlib.Core.Bool.{Bool, true, false, cond}
-use mathlib.Core.List.{List, [], _∷_, _++_, append-assoc, append-nil, map, map-append}
+use mathlib.Core.List.{List, [], _∷_, _++_, map, map-append}
 use Prim.Native.Nat.{ℕ, zero, suc, _<_, _+_, _*_, _/_, _%_}
 use native.Mathlib.Numerals.{add-one}
 use native.Mathlib.Omega.{arith}
@@ -16,6 +16,7 @@ use Rattle.rules.specs.declared.Memories.{Memories}
 use Rattle.rules.specs.Limits.{full, allowed}
 use Rattle.rules.specs.Rules.{Words}
 use Rattle.rules.specs.Memories.{Copy, below, each, memory, copies, from, mainIn, cachedIn, memoriesOf}
+use Rattle.rules.proofs.From.{each-suc, each-more, each-same, from-at}
 use Rattle.rules.proofs.Bounds.{allowed-bounds}
 use Rattle.serial.specs.Lists.{All}
 use Rattle.sections.specs.CriticalSections.{Entry}
@@ -24,18 +25,6 @@ use Rattle.listing.specs.Listing.{acceptedLine, mainLine, copyLine, sect
 use Rattle.listing.proofs.LineLaws.{Fits, row-fits, value-fits}
 
 -- ---- one more
-
-each-append : {A : Type 0} (f : ℕ → List A) (ms ns : List ℕ) → each f (ms ++ ns) ≡ each f ms ++ each f ns
-unfolding each
-each-append f [] ns = refl
-each-append f (m ∷ ms) ns = ap (λ z. f m ++ z) (each-append f ms ns) ∙ sym (append-assoc (f m) (each f ms) (each f ns))
-
-pub each-suc : {A : Type 0} (f : ℕ → List A) (n : ℕ) → each f (below (suc n)) ≡ each f (below n) ++ f n
-unfolding below
-each-suc f n = each-append f (below n) (n ∷ []) ∙ ap (λ z. each f (below n) ++ z) (unfold each in append-nil (f n))
-
-each-more : {A : Type 0} (f : ℕ → List A) (n : ℕ) → each f (below (n + 1)) ≡ each f (below n) ++ f n
-each-more f n = ap (λ (k : ℕ). each f (below k)) (add-one n) ∙ each-suc f n
 
 mains-append : (v : ℕ) (xs ys : List ℤ) → mainLinesFrom v (xs ++ ys) ≡ mainLinesFrom v xs ++ mainLinesFrom (v + length xs) ys
 unfolding mainLinesFrom
@@ -122,20 +111,8 @@ no-lines n h m a = rw a refl
 
 -- ---- memories that are those of words
 
-each-same : {A : Type 0} (f g : ℕ → List A) (n : ℕ) → ((i : ℕ) → i < n → f i ≡ g i) → each f (below n) ≡ each g (below n)
-each-same f g zero e = unfold below each in refl
-each-same f g (suc n) e =
-    each-suc f n ∙ ap (λ z. z ++ f n) (each-same f g n (λ i k. e i (omega arith))) ∙ ap (λ z. each g (below n) ++ z) (e n (omega arith)) ∙ sym (each-suc g n)
-
--- what stands at a place of a row
-from-at : {X : Type 0} (f : ℕ → X) (i n k : ℕ) (d : X) → k < n → getD (from f i n) k d ≡ f (i + k)
-unfolding from
-from-at f i zero k d h = absurd (omega arith)
-from-at f i (suc n) zero d h = ap f (omega arith)
-from-at f i (suc n) (suc k) d h = from-at f (suc i) n k d (omega arith) ∙ ap f (omega arith)
-
 row-at : {X : Type 0} (f : ℕ → X) (n k : ℕ) (d : X) → k < n → getD (from f 0 n) k d ≡ f k
-row-at f n k d h = from-at f 0 n k d h ∙ ap f (omega arith)
+row-at f n k d h = from-at f d 0 n k h ∙ ap f (omega arith)
 
 module _ (h : Counts) (w : Words) (a : allowed full h ≡ true) where
   mains-are : mainsIn (memoriesOf w) h ≡ memory h w

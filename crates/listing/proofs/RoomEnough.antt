@@ -23,7 +23,8 @@ use Rattle.sections.specs.CriticalSections.{Entry}
 use Rattle.sections.proofs.Entries.{Small}
 use Rattle.listing.specs.Listing.{acceptedLine, mainLine, copyLine, sectionLine, refusedLine, unorderedLine, textOf, writeAll, mainLinesFrom, mainLines, copyLines, stateLines, sectionLines}
 use Rattle.listing.proofs.LineLaws.{all-text}
-use Rattle.listing.proofs.ListLaws.{each-suc, both}
+use Rattle.rules.proofs.From.{each-suc}
+use Rattle.listing.proofs.ListLaws.{both}
 
 -- ---- the length of a line; the text of a value has at most 21 bytes, a minus and 20 digits (`value-short`)
 

@@ -7,3 +7,4 @@ pub mod Narrow
 pub mod Plain
 pub mod Courses
 pub mod Ten
+pub mod Handed

@@ -23,7 +23,8 @@ use Rattle.sections.specs.Refusals.{unfinished}
 use Rattle.sections.proofs.Holding.{same-holds, gains-none, lock-taken}
 use Rattle.ordering.specs.Computed.Parts.{takesHold, givesHold, exchanges, levelAfter, Holdable, Held, pendingIn, unfinishedIn}
 use Rattle.ordering.proofs.Arrays.{thread-set, cell-set}
-use Rattle.ordering.proofs.Sums.{total, total-some, total-same, total-zero, total-low, total-moved, total-part, total-one}
+use Rattle.ordering.proofs.Sums.{total-some, total-same, total-zero, total-low, total-moved, total-one}
+use Rattle.rules.proofs.Sums.{total, total-part}
 use Rattle.ordering.proofs.Scanned.{Reads, apart, Owed}
 
 -- ---- what one event leaves of a hold

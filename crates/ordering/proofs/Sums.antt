@@ -7,11 +7,7 @@ use mathlib.Core.Bool.{Bool, _||_}
 use borrow.Author.Tests.{lt-ltb}
 use lib.Dec.{ltb}
 use Rattle.rules.specs.Rules.{some}
-
--- the sum of f over the numbers below n
-unfoldable pub total : ℕ → (ℕ → ℕ) → ℕ
-total zero f = 0
-total (suc n) f = f n + total n f
+use Rattle.rules.proofs.Sums.{total}
 
 pub total-some : (n : ℕ) (f : ℕ → ℕ) → ltb 0 (total n f) ≡ some n (λ i. ltb 0 (f i))
 unfolding total some
@@ -48,16 +44,6 @@ total-moved (suc n) p f g h e = by (ℕ-discrete n p) (λ k. total-moved n p f g
     by (yes q) r = omega (arith, ap f q, ap g q, total-same n f g (λ i k. e i (omega arith) (λ j. omega (arith, k, j, q))))
     by (no q) r = omega (arith, e n (omega arith) q, r (omega (arith, h, q)))
 
--- one of them is at most their sum
-pub total-part : (n p : ℕ) (f : ℕ → ℕ) → p < n → f p ≤ total n f
-unfolding total
-total-part zero p f h = absurd (omega arith)
-total-part (suc n) p f h = by (ℕ-discrete n p) (total-part n p f)
-  where
-    by : Dec (n ≡ p) → (p < n → f p ≤ total n f) → f p ≤ f n + total n f
-    by (yes q) r = omega (arith, ap f q)
-    by (no q) r = omega (arith, r (omega (arith, h, q)))
-
--- and the sum, where the others are 0
+-- the sum, where the others are 0
 pub total-one : (n p : ℕ) (f : ℕ → ℕ) → p < n → ((i : ℕ) → i < n → (i ≡ p → ⊥) → f i ≡ 0) → total n f ≡ f p
 total-one n p f h e = omega (arith, total-moved n p (λ i. 0) f h e, total-zero n)

@@ -1,12 +1,11 @@
 -- A whole trace: marking hands back its head and the records of its events, and what is given for these is what is given for the bytes.
-use Prim.Native.Nat.{ℕ, _≤_}
+use Prim.Native.Nat.{ℕ}
 use native.Mathlib.Omega.{arith}
 use mathlib.Core.Path.{_≡_, refl, sym, ap, _∙_, subst}
 use mathlib.Core.Bool.{Bool, true, false, cond}
 use mathlib.Core.List.{List, map}
 use lib.IntN.{ℤ}
-use lib.ListN.{length, take, drop, length-map, length-append}
-use lib.Seq.{take-at}
+use lib.ListN.{length, take}
 use Rattle.rules.specs.declared.Event.{Event}
 use Rattle.rules.specs.declared.Counts.{Counts}
 use Rattle.rules.specs.declared.Course.the-variants.{Full}
@@ -20,8 +19,9 @@ use Rattle.trace.specs.declared.Guards.{Guards}
 use Rattle.trace.specs.Trace.{traceOf}
 use Rattle.records.specs.Records.{packed, valueIn, rowEvents}
 use Rattle.marking.specs.declared.Marking.{Marking}
-use Rattle.marking.specs.Marking.{markedOf, eventsIn, readIn, acceptedOf, refusedWith, markingOf, Marks}
-use Rattle.marking.proofs.Whole.{read-is, head-allowed, events-marked, events-numbered}
+use Rattle.marking.specs.Marking.{markedOf, eventsIn, readIn, refusedWith, markingOf, Marks}
+use Rattle.marking.proofs.Whole.{head-allowed, events-marked, events-numbered}
+use Rattle.marking.proofs.Handed.{is-accepted, head-is, guards-are, front-whats, front-values}
 use Rattle.sections.specs.Denials.{fit}
 use Rattle.sections.specs.Demand3.{AcceptedTrace}
 use Rattle.sections.specs.Refusals.{denial}
@@ -78,46 +78,7 @@ module _ (m : Limits) (u : UpToFull m) where
   -- ---- what marking hands back
 
   module _ (s whats : List ℕ) (values : List ℤ) (marking : Marking) (whats′ : List ℕ) (values′ : List ℤ) (k : Marks m s whats values marking whats′ values′) where
-    pub is-accepted : marking .verdict ≡ Accepted → markedOf m s ≡ accepted
-    is-accepted q = sym (k .says) ∙ ap told q
-
     module _ (a : markedOf m s ≡ accepted) where
-      marking-is : marking ≡ acceptedOf m s
-      unfolding markingOf
-      marking-is = k .gives ∙ ap (λ (x : Marked). onMarked x (acceptedOf m s) (refusedWith x)) a
-
-      pub head-is : marking .head ≡ traceOf m s .head
-      unfolding acceptedOf
-      head-is = ap (λ (x : Marking). x .head) marking-is
-
-      pub guards-are : marking .guards ≡ traceOf m s .guards
-      unfolding acceptedOf
-      guards-are = ap (λ (x : Marking). x .guards) marking-is
-
-      pub count-is : marking .events ≡ length (eventsIn m s)
-      unfolding acceptedOf
-      count-is = ap (λ (x : Marking). x .events) marking-is
-
-      -- a row with the records of all events at its front
-      module _ {X : Type 0} (f : Event → X) (row row′ : List X) (q : row′ ≡ over (map f (readIn m s)) row) where
-        laid : row′ ≡ over (map f (eventsIn m s)) row
-        laid = q ∙ ap (λ (es : List Event). over (map f es) row) (read-is m u s a)
-
-        as-many : length (map f (eventsIn m s)) ≡ marking .events
-        as-many = length-map (eventsIn m s) f ∙ sym count-is
-
-        front : take (marking .events) row′ ≡ map f (eventsIn m s)
-        front = ap (take (marking .events)) laid ∙ take-at (map f (eventsIn m s)) (drop (length (map f (eventsIn m s))) row) (marking .events) as-many
-
-        front-low : marking .events ≤ length row′
-        front-low =
-            let n = ap length laid ∙ length-append (map f (eventsIn m s)) (drop (length (map f (eventsIn m s))) row) in
-            omega (arith, n, as-many)
-
-      -- the rows hold so many
-      pub rows-hold : (marking .events ≤ length whats′) × (marking .events ≤ length values′)
-      rows-hold = (front-low packed whats whats′ (k .keeps), front-low valueIn values values′ (k .beside))
-
       -- the rows that are ordered are its records
       abbrev At : (Counts → Guards → List ℕ → List ℤ → Type 0) → Type 0
       At P = P (marking .head) (marking .guards) (take (marking .events) whats′) (take (marking .events) values′)
@@ -126,7 +87,7 @@ module _ (m : Limits) (u : UpToFull m) where
       Of P = P (traceOf m s .head) (traceOf m s .guards) (map packed (eventsIn m s)) (map valueIn (eventsIn m s))
 
       same : (P : Counts → Guards → List ℕ → List ℤ → Type 0) → At P ≡ Of P
-      same P = λ i. P (head-is i) (guards-are i) (front packed whats whats′ (k .keeps) i) (front valueIn values values′ (k .beside) i)
+      same P = λ i. P (head-is m u s whats values marking whats′ values′ k a i) (guards-are m u s whats values marking whats′ values′ k a i) (front-whats m u s whats values marking whats′ values′ k a i) (front-values m u s whats values marking whats′ values′ k a i)
 
       pub front-fits : Fits (marking .head) (take (marking .events) whats′) (take (marking .events) values′)
       front-fits =
@@ -195,7 +156,7 @@ module _ (m : Limits) (u : UpToFull m) where
           → Given (answerFor (marking .head) (marking .guards) (rowEvents (marking .head) (take (marking .events) whats′) (take (marking .events) values′))) (entriesFor (marking .head) (rowEvents (marking .head) (take (marking .events) whats′) (take (marking .events) values′))) list scratch o list′ scratch′
           → OrdersTrace m s whats values list scratch (record { marking = marking; ordering = o }) whats′ values′ list′ scratch′
       orders-accepted q o list′ scratch′ v =
-          marked-given o list′ scratch′ (front-given s whats values marking whats′ values′ k (is-accepted s whats values marking whats′ values′ k q) list scratch o list′ scratch′ v)
+          marked-given o list′ scratch′ (front-given s whats values marking whats′ values′ k (is-accepted m u s whats values marking whats′ values′ k q) list scratch o list′ scratch′ v)
 
   -- ---- demand 3
 

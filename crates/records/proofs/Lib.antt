@@ -2,3 +2,4 @@ pub mod RecordLaws
 pub mod RowLaws
 pub mod HeldMarks
 pub mod MarkedRows
+pub mod Copies

@@ -6,7 +6,7 @@ use mathlib.Core.List.{List}
 use mathlib.Core.Option.{Option}
 use lib.Dec.{ltb}
 use lib.IntN.{ℤ, pos}
-use lib.ListN.{length, getD}
+use lib.ListN.{length, getD, take}
 use Rattle.rules.specs.declared.Counts.{Counts}
 use Rattle.rules.specs.declared.Event.{Event}
 use Rattle.rules.specs.declared.Kind.{Kind}
@@ -16,6 +16,7 @@ use Rattle.rules.specs.declared.Named.the-variants as named
 use Rattle.rules.specs.Events.{letter, place, capped, value, kindOf, eventWith}
 use Rattle.rules.specs.Limits.{lineAfter}
 use Rattle.rules.specs.Memories.{from}
+use Rattle.decimal.specs.Text.{over}
 
 -- what an event is, from its letter, thread, and variable or lock
 unfoldable pub whatOf : ℕ → ℕ → ℕ → ℕ
@@ -65,3 +66,7 @@ eventAt h ws xs i = unpacked (lineAfter h i) (getD ws i 0) (getD xs i (pos 0))
 -- the events of two rows
 unfoldable pub rowEvents : Counts → List ℕ → List ℤ → List Event
 rowEvents h ws xs = from (eventAt h ws xs) 0 (length ws)
+
+-- ---- a lent row with these at its front, as far as it has places for them
+abbrev pub onto : {A : Type 0} → List A → List A → List A
+onto row lent = over (take (length lent) row) lent

@@ -2,10 +2,9 @@
 // is to be written.
 ghost use mathlib.Core.Path.{_≡_};
 ghost use mathlib.Core.List.{_++_};
-ghost use Prim.Native.Nat.{_≤_, min};
-ghost use lib.ListN.{length};
+ghost use Prim.Native.Nat.{min};
 ghost use Rattle.rules.specs.Limits.{limitsOf};
-ghost use Rattle.decimal.specs.Text.{over, Wrote};
+ghost use Rattle.decimal.specs.Text.{Wrote};
 ghost use Rattle.listing.specs.Listing.{linesFor, writeAll};
 ghost use Rattle.report.specs.Report.{tooLittleReport, Lends, Fills, Briefs};
 ghost use Rattle.report.specs.Computed.Parts.{orderingLines};
@@ -43,30 +42,6 @@ fn lent_short() -> Report
         events: 0,
         ordering: nothing,
         written: 0,
-    }
-}
-
-// What the events are, at the front of the lent row.
-fn copy_whats(lent: &mut [u32], row: &[u32])
-    requires { ⌜ length (now row) ≤ length (now lent) ⌝ }
-    ensures { λ _. ⌜ now (lent .exit) ≡ over (now (row .entry)) (now (lent .entry)) ⌝ }
-{
-    let mut i: usize = 0;
-    while i < row.len() {
-        lent[i] = row[i];
-        i += 1;
-    }
-}
-
-// Their values.
-fn copy_values(lent: &mut [Value], row: &[Value])
-    requires { ⌜ length (now row) ≤ length (now lent) ⌝ }
-    ensures { λ _. ⌜ now (lent .exit) ≡ over (now (row .entry)) (now (lent .entry)) ⌝ }
-{
-    let mut i: usize = 0;
-    while i < row.len() {
-        lent[i] = row[i];
-        i += 1;
     }
 }
 
@@ -167,8 +142,8 @@ pub fn mark_trace(
         scratch,
     );
     let n = r.events;
-    copy_whats(whats, &what[..n]);
-    copy_values(values, &value[..n]);
+    records::copy_whats(whats, &what[..n]);
+    records::copy_values(values, &value[..n]);
     r
 }
 
@@ -200,8 +175,8 @@ pub fn mark_unordered(
         };
     }
     let n = m.events;
-    copy_whats(whats, &what[..n]);
-    copy_values(values, &value[..n]);
+    records::copy_whats(whats, &what[..n]);
+    records::copy_values(values, &value[..n]);
     let written = listing::write_memories(out, n, m.head, m.memories);
     Report {
         verdict: said,

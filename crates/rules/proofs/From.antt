@@ -1,4 +1,4 @@
--- Lists of what a function gives for the numbers from one on.
+-- Lists of what a function gives for the numbers from one on, or below one.
 use Prim.Native.Nat.{ℕ, zero, suc, _+_, _-_, _≤_, _<_}
 use native.Mathlib.Omega.{arith}
 use mathlib.Core.Path.{_≡_, refl, sym, ap, ap₂, _∙_}
@@ -6,9 +6,10 @@ use mathlib.Core.Bool.{Bool, true, false}
 use lib.Dec.{eqb}
 use lib.Seq.{getD-set-same, getD-set-other}
 use borrow.Author.Tests.{eqb-true, eqb-false}
-use mathlib.Core.List.{List, [], _∷_}
+use mathlib.Core.List.{List, [], _∷_, _++_, append-assoc, append-nil}
+use native.Mathlib.Numerals.{add-one}
 use lib.ListN.{length, getD, set, replicate}
-use Rattle.rules.specs.Memories.{from}
+use Rattle.rules.specs.Memories.{from, below, each}
 
 module _ {X : Type 0} (f : ℕ → X) where
   pub from-step : (i n : ℕ) → i < n → from f i (n - i) ≡ f i ∷ from f (suc i) (n - suc i)
@@ -61,3 +62,23 @@ fill-more f d l i x n h e j k = go (eqb j i) refl
 
 pub filled : {X : Type 0} (f : ℕ → X) (d : X) (l : List X) (n : ℕ) → length l ≡ n → ((j : ℕ) → j < n → getD l j d ≡ f j) → l ≡ from f 0 n
 filled f d l n e h = sym (ap (λ (k : ℕ). from f 0 k) (sym e) ∙ from-is f d l 0 (λ j q. let z : 0 + j ≡ j = omega arith in ap f z ∙ sym (h j (omega arith))))
+
+-- ---- the numbers below one
+
+module _ {X : Type 0} (f : ℕ → List X) where
+  each-append : (ms ns : List ℕ) → each f (ms ++ ns) ≡ each f ms ++ each f ns
+  unfolding each
+  each-append [] ns = refl
+  each-append (m ∷ ms) ns = ap (λ (z : List X). f m ++ z) (each-append ms ns) ∙ sym (append-assoc (f m) (each f ms) (each f ns))
+
+  pub each-suc : (n : ℕ) → each f (below (suc n)) ≡ each f (below n) ++ f n
+  unfolding below
+  each-suc n = each-append (below n) (n ∷ []) ∙ ap (λ (z : List X). each f (below n) ++ z) (unfold each in append-nil (f n))
+
+  pub each-more : (n : ℕ) → each f (below (n + 1)) ≡ each f (below n) ++ f n
+  each-more n = ap (λ (k : ℕ). each f (below k)) (add-one n) ∙ each-suc n
+
+-- what gives the same for each of them
+pub each-same : {X : Type 0} (f g : ℕ → List X) (n : ℕ) → ((m : ℕ) → m < n → f m ≡ g m) → each f (below n) ≡ each g (below n)
+each-same f g zero e = unfold below each in refl
+each-same f g (suc n) e = each-suc f n ∙ ap₂ (λ (x y : List _). x ++ y) (each-same f g n (λ m k. e m (omega arith))) (e n (omega arith)) ∙ sym (each-suc g n)

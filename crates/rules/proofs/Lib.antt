@@ -10,6 +10,7 @@ pub mod Simulation
 pub mod Bounds
 pub mod Readings
 pub mod From
+pub mod Sums
 pub mod Bare
 pub mod Cells
 pub mod Rows

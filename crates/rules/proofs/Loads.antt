@@ -163,7 +163,7 @@ unfolding count by is
 no-load t v n x = refl
 
 -- L's row, of the oldest of the reads
-loads-row : (h : Counts) (t v : ℕ) (s : Slot) (rs : List Slot) (w : Words) → AllLive w → cellOf w t v .reads ≡ s ∷ rs → cellOf w t v .pending ≡ false → cellOf w t v .fresh ≡ false → Kept h w t (Load v (s .value))
+pub loads-row : (h : Counts) (t v : ℕ) (s : Slot) (rs : List Slot) (w : Words) → AllLive w → cellOf w t v .reads ≡ s ∷ rs → cellOf w t v .pending ≡ false → cellOf w t v .fresh ≡ false → Kept h w t (Load v (s .value))
 unfolding cellOf
 loads-row h t v s rs w l q p f =
     let some : none? (w .reads t v) ≡ false = rw q in

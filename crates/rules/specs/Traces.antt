@@ -5,7 +5,7 @@ use mathlib.Core.Bool.{true, false}
 use mathlib.Core.List.{List, [], _∷_, _++_}
 use mathlib.Core.Option.{Option, none, some}
 use lib.IntN.{ℤ, pos, negsuc}
-use lib.ListN.{replicate}
+use lib.ListN.{drop, replicate}
 use Rattle.rules.specs.declared.Kind.{Kind}
 use Rattle.rules.specs.declared.Kind.the-variants.{Use, Assign, Load, Store, Read, Write, Lock, Unlock, PrescientStore, PrescientAssign, Wait, Notify, Resume}
 use Rattle.rules.specs.declared.Event.{Event}
@@ -175,6 +175,7 @@ checkTraces =
     ∷ trace (K 0 0 ∷ A 0 1 5 ∷ S 0 1 5 ∷ N 0 0 ∷ []) (bad 16 4)
     -- P: 13, 19
     ∷ trace (P 0 0 5 ∷ P 0 0 6 ∷ []) (bad 13 2)
+    ∷ trace (drop 2 eightStores ++ (P 0 0 5 ∷ P 0 0 5 ∷ [])) (bad 13 16)
     ∷ trace (eightStores ++ (P 0 0 5 ∷ [])) (bad 19 17)
     -- B: 10, 18
     ∷ trace (B 0 0 5 ∷ []) (bad 10 1)

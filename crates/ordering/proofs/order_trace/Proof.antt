@@ -6,7 +6,8 @@ use denote.Ref.{now}
 use borrow.Author.Needs.{needs}
 use Rattle.rules.specs.Limits.{full, limitsOf, orderShort}
 use Rattle.rules.proofs.Bounds.{up-to-full}
-use Rattle.ordering.proofs.Traces.{is-accepted, rows-hold, front-fits, orders-nothing, orders-refused, orders-accepted}
+use Rattle.marking.proofs.Handed.{is-accepted, rows-hold}
+use Rattle.ordering.proofs.Traces.{front-fits, orders-nothing, orders-refused, orders-accepted}
 use Rattle.ordering.proofs.order_trace.Statement.{statement}
 use Rattle.ordering.proofs.order_trace.Tie as tie
 

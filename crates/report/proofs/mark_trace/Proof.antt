@@ -1,5 +1,7 @@
 -- `report::mark_trace` meets its contract: the records of the events, over the lent ones.
+use mathlib.Core.Path.{_∙_}
 use denote.Ref.{now}
+use Rattle.records.proofs.Copies.{onto-all}
 use Rattle.report.proofs.Reported.{front-whats, front-values, fills}
 use borrow.Author.Needs.{needs}
 use Rattle.report.proofs.mark_trace.Statement.{statement}
@@ -26,11 +28,7 @@ slice-aggregate-copy-whats c =
     front-whats (a .course) (now (a .bytes)) (now (a .whats)) (now (a .values)) _ _ (now (a .out)) (now (a .list)) (now (a .scratch)) (l .result) _ _ _ _ _ c′ .count
 
 copy-whats-requires : tie.Need-copy-whats-requires
-copy-whats-requires c κs =
-    let a = c .before .before .before .before .before .before .before .before .before .before .before .before .before .before .before .before .before .before .before .before .args in
-    let l = c .before .before .before .before .before .before .before .before .mark-lent in
-    let c′ = rw (c .before .before .before .before .before .before .before .before .before .before .before .before .before .before .lesser .ensures) at (l .ensures) in
-    front-whats (a .course) (now (a .bytes)) (now (a .whats)) (now (a .values)) _ _ (now (a .out)) (now (a .list)) (now (a .scratch)) (l .result) _ _ _ _ _ c′ .room
+copy-whats-requires c κs = search needs
 
 array-share-prefix-value : tie.Need-array-share-prefix-value
 array-share-prefix-value c =
@@ -47,11 +45,7 @@ slice-aggregate-copy-values c =
     front-values (a .course) (now (a .bytes)) (now (a .whats)) (now (a .values)) _ _ (now (a .out)) (now (a .list)) (now (a .scratch)) (l .result) _ _ _ _ _ c′ .count
 
 copy-values-requires : tie.Need-copy-values-requires
-copy-values-requires c κs =
-    let a = c .before .before .before .before .before .before .before .before .before .before .before .before .before .before .before .before .before .before .before .before .before .before .before .before .before .args in
-    let l = c .before .before .before .before .before .before .before .before .before .before .before .before .before .mark-lent in
-    let c′ = rw (c .before .before .before .before .before .before .before .before .before .before .before .before .before .before .before .before .before .before .before .lesser .ensures) at (l .ensures) in
-    front-values (a .course) (now (a .bytes)) (now (a .whats)) (now (a .values)) _ _ (now (a .out)) (now (a .list)) (now (a .scratch)) (l .result) _ _ _ _ _ c′ .room
+copy-values-requires c κs = search needs
 
 same-length : tie.Need-same-length
 same-length c = search needs
@@ -73,7 +67,7 @@ returns c =
     let a = c .before .before .before .before .before .before .before .before .before .before .before .before .before .before .before .before .before .before .before .before .before .before .before .before .before .before .before .args in
     let l = c .before .before .before .before .before .before .before .before .before .before .before .before .before .before .before .mark-lent in
     let c′ = rw (c .before .before .before .before .before .before .before .before .before .before .before .before .before .before .before .before .before .before .before .before .before .lesser .ensures) at (l .ensures) in
-    fills (a .course) (now (a .bytes)) (now (a .whats)) (now (a .values)) _ _ (now (a .out)) (now (a .list)) (now (a .scratch)) (l .result) _ _ _ _ _ c′ _ _ (c .before .before .before .before .before .before .copy-whats .ensures) (c .before .copy-values .ensures)
+    fills (a .course) (now (a .bytes)) (now (a .whats)) (now (a .values)) _ _ (now (a .out)) (now (a .list)) (now (a .scratch)) (l .result) _ _ _ _ _ c′ _ _ (c .before .before .before .before .before .before .copy-whats .ensures ∙ onto-all _ (now (a .whats)) (front-whats (a .course) (now (a .bytes)) (now (a .whats)) (now (a .values)) _ _ (now (a .out)) (now (a .list)) (now (a .scratch)) (l .result) _ _ _ _ _ c′ .room)) (c .before .copy-values .ensures ∙ onto-all _ (now (a .values)) (front-values (a .course) (now (a .bytes)) (now (a .whats)) (now (a .values)) _ _ (now (a .out)) (now (a .list)) (now (a .scratch)) (l .result) _ _ _ _ _ c′ .room))
 
 pub mark-trace-spec : {M : Type 1} → statement M
 mark-trace-spec =

@@ -1,5 +1,7 @@
 -- `report::mark_unordered` meets its contract: 7, a refusal, or records and listing of an accepted trace.
+use mathlib.Core.Path.{_∙_}
 use denote.Ref.{now}
+use Rattle.records.proofs.Copies.{onto-all}
 use Rattle.report.proofs.Briefed.{brief-little, little-brief, refused-brief, front-whats, front-values, accepted-brief}
 use borrow.Author.Needs.{needs}
 use Rattle.report.proofs.mark_unordered.Statement.{statement}
@@ -60,11 +62,7 @@ slice-aggregate-copy-whats c =
     front-whats (a .course) (now (a .bytes)) (now (a .whats)) (now (a .values)) (now (a .out)) e _ _ (m .result) _ _ (m .ensures) (c .before .before .enum-told .given .1) .count
 
 copy-whats-requires : tie.Need-copy-whats-requires
-copy-whats-requires c κs =
-    let a = c .before .before .before .before .before .before .before .before .before .before .before .before .before .args in
-    let m = c .before .before .before .before .mark in
-    let e = brief-little (a .course) (now (a .whats)) (now (a .values)) (now (a .out)) _ _ _ (c .before .before .before .before .before .before .before .before .before .lesser .ensures) (c .before .before .before .before .before .before .before .before .is-lent-short .ensures) (c .before .before .before .before .before .before .before .if1 .left) in
-    front-whats (a .course) (now (a .bytes)) (now (a .whats)) (now (a .values)) (now (a .out)) e _ _ (m .result) _ _ (m .ensures) (c .before .before .enum-told .given .1) .room
+copy-whats-requires c κs = search needs
 
 array-share-prefix-value : tie.Need-array-share-prefix-value
 array-share-prefix-value c =
@@ -81,11 +79,7 @@ slice-aggregate-copy-values c =
     front-values (a .course) (now (a .bytes)) (now (a .whats)) (now (a .values)) (now (a .out)) e _ _ (m .result) _ _ (m .ensures) (c .before .before .before .before .before .before .before .enum-told .given .1) .count
 
 copy-values-requires : tie.Need-copy-values-requires
-copy-values-requires c κs =
-    let a = c .before .before .before .before .before .before .before .before .before .before .before .before .before .before .before .before .before .before .args in
-    let m = c .before .before .before .before .before .before .before .before .before .mark in
-    let e = brief-little (a .course) (now (a .whats)) (now (a .values)) (now (a .out)) _ _ _ (c .before .before .before .before .before .before .before .before .before .before .before .before .before .before .lesser .ensures) (c .before .before .before .before .before .before .before .before .before .before .before .before .before .is-lent-short .ensures) (c .before .before .before .before .before .before .before .before .before .before .before .before .if1 .left) in
-    front-values (a .course) (now (a .bytes)) (now (a .whats)) (now (a .values)) (now (a .out)) e _ _ (m .result) _ _ (m .ensures) (c .before .before .before .before .before .before .before .enum-told .given .1) .room
+copy-values-requires c κs = search needs
 
 write-memories-requires : tie.Need-write-memories-requires
 write-memories-requires c κs = search needs
@@ -104,7 +98,7 @@ returns-3 c =
     let a = c .before .before .before .before .before .before .before .before .before .before .before .before .before .before .before .before .before .before .before .before .before .before .before .before .args in
     let m = c .before .before .before .before .before .before .before .before .before .before .before .before .before .before .before .mark in
     let e = brief-little (a .course) (now (a .whats)) (now (a .values)) (now (a .out)) _ _ _ (c .before .before .before .before .before .before .before .before .before .before .before .before .before .before .before .before .before .before .before .before .lesser .ensures) (c .before .before .before .before .before .before .before .before .before .before .before .before .before .before .before .before .before .before .before .is-lent-short .ensures) (c .before .before .before .before .before .before .before .before .before .before .before .before .before .before .before .before .before .before .if1 .left) in
-    accepted-brief (a .course) (now (a .bytes)) (now (a .whats)) (now (a .values)) (now (a .out)) e _ _ (m .result) _ _ (m .ensures) (c .before .before .before .before .before .before .before .before .before .before .before .before .before .enum-told .given .1) (c .before .before .write-memories .result) _ _ _ (c .before .before .before .before .before .before .before .before .before .before .copy-whats .ensures) (c .before .before .before .before .before .copy-values .ensures) (c .before .before .write-memories .ensures)
+    accepted-brief (a .course) (now (a .bytes)) (now (a .whats)) (now (a .values)) (now (a .out)) e _ _ (m .result) _ _ (m .ensures) (c .before .before .before .before .before .before .before .before .before .before .before .before .before .enum-told .given .1) (c .before .before .write-memories .result) _ _ _ (c .before .before .before .before .before .before .before .before .before .before .copy-whats .ensures ∙ onto-all _ (now (a .whats)) (front-whats (a .course) (now (a .bytes)) (now (a .whats)) (now (a .values)) (now (a .out)) e _ _ (m .result) _ _ (m .ensures) (c .before .before .before .before .before .before .before .before .before .before .before .before .before .enum-told .given .1) .room)) (c .before .before .before .before .before .copy-values .ensures ∙ onto-all _ (now (a .values)) (front-values (a .course) (now (a .bytes)) (now (a .whats)) (now (a .values)) (now (a .out)) e _ _ (m .result) _ _ (m .ensures) (c .before .before .before .before .before .before .before .before .before .before .before .before .before .enum-told .given .1) .room)) (c .before .before .write-memories .ensures)
 
 pub mark-unordered-spec : {M : Type 1} → statement M
 mark-unordered-spec =
