@@ -1,9 +1,10 @@
 #!/usr/bin/env bash
-# The papers of docs/PAPERS.md: each is marked by a program and compared, byte for byte, with the listing that follows it there.
+# The papers of docs/PAPERS.md: each is marked by a program and compared, byte for byte, with the listing that follows it there; and with --tail
+# as its last argument with the tail behind the listing, where there is one.
 #   tests/handbook.sh PROGRAM [ARGUMENT..]    the program reads a paper on standard input and writes its listing
 # A short paper is one of the short course: the program gets --short as its last argument for it. The others are marked so too, and have the
 # same listing then or 25.
-# A number from 1 to 6, 9 to 23 or 25 to 30 without a paper under its own heading is a failure. The last line is 'N passed, M failed'.
+# A number from 1 to 6 or 9 to 30 without a paper under its own heading is a failure. The last line is 'N passed, M failed'.
 set -u
 export LC_ALL=C
 if [ $# -eq 0 ]; then
@@ -15,7 +16,7 @@ work=$(mktemp -d) || exit 2
 trap 'rm -rf "$work"' EXIT
 touch "$work/faults" "$work/covered" "$work/pairs"
 
-# Writes the files N.paper and N.listing; in `pairs` each N with the paper's line in the document and --short for a short paper, in `covered`
+# Writes the files N.paper, N.listing and N.tail; in `pairs` each N with the paper's line in the document and --short for a short paper, in `covered`
 # each number that is met under its heading, in `faults` what has not the form of a pair.
 awk -v work="$work" -v root="$root" '
 function fault(what) { print "docs/PAPERS.md:" NR ": " what > (work "/faults") }
@@ -52,10 +53,13 @@ out != "" {
 /^(short )?paper made by / { begin(); make(substr($0, index($0, " made by ") + 9)); close(paper) }
 /^(short )?paper in / { begin(); copy(substr($0, index($0, " in ") + 4)); close(paper) }
 /^```/ {
-    listed = $0 == "```listing"
+    listed = $0 ~ /^```(listing|tail)$/
     if ($0 ~ /^```(short )?paper$/) { begin(); out = paper }
     else if (!listed) out = "/dev/null"
-    else {
+    else if ($0 == "```tail") {
+        if (!n || waiting) fault("a tail without a paper and its listing")
+        out = work "/" n ".tail"; printf "" > out
+    } else {
         if (!waiting) fault("a listing without a paper")
         waiting = 0; out = work "/" n ".listing"; printf "" > out
     }
@@ -79,6 +83,17 @@ while read -r n line short; do
         diff "$work/$n.listing" "$work/got" | sed -n '1,20p'
         sed -n '1,5p' "$work/said"
     fi
+    if [ -f "$work/$n.tail" ]; then
+        timeout 60 "$@" --tail < "$work/$n.paper" > "$work/got" 2> "$work/said"
+        if cmp -s "$work/$n.tail" "$work/got"; then
+            passed=$((passed + 1))
+        else
+            failed=$((failed + 1))
+            echo "docs/PAPERS.md:$line: the tail differs"
+            diff "$work/$n.tail" "$work/got" | sed -n '1,20p'
+            sed -n '1,5p' "$work/said"
+        fi
+    fi
     # In the short course a paper of the full one has the same listing, or is over its limits.
     [ -z "$short" ] || continue
     timeout 60 "$@" --short < "$work/$n.paper" > "$work/got" 2> "$work/said"
@@ -89,7 +104,7 @@ while read -r n line short; do
         echo "docs/PAPERS.md:$line: the listing in the short course differs"
     fi
 done < "$work/pairs"
-for number in {1..6} {9..23} {25..30}; do
+for number in {1..6} {9..30}; do
     if ! grep -qx "$number" "$work/covered"; then
         failed=$((failed + 1))
         echo "docs/PAPERS.md: no paper under heading $number is answered with $number"

@@ -36,11 +36,27 @@ for program in target/bin/mark target/bin/mark_short; do
     expect "$program, 65,537 bytes" '0|refused 0 1|' long "$program" 65537
     expect "$program, a full disk" '0||the listing cannot be written' full "$program"
 done
+# a paper with a tail
+paper=$'H 1 1 1\nG -\nK 0 0\nZ 18\n'
+program=target/bin/tail
+expect "$program, a folder" '0||the paper cannot be read' folder $program
+expect "$program, no input" '0||the paper cannot be read' closed $program
+expect "$program, in pieces" '0|N 0 0|' pieces $program
+expect "$program, 65,536 bytes" '0|refused 0 2|' long $program 65536
+expect "$program, 65,537 bytes" '0|refused 0 1|' long $program 65537
+expect "$program, a full disk" '0||the tail cannot be written' full $program
 expect 'a folder' "2||mark: 'examples' is not a file that can be read" ./mark examples
 expect 'no such file' "2||mark: 'nosuch' is not a file that can be read" ./mark nosuch
 refused='0|refused 6 16|'
 expect 'a paper' "$refused" ./mark examples/refused.txt
 expect 'the short course' "$refused" ./mark --short examples/refused.txt
 expect 'the course behind the file' "$refused" ./mark examples/refused.txt --short
+tail_of() { printf '%s' "$1" | ./mark --tail; }
+expect 'a tail' $'0|S 0 0 5\nW 0 0 5\nN 0 0|' ./mark --tail crates/tail/stdin
+expect 'the tail of a finished paper' '0||' tail_of $'H 1 1 0\nG -\nZ 12\n'
+expect 'the tail of a refused paper' "$refused" ./mark --tail examples/refused.txt
+expect 'the tail of a paper with a V line' '0|refused 0 24|' tail_of $'H 1 1 0\nG -\nV 0\nZ 16\n'
+expect 'the tail of a paper that waits' '0|refused 0 24|' ./mark --tail examples/waiting.txt
+expect 'no tail in the short course' "2||$(./mark --help)" ./mark --short --tail
 echo "$passed passed, $failed failed"
 [ "$failed" -eq 0 ]

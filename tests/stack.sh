@@ -19,7 +19,7 @@ tests/library &&
     cargo build --release --offline --quiet --manifest-path tests/marker_a/Cargo.toml ||
     { echo "tests/stack.sh: the static library, $stack or marker A is not built"; exit 2; }
 # a program that is not built fails below
-for program in mark mark_short; do
+for program in mark mark_short tail; do
     [ -x target/bin/$program ] || rt check $program > target/mark.log 2>&1 || cat target/mark.log
 done
 
@@ -89,6 +89,12 @@ awk 'BEGIN { print "H 8 1 8\nG 0"; for (t = 0; t < 7; t++) { for (i = 0; i < 283
 # an order that is denied at the trailer
 awk 'BEGIN { print "H 8 1 8\nG 0"; for (i = 0; i < 2000; i++) print "K", i % 8, i % 8 }' | closed | paper locks-held-at-the-end
 
+# the longest tail: 128 copies assigned again, of the longest values, and 1,872 holds
+awk 'BEGIN {
+    print "H 8 16 8\nG -"; for (t = 0; t < 8; t++) for (v = 0; v < 16; v++) print "A", t, v, "-92233720368547" (75808 - 16 * t - v)
+    for (i = 0; i < 1872; i++) print "K", i % 8, i % 8
+}' | closed | paper longest-tail
+
 # within the limits of the short course: 200 events and 201, 88 sections and 8 copies of the longest values, an order that is denied
 awk 'BEGIN { print "H 2 4 2\nG -"; for (i = 0; i < 200; i++) print "A", i % 2, i % 4, "-92233720368547" (75808 - i) }' |
     closed | paper short-200-events
@@ -149,6 +155,17 @@ papers() {
 }
 papers mark
 papers mark_short --short
+# Every paper's tail: as many lines as marker A counts, and the same by the entry; in the short course where the paper is not over its limits.
+for p in "$work"/*.paper; do
+    on "$KB" target/bin/tail < "$p" > "$work/tail" 2> /dev/null
+    status=$?
+    if grep -q '^refused' "$work/tail"; then cat "$work/tail"; else echo "tail $(wc -l < "$work/tail")"; fi > "$work/got"
+    $A --tail < "$p" > "$work/a"
+    check tail "$(basename "$p" .paper)" "$work/a"
+    entry finish "$p" "$work/tail"
+    $A --short < "$p" | grep ' 25$' > "$work/a" || cp "$work/tail" "$work/a"
+    entry finish_short "$p" "$work/a"
+done
 for name in 2000-events 2001-events last-event-refused long-listing volatile-events waiting-events waiting-at-the-end \
     locks-held-at-the-end; do
     $A < "$work/$name.paper" | head -n 1 > "$work/a"
@@ -191,6 +208,8 @@ $A < "$work/long-listing.paper" > "$work/a"
 $A --short < "$work/short-long-listing.paper" > "$work/a-short"
 whole mark "$work/long-listing.paper" "$work/a"
 whole mark_short "$work/short-long-listing.paper" "$work/a-short"
+target/bin/tail < "$work/longest-tail.paper" > "$work/tail"
+whole tail "$work/longest-tail.paper" "$work/tail"
 for program in forms papers; do
     whole $program "$(its_input $program)" crates/$program/stdout
 done

@@ -3,7 +3,8 @@
      stack mark_unordered SIZE
      stack step SIZE                   `accepted n` or `refused line number`: the paper's events one by one, each of the form of an event
      stack out_of_range SIZE           number and line of a step of each kind, and of no letter, from a state that refusal 8 refuses
-     stack mark_short SIZE, stack mark_short_unordered SIZE, stack step_short SIZE, stack out_of_range_short SIZE
+     stack finish SIZE                 the lines of the tail, or `refused line number`
+     stack finish_short SIZE, stack mark_short SIZE, stack mark_short_unordered SIZE, stack step_short SIZE, stack out_of_range_short SIZE
                                        the same in the short course
    and to standard error the entry's name and how many bytes of stack it touched, those of a thread that does nothing left aside. A guard
    page lies below the stack: an entry that needs more ends the program with signal 11. */
@@ -28,6 +29,10 @@ static uint64_t order[1000], scratch[1000];
 static bool short_course;
 static struct dabzhoni_marked marked;
 
+static uint32_t tail_what[2256];
+static int64_t tail_values[2256];
+static struct dabzhoni_tail tail;
+
 static struct dabzhoni_state state;
 static size_t threads, variables, locks;
 static bool volatiles[16];
@@ -51,6 +56,22 @@ static void *mark_unordered(void *p) {
   marked = (short_course ? dabzhoni_mark_short_unordered : dabzhoni_mark_unordered)(paper, length, what, 2000, values, 2000, out,
                                                                                     sizeof out);
   return p;
+}
+
+static void *finish(void *p) {
+  tail = (short_course ? dabzhoni_finish_short : dabzhoni_finish)(paper, length, tail_what, 2256, tail_values, 2256);
+  return p;
+}
+
+/* The lines of the tail, whose events are of the ten kinds. */
+static void print_tail(void) {
+  if (tail.number) printf("refused %zu %zu\n", tail.line, tail.number);
+  for (size_t i = 0; i < tail.events; i++) {
+    uint32_t w = tail_what[i];
+    printf("%c %u %u", (int)(w >> 16), w >> 8 & 255, w & 255);
+    if (w >> 16 != 'N') printf(" %" PRId64, tail_values[i]);
+    printf("\n");
+  }
 }
 
 static void *initial(void *p) {
@@ -126,6 +147,9 @@ int main(int count, char **args) {
   } else if (is(entry, "mark_unordered", "mark_short_unordered")) {
     need(entry, mark_unordered, size);
     fwrite(out, 1, marked.written, stdout);
+  } else if (is(entry, "finish", "finish_short")) {
+    need(entry, finish, size);
+    print_tail();
   } else if (is(entry, "step", "step_short")) {
     read_events();
     need("initial", initial, size);

@@ -37,10 +37,10 @@ digits-most (suc k) n h l = ⊎-elim
     (lt-or-le n 10)
 
 -- n is below 10, 100, 10,000
-one-digit : (n : ℕ) → n < 10 → length (naturalText n) ≤ 1
+pub one-digit : (n : ℕ) → n < 10 → length (naturalText n) ≤ 1
 one-digit n h = digits-most 0 n h (omega arith)
 
-two-digits : (n : ℕ) → n < 100 → length (naturalText n) ≤ 2
+pub two-digits : (n : ℕ) → n < 100 → length (naturalText n) ≤ 2
 two-digits n h = digits-most 1 n h (omega arith)
 
 four-digits : (n : ℕ) → n < 10000 → length (naturalText n) ≤ 4

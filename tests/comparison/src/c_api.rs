@@ -127,6 +127,18 @@ pub struct Marked {
 
 const _: () = assert!(offset_of!(Marked, ordered) == 32 && offset_of!(Marked, denial_line) == 56 && size_of::<Marked>() == 64);
 
+/// What is said of a tail.
+#[repr(C)]
+#[derive(Clone, Copy, Debug, Default, PartialEq, Eq)]
+pub struct Tail {
+    pub number: usize,
+    pub line: usize,
+    pub events: usize,
+    pub first: usize,
+}
+
+const _: () = assert!(offset_of!(Tail, events) == 16 && offset_of!(Tail, first) == 24 && size_of::<Tail>() == 32);
+
 #[link(name = "c_api", kind = "static")]
 extern "C" {
     fn dabzhoni_initial(state: *mut State, threads: usize, variables: usize, locks: usize);
@@ -180,6 +192,22 @@ extern "C" {
         out: *mut u8,
         out_len: usize,
     ) -> Marked;
+    fn dabzhoni_finish(
+        paper: *const u8,
+        paper_len: usize,
+        what: *mut u32,
+        what_len: usize,
+        values: *mut Value,
+        values_len: usize,
+    ) -> Tail;
+    fn dabzhoni_finish_short(
+        paper: *const u8,
+        paper_len: usize,
+        what: *mut u32,
+        what_len: usize,
+        values: *mut Value,
+        values_len: usize,
+    ) -> Tail;
 }
 
 /// The memory of a state, byte for byte.
@@ -282,4 +310,14 @@ pub fn mark_unordered(course: Course, paper: &[u8], what: &mut [u32], values: &m
             out.len(),
         )
     }
+}
+
+/// Gives the tail of a paper into two lent rows.
+pub fn finish(course: Course, paper: &[u8], what: &mut [u32], values: &mut [Value]) -> Tail {
+    let finish = match course {
+        Course::Full => dabzhoni_finish,
+        Course::Short => dabzhoni_finish_short,
+    };
+    // SAFETY: three slices that do not overlap, each with its own length.
+    unsafe { finish(paper.as_ptr(), paper.len(), what.as_mut_ptr(), what.len(), values.as_mut_ptr(), values.len()) }
 }

@@ -3,4 +3,5 @@
 pub mod c_api;
 pub mod model;
 pub mod steps;
+pub mod tails;
 pub mod whole;

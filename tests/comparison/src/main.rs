@@ -2,6 +2,7 @@
 //! The last line is `N passed, M failed`.
 
 use comparison::steps::{self, Tally};
+use comparison::tails;
 use comparison::whole::Papers;
 use papers::compare::{close, run, Size};
 use papers::generate::Rng;
@@ -29,7 +30,14 @@ fn main() {
     let papers = Rc::new(Papers::new());
     let same = Rc::clone(&papers);
     let (mut passed, mut failed) = run(Box::new(move |course, paper, with_a| same.check(course, paper, with_a)), size);
-    println!("{}", papers.orders());
+    match papers.check(Course::Full, &tails::longest(), true) {
+        Ok(_) => passed += 1,
+        Err(what) => {
+            println!("the paper with the longest tail: {what}");
+            failed += 1;
+        }
+    }
+    println!("{}\n{}", papers.orders(), papers.tails());
     for (lines, tally) in steps.join().expect("the steps") {
         print!("{lines}");
         (passed, failed) = (passed + tally.passed, failed + tally.failed);

@@ -1,6 +1,7 @@
-//! One paper in one course by markers A, B, C and the proved marker; and what the proved marker and C leave in the lent memory.
+//! One paper in one course by markers A, B, C and the proved marker; what the proved marker and C leave in the lent memory; and its tail.
 
 use crate::c_api::{self, Marked};
+use crate::tails::Tails;
 use marker_a::order::Section;
 use marker_a::{paper, rules, Kind, Outcome, Verdict};
 use papers::generate::Rng;
@@ -20,19 +21,19 @@ const LONG_SCRATCH: usize = 3_000;
 const MORE: usize = 16;
 
 /// Memory with a pattern in it; a part of it is lent.
-struct Memory<T> {
+pub(crate) struct Memory<T> {
     pattern: Vec<T>,
-    places: Vec<T>,
+    pub(crate) places: Vec<T>,
 }
 
 impl<T: Copy + PartialEq> Memory<T> {
-    fn new(size: usize, item: impl FnMut() -> T) -> Memory<T> {
+    pub(crate) fn new(size: usize, item: impl FnMut() -> T) -> Memory<T> {
         let pattern: Vec<T> = std::iter::repeat_with(item).take(size + 2 * MORE).collect();
         Memory { places: pattern.clone(), pattern }
     }
 
     /// Whether it begins with these, and the rest is as it was; or all of it.
-    fn is(&self, front: &[T]) -> bool {
+    pub(crate) fn is(&self, front: &[T]) -> bool {
         let n = front.len();
         self.places[..n] == *front && self.places[n..] == self.pattern[n..]
     }
@@ -41,7 +42,7 @@ impl<T: Copy + PartialEq> Memory<T> {
         self.places.copy_from_slice(&self.pattern);
     }
 
-    fn renew_front(&mut self, n: usize) {
+    pub(crate) fn renew_front(&mut self, n: usize) {
         self.places[..n].copy_from_slice(&self.pattern[..n]);
     }
 }
@@ -175,11 +176,12 @@ pub struct Papers {
     /// the lent memory has its pattern, as it has after each paper that passed
     clean: Cell<bool>,
     orders: Cell<Orders>,
+    tails: RefCell<Tails>,
 }
 
 /// The record of an event, one number in each row: letter * 65536 + thread * 256 + variable or lock, and the value, which is the notified thread
 /// for F and 0 for K, N, Y and C.
-type Record = (u32, Value);
+pub(crate) type Record = (u32, Value);
 
 fn record(e: &marker_a::Event) -> Record {
     (u32::from(by_a::letter(e.kind)) * 65_536 + e.thread * 256 + e.target, e.value)
@@ -261,7 +263,7 @@ fn demand3(bytes: &[u8], events: Vec<marker_a::Event>, order: &[u64]) -> Result<
     marker_a::demand3(&outcome).map(|()| uses)
 }
 
-fn ensure(right: bool, what: impl FnOnce() -> String) -> Result<(), String> {
+pub(crate) fn ensure(right: bool, what: impl FnOnce() -> String) -> Result<(), String> {
     if right {
         Ok(())
     } else {
@@ -281,7 +283,7 @@ impl Papers {
             order: Memory::new(ORDER, || rng.next() | 1 << 63),
             scratch: Memory::new(LONG_SCRATCH, || rng.next() >> 37 | 1),
         };
-        Papers { lent: RefCell::new(lent), clean: Cell::new(true), orders: Cell::default() }
+        Papers { lent: RefCell::new(lent), clean: Cell::new(true), orders: Cell::default(), tails: RefCell::default() }
     }
 
     /// The listing that all markers agree on in a course, or what differs.
@@ -302,6 +304,7 @@ impl Papers {
         for marker in MARKERS {
             by(course, marker, &mut lent, bytes, lengths, &b, &wanted).map_err(|e| format!("{marker:?}: {e}"))?;
         }
+        self.tails.borrow_mut().check(course, bytes, &b, &wanted.events, with_a).map_err(|e| format!("tail: {e}"))?;
         // in the short course the order is the full one's, for the listing is
         if let (Course::Full, Some(order)) = (course, &wanted.order) {
             let back = wanted.events.iter().filter(|e| e.kind == Kind::C).count();
@@ -321,6 +324,11 @@ impl Papers {
              {volatile_uses} uses are of papers with volatile variables, {waiting} with {back} C and {waiting_uses} uses of papers with \
              waiting"
         )
+    }
+
+    /// Which tails were given.
+    pub fn tails(&self) -> String {
+        self.tails.borrow().said()
     }
 
     fn count(&self, uses: usize, order: &[u64], volatile: bool, back: usize) {

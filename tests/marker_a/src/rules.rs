@@ -104,15 +104,15 @@ fn latest_kind(es: &[Event], t: u32, target: u32, kinds: &[Kind]) -> Option<Kind
     latest(es, t, target, kinds).map(|i| es[i].kind)
 }
 
-fn declared_threads(counts: Counts) -> std::ops::Range<u32> {
+pub(crate) fn declared_threads(counts: Counts) -> std::ops::Range<u32> {
     0..counts.threads.min(MAX_THREADS)
 }
 
-fn declared_variables(counts: Counts) -> std::ops::Range<u32> {
+pub(crate) fn declared_variables(counts: Counts) -> std::ops::Range<u32> {
     0..counts.variables.min(MAX_VARIABLES)
 }
 
-fn declared_locks(counts: Counts) -> std::ops::Range<u32> {
+pub(crate) fn declared_locks(counts: Counts) -> std::ops::Range<u32> {
     0..counts.locks.min(MAX_LOCKS)
 }
 
@@ -400,7 +400,7 @@ fn rule_18(earlier: &[Event], _counts: Counts, e: &Event) -> bool {
 }
 
 /// The value that 18 compares with.
-fn expected(earlier: &[Event], e: &Event) -> Option<Value> {
+pub(crate) fn expected(earlier: &[Event], e: &Event) -> Option<Value> {
     let at = |position: Option<usize>| position.map(|i| earlier[i].value);
     match e.kind {
         U | S => copy(earlier, e.thread, e.target),

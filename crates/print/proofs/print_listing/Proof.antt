@@ -48,23 +48,17 @@ list-trace-requires c κs = search needs
 array-share-prefix-out : tie.Need-array-share-prefix-out
 array-share-prefix-out c = let a = c .before .before .before .before .args in whole (a .course) (now (a .s)) _ _ (c .before .list-trace .ensures) .1
 
-slice-aggregate-write-all : tie.Need-slice-aggregate-write-all
-slice-aggregate-write-all c = let a = c .before .before .before .before .before .args in sym (length-take-le _ _ (whole (a .course) (now (a .s)) _ _ (c .before .before .list-trace .ensures) .1))
+slice-aggregate-hand-on : tie.Need-slice-aggregate-hand-on
+slice-aggregate-hand-on c = let a = c .before .before .before .before .before .args in sym (length-take-le _ _ (whole (a .course) (now (a .s)) _ _ (c .before .before .list-trace .ensures) .1))
 
-write-all-requires : tie.Need-write-all-requires
-write-all-requires c κs = search needs
+slice-aggregate-hand-on-2 : tie.Need-slice-aggregate-hand-on-2
+slice-aggregate-hand-on-2 c = search needs
 
-slice-aggregate-write-all-2 : tie.Need-slice-aggregate-write-all-2
-slice-aggregate-write-all-2 c = search needs
-
-write-all-requires-2 : tie.Need-write-all-requires-2
-write-all-requires-2 c κs = search needs
+hand-on-requires : tie.Need-hand-on-requires
+hand-on-requires c κs = search needs
 
 returns : tie.Need-returns
-returns c = let a = c .before .before .before .before .before .before .before .before .before .args in whole (a .course) (now (a .s)) _ _ (c .before .before .before .before .before .before .list-trace .ensures) .0
-
-returns-2 : tie.Need-returns-2
-returns-2 c = let a = c .before .before .before .before .before .before .before .args in whole (a .course) (now (a .s)) _ _ (c .before .before .before .before .list-trace .ensures) .0
+returns c = let a = c .before .before .before .before .before .before .before .args in whole (a .course) (now (a .s)) _ _ (c .before .before .before .before .list-trace .ensures) .0
 
 pub print-listing-spec : {M : Type 1} → statement M
 print-listing-spec =
@@ -73,9 +67,7 @@ print-listing-spec =
     slice-aggregate-list-trace
     list-trace-requires
     array-share-prefix-out
-    slice-aggregate-write-all
-    write-all-requires
-    slice-aggregate-write-all-2
-    write-all-requires-2
-    returns
-    returns-2)
+    slice-aggregate-hand-on
+    slice-aggregate-hand-on-2
+    hand-on-requires
+    returns)

@@ -14,6 +14,8 @@ mod old_papers;
 mod ordering;
 mod short_course;
 mod short_lists;
+mod tail_lists;
+mod tails;
 mod traces;
 mod values;
 mod volatile_lists;

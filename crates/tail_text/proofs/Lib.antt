@@ -1,0 +1,2 @@
+pub mod RowTexts
+pub mod TailLaws

@@ -1,0 +1,9 @@
+pub mod Totals
+pub mod Parts
+pub mod Left
+pub mod Runs
+pub mod Settling
+pub mod Tails
+pub mod Room
+pub mod Longest
+pub mod Examples

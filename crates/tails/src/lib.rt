@@ -1,0 +1,1 @@
+// Tails that finish a paper: definitions in specs/, laws in proofs/; it has no code.
