@@ -1,4 +1,4 @@
-/* A whole trace marked into lent memory, and one step over a state that the caller keeps. Link target/staticlib/libc_api.a, which
+/* A whole trace marked into lent memory, the tail that finishes it, and one step over a state that the caller keeps. Link target/staticlib/libc_api.a, which
    `rt staticlib c_api` writes. Numbers are those of documents 01 and 02: a refusal's number, and a line of the trace.
 
    What every entry asks of its caller, which no contract checks:
@@ -8,8 +8,8 @@
      4. A length is a number of places, and the buffer has so many. No two of those handed in overlap.
    - during the call nothing else writes to any of them, and nothing else reads any but paper.
    - the calling thread has the stack that the entry needs. At most so many bytes were touched in the tests, on x86-64: by dabzhoni_mark and
-     dabzhoni_mark_short 116,088, by the two that give no order 112,840, by dabzhoni_step and dabzhoni_step_short 323,016, by dabzhoni_initial
-     11,512. Each of them was run on a stack of 512 KiB. */
+     dabzhoni_mark_short 115,528, by the two that give no order 112,840, by dabzhoni_finish and dabzhoni_finish_short 141,944, by dabzhoni_step
+     and dabzhoni_step_short 323,016, by dabzhoni_initial 11,512. Each of them was run on a stack of 512 KiB. */
 #ifndef DABZHONI_H
 #define DABZHONI_H
 
@@ -208,6 +208,33 @@ struct dabzhoni_marked dabzhoni_mark_short(const uint8_t *paper, size_t paper_le
 
 struct dabzhoni_marked dabzhoni_mark_short_unordered(const uint8_t *paper, size_t paper_len, uint32_t *what, size_t what_len,
                                                      int64_t *values, size_t values_len, uint8_t *out, size_t out_len);
+
+/* What is said of the tail of a trace. number and line are those of a refusal, both 0 where a tail is given; events is how many events it has,
+   which may be 0, and first the line that the first of them has in the paper, that of the trailer; both are 0 after a refusal. */
+struct dabzhoni_tail {
+  size_t number;
+  size_t line;
+  size_t events;
+  size_t first;
+};
+
+DABZHONI_ASSERT(offsetof(struct dabzhoni_tail, number) == 0, "layout of what is said of a tail");
+DABZHONI_ASSERT(offsetof(struct dabzhoni_tail, line) == 8, "layout of what is said of a tail");
+DABZHONI_ASSERT(offsetof(struct dabzhoni_tail, events) == 16, "layout of what is said of a tail");
+DABZHONI_ASSERT(offsetof(struct dabzhoni_tail, first) == 24, "layout of what is said of a tail");
+DABZHONI_ASSERT(sizeof(struct dabzhoni_tail) == 32, "layout of what is said of a tail");
+
+/* Gives a shortest tail of an accepted trace: events after which nothing is outstanding, fresh, owed or held.
+   what, values: two rows for its records, as those of a trace; event n, from 0, is at place n of both, and its line is first + n. All of the
+   tail is written or nothing; places past it stay as they were. A tail has at most 2,256 events.
+   A refused trace gives its own refusal. Then 24, line 0: a V line, a Y, F or C among the events, or fewer places in what or in values than the
+   tail has events. Refusal 7 is not asked. */
+struct dabzhoni_tail dabzhoni_finish(const uint8_t *paper, size_t paper_len, uint32_t *what, size_t what_len, int64_t *values,
+                                     size_t values_len);
+
+/* The same for a paper of the short course: what is over its limits is 25, and any other trace is answered as above. */
+struct dabzhoni_tail dabzhoni_finish_short(const uint8_t *paper, size_t paper_len, uint32_t *what, size_t what_len, int64_t *values,
+                                           size_t values_len);
 
 /* Makes the state before the first event, in both courses, in memory that is a state already, as zeros are. Counts out of range are kept, and
    each step, whatever its letter, is then refused by 8. No thread waits and no variable is volatile: for a trace with a V line the caller sets

@@ -163,7 +163,7 @@ for p in "$work"/*.paper; do
     $A --tail < "$p" > "$work/a"
     check tail "$(basename "$p" .paper)" "$work/a"
     entry finish "$p" "$work/tail"
-    $A --short < "$p" | grep ' 25$' > "$work/a" || cp "$work/tail" "$work/a"
+    $A --short < "$p" | grep -E '^refused [0-9]+ 25$' > "$work/a" || cp "$work/tail" "$work/a"
     entry finish_short "$p" "$work/a"
 done
 for name in 2000-events 2001-events last-event-refused long-listing volatile-events waiting-events waiting-at-the-end \

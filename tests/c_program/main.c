@@ -1,4 +1,4 @@
-/* A caller of the C interface: steps over a state that it keeps, and whole papers into memory that it lends; in both courses. */
+/* A caller of the C interface: steps over a state that it keeps, and whole papers and their tails into memory that it lends; in both courses. */
 #include "dabzhoni.h"
 
 #include <inttypes.h>
@@ -10,6 +10,7 @@ static int passed, failed;
 typedef struct dabzhoni_marked mark_entry(const uint8_t *, size_t, uint32_t *, size_t, int64_t *, size_t, uint8_t *, size_t, uint64_t *,
                                           size_t, uint64_t *, size_t);
 typedef struct dabzhoni_marked unordered_entry(const uint8_t *, size_t, uint32_t *, size_t, int64_t *, size_t, uint8_t *, size_t);
+typedef struct dabzhoni_tail finish_entry(const uint8_t *, size_t, uint32_t *, size_t, int64_t *, size_t);
 typedef struct dabzhoni_reply step_entry(struct dabzhoni_state *, uint8_t, size_t, size_t, int64_t);
 
 /* A course: its entries, its limits, and the refusal of more events. */
@@ -17,15 +18,17 @@ struct course {
   const char *name;
   mark_entry *mark;
   unordered_entry *mark_unordered;
+  finish_entry *finish;
   step_entry *step;
   size_t threads, variables, locks;
   uint32_t events;
   size_t over;
 };
 
-static const struct course FULL = {"full course", dabzhoni_mark, dabzhoni_mark_unordered, dabzhoni_step, 8, 16, 8, 2000, 9};
+static const struct course FULL = {
+    "full course", dabzhoni_mark, dabzhoni_mark_unordered, dabzhoni_finish, dabzhoni_step, 8, 16, 8, 2000, 9};
 static const struct course SHORT = {
-    "short course", dabzhoni_mark_short, dabzhoni_mark_short_unordered, dabzhoni_step_short, 2, 4, 2, 200, 25};
+    "short course", dabzhoni_mark_short, dabzhoni_mark_short_unordered, dabzhoni_finish_short, dabzhoni_step_short, 2, 4, 2, 200, 25};
 static const struct course *course;
 
 static void expect(const char *what, bool ok) {
@@ -768,6 +771,110 @@ static void about_two_hundred(void) {
               (struct paper){.name = "25 before 26", .memories = "refused 204 26\n", .number = 26, .line = 204, .over = 204});
 }
 
+/* ---- tails */
+
+/* The most events of a tail; each array has one place more. */
+enum { TAIL = 2256 };
+
+static uint32_t tail_what[TAIL + 1];
+static int64_t tail_values[TAIL + 1];
+
+/* A paper, and the lines of its tail, of which the first would be line `first` of the paper; or a refusal. In the short course it is refused
+   with 25 at line `over`, where that is given. */
+struct tail {
+  const char *name, *text, *lines;
+  size_t first, number, line, over;
+};
+
+static const struct tail TAILS[] = {
+    {.name = "a tail",
+     .text = "H 2 1 1\nG 0\nK 0 0\nA 0 0 5\nR 1 0 0\nZ 34\n",
+     .lines = "S 0 0 5\nW 0 0 5\nN 0 0\nL 1 0 0\n",
+     .first = 6},
+    {.name = "an assign that is made again",
+     .text = "H 1 2 1\nG -\nA 0 1 -9223372036854775808\nK 0 0\nZ 45\n",
+     .lines = "A 0 1 -9223372036854775808\nS 0 1 -9223372036854775808\nW 0 1 -9223372036854775808\nN 0 0\n",
+     .first = 5},
+    {.name = "an owed assign behind its write",
+     .text = "H 2 1 0\nG -\nP 1 0 7\nZ 20\n",
+     .lines = "W 1 0 7\nB 1 0 7\n",
+     .first = 4},
+    {.name = "an empty tail", .text = "H 1 1 1\nG 0\nA 0 0 5\nS 0 0 5\nW 0 0 5\nZ 36\n", .lines = "", .first = 6},
+    {.name = "the tail of no event", .text = "H 1 1 1\nG 0\nZ 12\n", .lines = "", .first = 3},
+    {.name = "25 before a tail", .text = "H 3 1 0\nG -\nR 2 0 0\nZ 20\n", .lines = "L 2 0 0\n", .first = 4, .over = 1},
+    {.name = "25 before 24", .text = "H 1 5 0\nG -\nV 4\nZ 16\n", .number = 24, .over = 1},
+    {.name = "a refused paper", .text = "H 2 1 1\nG 0\nK 0 0\nU 0 0 0\nZ 26\n", .number = 17, .line = 4},
+    {.name = "a paper refused whole", .text = "", .number = 2},
+    {.name = "24 for a V line", .text = "H 1 1 0\nG -\nV 0\nA 0 0 5\nZ 24\n", .number = 24},
+    {.name = "24 for a V line alone", .text = "H 1 1 0\nG -\nV 0\nZ 16\n", .number = 24},
+    {.name = "24 for a Y", .text = "H 1 1 1\nG 0\nK 0 0\nY 0 0\nZ 24\n", .number = 24},
+    {.name = "24 for F and C",
+     .text = "H 2 1 1\nG 0\nK 0 0\nY 0 0\nK 1 0\nF 1 0 0\nN 1 0\nC 0 0\nN 0 0\nZ 56\n",
+     .number = 24},
+    {.name = "its own refusal before 24", .text = "H 1 1 0\nG -\nV 0\nU 0 0 0\nZ 24\n", .number = 26, .line = 4},
+};
+
+/* How many lines a text has. */
+static size_t lines_in(const char *text) {
+  size_t n = 0;
+  for (; *text; text++) n += *text == 10;
+  return n;
+}
+
+/* The tail of a paper, with so many places lent: what is said of it, the records of these lines at the front of both rows, and nothing else. */
+static void finish(const char *name, const char *text, size_t whats, size_t places, struct dabzhoni_tail w, const char *lines) {
+  memset(tail_what, FILL, sizeof tail_what);
+  memset(tail_values, FILL, sizeof tail_values);
+  struct dabzhoni_tail t = course->finish((const uint8_t *)text, strlen(text), tail_what, whats, tail_values, places);
+  if (memcmp(&t, &w, sizeof t)) printf("%s: number %zu, line %zu, events %zu, first %zu\n", name, t.number, t.line, t.events, t.first);
+  expect(name, !memcmp(&t, &w, sizeof t));
+  bool ok = true;
+  for (size_t i = 0; i < w.events; i++) {
+    char letter;
+    unsigned thread, place;
+    int64_t value = 0;
+    sscanf(lines, "%c %u %u %" SCNd64, &letter, &thread, &place, &value);
+    ok = ok && tail_what[i] == (uint32_t)letter * 65536 + thread * 256 + place && tail_values[i] == value;
+    lines = strchr(lines, 10) + 1;
+  }
+  ok = ok && untouched(tail_what + w.events, tail_what + TAIL + 1) && untouched(tail_values + w.events, tail_values + TAIL + 1);
+  if (!ok) printf("%s, %zu and %zu places, ", name, whats, places);
+  expect("records of a tail", ok);
+}
+
+/* With places for every tail, for this one, for more in either row, and one too few in either. */
+static void finish_in(const struct tail *t) {
+  const struct dabzhoni_tail short_of_places = {.number = 24};
+  bool over = course == &SHORT && t->over;
+  size_t n = t->lines && !over ? lines_in(t->lines) : 0;
+  struct dabzhoni_tail w = {t->number, t->line, n, t->first};
+  if (over) w = (struct dabzhoni_tail){.number = 25, .line = t->over};
+  finish(t->name, t->text, TAIL, TAIL, w, t->lines);
+  finish(t->name, t->text, n, n, w, t->lines);
+  finish(t->name, t->text, n, TAIL, w, t->lines);
+  finish(t->name, t->text, TAIL, n, w, t->lines);
+  if (!n) return;
+  finish(t->name, t->text, n - 1, TAIL, short_of_places, "");
+  finish(t->name, t->text, TAIL, n - 1, short_of_places, "");
+  finish(t->name, t->text, n - 1, n - 1, short_of_places, "");
+}
+
+/* The longest tail: each thread assigns each variable, and then locks 234 times. */
+static void longest_tail(void) {
+  static char text[13000], lines[18000];
+  char *end = add(text, 1, "H 8 16 8\nG -"), *then = lines;
+  for (int t = 0; t < 8; t++)
+    for (int v = 0; v < 16; v++) end += sprintf(end, "A %d %d %d\n", t, v, t - v);
+  for (int i = 0; i < 1872; i++) end += sprintf(end, "K %d %d\n", i % 8, i % 8);
+  sprintf(end, "Z %d\n", (int)(end - text));
+  for (int t = 0; t < 8; t++) {
+    for (int v = 0; v < 16; v++)
+      for (const char *k = "ASW"; *k; k++) then += sprintf(then, "%c %d %d %d\n", *k, t, v, t - v);
+    for (int i = 0; i < 234; i++) then += sprintf(then, "N %d %d\n", t, t);
+  }
+  finish_in(&(struct tail){.name = "the longest tail", .text = text, .lines = lines, .first = 2003, .over = 1});
+}
+
 static void all(const struct course *c) {
   course = c;
   steps();
@@ -782,6 +889,8 @@ static void all(const struct course *c) {
   too_long();
   thousand_locks();
   about_two_hundred();
+  for (size_t i = 0; i < sizeof TAILS / sizeof *TAILS; i++) finish_in(&TAILS[i]);
+  longest_tail();
 }
 
 int main(void) {

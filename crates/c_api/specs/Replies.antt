@@ -1,4 +1,4 @@
--- What a program in C is told in plain numbers: of one step, and of a whole trace.
+-- What a program in C is told in plain numbers: of one step, of a whole trace, and of its tail.
 use Prim.Native.Nat.{ℕ}
 use mathlib.Core.Path.{_≡_}
 use mathlib.Core.Bool.{cond}
@@ -17,12 +17,16 @@ use Rattle.machine.specs.declared.Answer.{Answer}
 use Rattle.machine.specs.Stepped.{stepped}
 use Rattle.ordering.specs.declared.Ordering.{Ordering}
 use Rattle.ordering.specs.declared.Ordering.the-variants.{Ordered, Unordered, NoOrder}
+use Rattle.finishing.specs.declared.Tail.{Tail}
+use Rattle.finishing.specs.declared.Tail.the-variants.{Given, Refused}
+use Rattle.finishing.specs.Tail.{Gives}
 use Rattle.report.specs.declared.Report.{Report}
 use Rattle.report.specs.Report.{Fills, Briefs}
 use Rattle.c_api.specs.declared.Reply.{Reply}
 use Rattle.c_api.specs.declared.StepReply.{StepReply}
 use Rattle.c_api.specs.declared.OrderReply.{OrderReply}
 use Rattle.c_api.specs.declared.MarkReply.{MarkReply}
+use Rattle.c_api.specs.declared.TailReply.{TailReply}
 
 -- the number of a refusal and its line: both are 0 where nothing is refused
 unfoldable pub replyOf : Verdict → Reply
@@ -77,3 +81,16 @@ pub record BriefReplies (m : Limits) (s whats : List ℕ) (values : List ℤ) (o
   pub report : Report
   pub briefs : Briefs m s whats values out report whats′ values′ out′
   pub says : r ≡ markReply report
+
+-- ---- the tail of a trace
+
+-- how many events it has, and the line of the first; or number and line of the refusal
+abbrev pub tailReply : Tail → TailReply
+tailReply (Given n line) = record { number = 0; line = 0; events = n; first = line }
+tailReply (Refused number line) = record { number = number; line = line; events = 0; first = 0 }
+
+-- the numbers of the tail, and what the lent rows hold
+pub record TailReplies (m : Limits) (s whats : List ℕ) (values : List ℤ) (r : TailReply) (whats′ : List ℕ) (values′ : List ℤ) : Type 0 where
+  pub tail : Tail
+  pub gives : Gives m s whats values tail whats′ values′
+  pub says : r ≡ tailReply tail

@@ -1,9 +1,10 @@
-// What a program in C calls: a whole trace, marked into lent memory, and one step over a state that it keeps. Events and answers are
+// What a program in C calls: a whole trace, marked into lent memory, its tail, and one step over a state that it keeps. Events and answers are
 // plain numbers. include/dabzhoni.h declares these functions and the layout of the state.
 ghost use mathlib.Core.Path.{_≡_};
 ghost use Rattle.rules.specs.Limits.{full, short, limitsOf};
-ghost use Rattle.c_api.specs.Replies.{initialOf, replyOf, stepReply, orderReply, markReply, MarkReplies, BriefReplies};
+ghost use Rattle.c_api.specs.Replies.{initialOf, replyOf, stepReply, orderReply, markReply, MarkReplies, BriefReplies, tailReply, TailReplies};
 ghost use Rattle.c_api.specs.Computed.Stepping.{eventOf, replyTo};
+use finishing::Tail;
 use ordering::Ordering;
 use report::Report;
 use rules::Counts;
@@ -286,4 +287,57 @@ pub extern "C" fn dabzhoni_mark_short_unordered(
 {
     let r = report::mark_unordered(Course::Short, paper, what, values, out);
     mark_reply(r)
+}
+
+// ---- The tail of a trace.
+
+// What is said of a tail: the number of a refusal and its line, both 0 where a tail is given; then how many events it has and the line of the
+// first, both 0 after a refusal.
+#[repr(C)]
+pub struct TailReply {
+    pub number: usize,
+    pub line: usize,
+    pub events: usize,
+    pub first: usize,
+}
+
+pub fn tail_reply(t: Tail) -> TailReply
+    ensures { λ r. ⌜ r ≡ tailReply t ⌝ }
+{
+    match t {
+        Tail::Given(n, line) => TailReply {
+            number: 0,
+            line: 0,
+            events: n,
+            first: line,
+        },
+        Tail::Refused(number, line) => TailReply {
+            number: number as usize,
+            line: line,
+            events: 0,
+            first: 0,
+        },
+    }
+}
+
+// Puts the tail of a trace to the front of two rows, all of it or none.
+#[no_mangle]
+pub extern "C" fn dabzhoni_finish(paper: &[u8], what: &mut [u32], values: &mut [Value]) -> TailReply
+    ensures { λ r. ⌜ TailReplies full (now (paper .entry)) (now (what .entry)) (now (values .entry)) r (now (what .exit)) (now (values .exit)) ⌝ }
+{
+    let t = finishing::finish(Course::Full, paper, what, values);
+    tail_reply(t)
+}
+
+// The same in the short course.
+#[no_mangle]
+pub extern "C" fn dabzhoni_finish_short(
+    paper: &[u8],
+    what: &mut [u32],
+    values: &mut [Value],
+) -> TailReply
+    ensures { λ r. ⌜ TailReplies short (now (paper .entry)) (now (what .entry)) (now (values .entry)) r (now (what .exit)) (now (values .exit)) ⌝ }
+{
+    let t = finishing::finish(Course::Short, paper, what, values);
+    tail_reply(t)
 }

@@ -1,11 +1,9 @@
 -- Laws of a lent row of events that is filled place by place.
 use Prim.Native.Nat.{ℕ, zero, suc, _+_, _-_, _<_, _≤_, min}
 use native.Mathlib.Omega.{arith}
-use native.Mathlib.Decide.{ℕ-discrete}
-use mathlib.Core.Path.{_≡_, refl, sym, _∙_, ap, subst}
+use mathlib.Core.Path.{_≡_, refl, sym, _∙_, ap}
 use mathlib.Core.Bool.{Bool, true, false, cond}
 use mathlib.Core.List.{List, [], _∷_, _++_}
-use mathlib.Core.Option.{some}
 use lib.Dec.{T}
 use lib.IntN.{ℤ, pos}
 use lib.ListN.{length, getD, set}
@@ -16,13 +14,14 @@ use Rattle.rules.specs.Events.{isLetter}
 use Rattle.rules.specs.Limits.{full, lineAfter}
 use Rattle.rules.specs.Memories.{from}
 use Rattle.rules.specs.Reading.{readFrom}
-use Rattle.rules.proofs.From.{length-from}
+use Rattle.rules.proofs.From.{length-from, from-same}
 use Rattle.decimal.specs.Text.{over}
 use Rattle.decimal.proofs.TextLaws.{over-next, over-length}
 use Rattle.records.specs.Records.{letterIn, unpacked, recordAt, eventAt}
 use Rattle.records.proofs.RecordLaws.{event-some, event-none}
 use Rattle.event_rows.specs.EventRows.{fitting, filled}
 use Rattle.event_rows.specs.Computed.Lettered.{lettered}
+use Rattle.event_rows.specs.Computed.Lines.{eventOn, front}
 
 -- ---- how many records name a kind
 
@@ -35,17 +34,6 @@ module _ (ws : List ℕ) where
       go : (b : Bool) → lettered ws (suc i) n ≤ n → cond b (suc (lettered ws (suc i) n)) 0 ≤ suc n
       go true l = omega (arith, l)
       go false l = omega arith
-
-  -- those that are counted name a kind
-  pub lettered-at : (i n j : ℕ) → i ≤ j → j < i + lettered ws i n → isLetter (letterIn (getD ws j 0)) ≡ true
-  unfolding lettered
-  lettered-at i zero j a b = absurd (omega (arith, a, b))
-  lettered-at i (suc n) j a b = go (isLetter (letterIn (getD ws i 0))) refl (ℕ-discrete i j) (lettered-at (suc i) n j)
-    where
-      go : (c : Bool) → isLetter (letterIn (getD ws i 0)) ≡ c → Dec (i ≡ j) → (suc i ≤ j → j < suc i + lettered ws (suc i) n → isLetter (letterIn (getD ws j 0)) ≡ true) → isLetter (letterIn (getD ws j 0)) ≡ true
-      go true q (yes z) more = subst (λ (k : ℕ). isLetter (letterIn (getD ws k 0)) ≡ true) z q
-      go true q (no z) more = more (omega (arith, a, z)) (omega (arith, rw q at b))
-      go false q d more = absurd (omega (arith, a, rw q at b))
 
   -- of m records, those from place i on
   pub lettered-start : (m : ℕ) → lettered ws 0 m ≡ 0 + lettered ws 0 (m - 0)
@@ -74,35 +62,24 @@ from-next {X} f i (suc n) =
     let z : suc i + n ≡ i + suc n = omega arith in
     ap (λ (l : List X). f i ∷ l) (from-next f (suc i) n ∙ ap (λ (k : ℕ). from f (suc i) n ++ (f k ∷ [])) z)
 
-module _ (h : Counts) (ws : List ℕ) (xs : List ℤ) (ys : List Event) where
-  -- the row with its first i places written
-  abbrev pub front : ℕ → List Event
-  front i = over (from (eventAt h ws xs) 0 i) ys
-
-  pub front-none : front 0 ≡ ys
+module _ (line : ℕ) (ws : List ℕ) (xs : List ℤ) (ys : List Event) where
+  pub front-none : front line ws xs ys 0 ≡ ys
   unfolding from
   front-none = refl
 
   -- no place is added
-  pub front-length : (i : ℕ) → i ≤ length ys → length (front i) ≡ length ys
-  front-length i q = over-length (from (eventAt h ws xs) 0 i) ys (omega (arith, length-from (eventAt h ws xs) 0 i, q))
+  pub front-length : (i : ℕ) → i ≤ length ys → length (front line ws xs ys i) ≡ length ys
+  front-length i q = over-length (from (eventOn line ws xs) 0 i) ys (omega (arith, length-from (eventOn line ws xs) 0 i, q))
 
   -- the next place is written
-  -- the event of a record
-  pub event-is : (i : ℕ) (r : Event) → isLetter (letterIn (getD ws i 0)) ≡ true → recordAt h ws xs i ≡ some r → r ≡ eventAt h ws xs i
-  unfolding recordAt eventAt
-  event-is i r l e =
-      let x : some r ≡ some (unpacked (lineAfter h i) (getD ws i 0) (getD xs i (pos 0))) = sym e ∙ event-some (lineAfter h i) (getD ws i 0) (getD xs i (pos 0)) l in
-      let y : r ≡ unpacked (lineAfter h i) (getD ws i 0) (getD xs i (pos 0)) = cc in
-      y
-
-  pub front-next : (i : ℕ) (r : Event) → i < length ys → r ≡ eventAt h ws xs i → set (front i) i r ≡ front (suc i)
+  pub front-next : (i : ℕ) (r : Event) → i < length ys → r ≡ eventOn line ws xs i → set (front line ws xs ys i) i r ≡ front line ws xs ys (suc i)
   front-next i r q e =
-      let n : length (from (eventAt h ws xs) 0 i) ≡ i = length-from (eventAt h ws xs) 0 i in
+      let n : length (from (eventOn line ws xs) 0 i) ≡ i = length-from (eventOn line ws xs) 0 i in
       let z : i ≡ 0 + i = omega arith in
-      ap (λ (k : ℕ). set (front i) k r) (sym n) ∙ over-next (from (eventAt h ws xs) 0 i) ys r (omega (arith, n, q))
-      ∙ ap (λ (l : List Event). over l ys) (ap (λ (x : Event). from (eventAt h ws xs) 0 i ++ (x ∷ [])) (e ∙ ap (eventAt h ws xs) z) ∙ sym (from-next (eventAt h ws xs) 0 i))
+      ap (λ (k : ℕ). set (front line ws xs ys i) k r) (sym n) ∙ over-next (from (eventOn line ws xs) 0 i) ys r (omega (arith, n, q))
+      ∙ ap (λ (l : List Event). over l ys) (ap (λ (x : Event). from (eventOn line ws xs) 0 i ++ (x ∷ [])) (e ∙ ap (eventOn line ws xs) z) ∙ sym (from-next (eventOn line ws xs) 0 i))
 
+module _ (h : Counts) (ws : List ℕ) (xs : List ℤ) where
   -- the events of the records before the first that names no kind
   pub read-lettered : (i n : ℕ) → i + n ≤ 2000 → readFrom full i (from (recordAt h ws xs) i n) ≡ from (eventAt h ws xs) i (lettered ws i n)
   unfolding from readFrom lettered recordAt eventAt
@@ -116,11 +93,16 @@ module _ (h : Counts) (ws : List ℕ) (xs : List ℤ) (ys : List Event) where
           (ap (λ (es : List Event). unpacked (lineAfter h i) (getD ws i 0) (getD xs i (pos 0)) ∷ es) l)
       go false q l = rw (event-none (lineAfter h i) (getD ws i 0) (getD xs i (pos 0)) q, q) refl
 
-  pub front-filled : (n m : ℕ) → m ≡ lettered ws 0 (min (min n 2000) (min (length ys) (min (length ws) (length xs)))) → front m ≡ filled h ws xs n ys
+  -- the first record stands for the line of the first event
+  same-line : (i : ℕ) → eventOn (lineAfter h 0) ws xs i ≡ eventAt h ws xs i
+  unfolding eventAt
+  same-line i = let z : lineAfter h 0 + i ≡ lineAfter h i = omega arith in ap (λ (l : ℕ). unpacked l (getD ws i 0) (getD xs i (pos 0))) z
+
+  pub front-filled : (ys : List Event) (n m : ℕ) → m ≡ lettered ws 0 (min (min n 2000) (min (length ys) (min (length ws) (length xs)))) → front (lineAfter h 0) ws xs ys m ≡ filled h ws xs n ys
   unfolding filled fitting
-  front-filled n m e =
+  front-filled ys n m e =
       let k = min (min n 2000) (min (length ys) (min (length ws) (length xs))) in
-      ap front e ∙ ap (λ (l : List Event). over l ys) (sym (read-lettered 0 k (omega arith)))
+      ap (front (lineAfter h 0) ws xs ys) e ∙ ap (λ (l : List Event). over l ys) (from-same (eventOn (lineAfter h 0) ws xs) (eventAt h ws xs) 0 (lettered ws 0 k) (λ j p q. same-line j) ∙ sym (read-lettered 0 k (omega arith)))
 
 -- a test's value, from what it says
 pub holds : (t : Bool) → T t → t ≡ true

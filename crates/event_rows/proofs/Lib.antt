@@ -1,3 +1,4 @@
 pub mod FillLaws
 pub mod EventLaws
+pub mod TailLaws
 pub mod LocalRow

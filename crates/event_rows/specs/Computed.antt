@@ -1,2 +1,4 @@
 pub mod Kept
+pub mod KeptTail
 pub mod Lettered
+pub mod Lines

@@ -7,12 +7,16 @@ use lib.IntN.{ℤ}
 use lib.ListN.{length}
 use Rattle.rules.specs.declared.Event.{Event}
 use Rattle.rules.specs.declared.Counts.{Counts}
-use Rattle.rules.specs.Limits.{Limits, full}
+use Rattle.rules.specs.Limits.{Limits, full, lineAfter}
+use Rattle.rules.specs.Rules.{onMarked}
 use Rattle.rules.specs.Memories.{from}
 use Rattle.rules.specs.Reading.{readFrom}
 use Rattle.decimal.specs.Text.{over}
 use Rattle.records.specs.Records.{recordAt}
-use Rattle.marking.specs.Marking.{eventsIn}
+use Rattle.trace.specs.Trace.{traceOf}
+use Rattle.marking.specs.Marking.{eventsIn, pastOf}
+use Rattle.finishing.specs.declared.Tail.{Tail}
+use Rattle.finishing.specs.Tail.{tailOf, tailVerdict, answerOf}
 use Rattle.report.specs.declared.Report.{Report}
 use Rattle.report.specs.Report.{tooLittle, recordsAfter, Reports}
 
@@ -30,3 +34,8 @@ filled h ws xs n records = over (readFrom full 0 (from (recordAt h ws xs) 0 (fit
 pub record FillsEvents (m : Limits) (s : List ℕ) (records : List Event) (out list scratch : List ℕ) (r : Report) (records′ : List Event) (out′ list′ scratch′ : List ℕ) : Type 0 where
   pub reports : Reports m s (length records) out list scratch r out′ list′ scratch′
   pub fills : records′ ≡ cond (tooLittle m (length records) out list scratch) records (recordsAfter m s (eventsIn m s) records)
+
+-- The tail of a trace in a lent row of events: all of it or none, and before that nothing is written. Places past the tail stay untouched.
+pub record GivesEvents (m : Limits) (s : List ℕ) (records : List Event) (r : Tail) (records′ : List Event) : Type 0 where
+  pub answers : r ≡ answerOf (tailVerdict m s (length records)) (length (tailOf m s)) (lineAfter (traceOf m s .head) (length (pastOf m s)))
+  pub fills : records′ ≡ onMarked (tailVerdict m s (length records)) (over (tailOf m s) records) records

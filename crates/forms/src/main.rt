@@ -1,6 +1,7 @@
 // Runs the public functions that no other program and no test runs, and writes what they answer to standard output. What is lent is filled
 // with 35, 77 and an event of line 9, so that an untouched place shows.
 ghost use Prim.Native.Nat.{_≤_};
+use finishing::Tail;
 use libc::STDOUT_FILENO;
 use machine::Answer;
 use ordering::Ordering;
@@ -508,17 +509,21 @@ fn listed(e: Event) {
     show(&out, k);
 }
 
+fn all_listed(rows: [Event; 5]) {
+    listed(rows[0]);
+    listed(rows[1]);
+    listed(rows[2]);
+    listed(rows[3]);
+    listed(rows[4]);
+}
+
 fn fill(places: usize, what: &[u32], values: &[Value], n: usize)
     requires { ⌜ places ≤ 5 ⌝ }
 {
     let h = counts(1, 2, 1);
     let e = filler();
     let rows = filled([e; 5], places, h, what, values, n);
-    listed(rows[0]);
-    listed(rows[1]);
-    listed(rows[2]);
-    listed(rows[3]);
-    listed(rows[4]);
+    all_listed(rows);
 }
 
 // As many events as are asked for, as there are records, as are lent, as there are values, as are lent again; then up to a number that packs
@@ -714,6 +719,65 @@ fn traces(paper: &[u8]) {
     );
 }
 
+// ---- The tail of a trace into lent events.
+
+// What is said of a tail, and the row of its events.
+struct Finished {
+    tail: Tail,
+    rows: [Event; 5],
+}
+
+// The first places of the row are lent for one call, and the row is answered as it comes back.
+fn events_finished(course: Course, bytes: &[u8], mut rows: [Event; 5], places: usize) -> Finished
+    requires { ⌜ places ≤ 5 ⌝ }
+{
+    let t = event_rows::finish_events(course, bytes, &mut rows[..places]);
+    Finished {
+        tail: t,
+        rows: rows,
+    }
+}
+
+// Number, line, events, and the line of the first.
+fn told(t: Tail) {
+    match t {
+        Tail::Given(n, line) => {
+            let ns = [0, 0, n, line];
+            row(&ns);
+        }
+        Tail::Refused(number, line) => {
+            let ns = [number as usize, line, 0, 0];
+            row(&ns);
+        }
+    }
+}
+
+fn finish(course: Course, paper: &[u8], places: usize)
+    requires { ⌜ places ≤ 5 ⌝ }
+{
+    let e = filler();
+    let o = events_finished(course, paper, [e; 5], places);
+    let t = o.tail;
+    let rows = o.rows;
+    told(t);
+    all_listed(rows);
+}
+
+// A tail of four events, with one place more, all of them and one too few; none left to do; a trace that is refused; 24 of a volatile variable
+// and of a wait; a trace over the limits of the short course.
+fn tails() {
+    io::write_all(STDOUT_FILENO, b"a tail into events\n");
+    let open = b"H 2 1 1\nG 0\nK 0 0\nA 0 0 5\nR 1 0 0\nZ 34\n";
+    finish(Course::Full, open, 5);
+    finish(Course::Short, open, 4);
+    finish(Course::Full, open, 3);
+    finish(Course::Full, b"H 1 1 1\nG 0\nZ 12\n", 0);
+    finish(Course::Full, b"H 2 1 1\nG 0\nU 0 0 0\nZ 20\n", 5);
+    finish(Course::Full, b"H 1 1 0\nG -\nV 0\nA 0 0 5\nZ 24\n", 5);
+    finish(Course::Full, b"H 1 1 1\nG 0\nK 0 0\nY 0 0\nZ 24\n", 5);
+    finish(Course::Short, b"H 3 1 1\nG -\nZ 12\n", 5);
+}
+
 fn main() {
     let paper =
         b"H 2 1 1\nG 0\nK 0 0\nA 0 0 5\nS 0 0 5\nW 0 0 5\nN 0 0\nK 1 0\nR 1 0 5\nL 1 0 5\nU 1 0 5\nN 1 0\nZ 84\n";
@@ -737,4 +801,5 @@ fn main() {
     steps();
     fills();
     traces(paper);
+    tails();
 }
