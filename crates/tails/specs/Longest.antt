@@ -1,4 +1,4 @@
--- A paper with the longest tail. proofs/Longest.antt proves that it has 2,256 events.
+-- Events with the longest tail. proofs/Longest.antt proves that this tail has 2,256 events.
 use Prim.Native.Nat.{ℕ}
 use mathlib.Core.Path.{_≡_}
 use mathlib.Core.Bool.{true, false}
