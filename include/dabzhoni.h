@@ -1,15 +1,16 @@
-/* A whole trace marked into lent memory, the tail that finishes it, and one step over a state that the caller keeps. Link
-   target/staticlib/libc_api.a, which `rt staticlib c_api` writes. Numbers are those of documents 01 and 02: a refusal's number, and a line of
-   the trace.
+/* A whole trace marked into lent memory, the tail that finishes it, the counts of a session sheet, and one step over a state that the caller
+   keeps. Link target/staticlib/libc_api.a, which `rt staticlib c_api` writes. Numbers are those of documents 01 and 02: a refusal's number, and
+   a line of the trace.
    What every entry asks of its caller, which no contract checks:
    - every buffer and every state handed in is initialised memory, as zeros are, even where it is only written; each bool of a state is 0 or 1.
      Padding may be anything.
    - no pointer is null, that of an empty buffer included. Each is aligned to its type: a state, values, order and scratch to 8 bytes, what to
      4. A length is a number of places, and the buffer has so many. No two of those handed in overlap.
-   - during the call nothing else writes to any of them, and nothing else reads any but paper.
+   - during the call nothing else writes to any of them, and nothing else reads any but paper and sheet.
    - the calling thread has the stack that the entry needs. At most so many bytes were touched in the tests, on x86-64: by dabzhoni_mark and
-     dabzhoni_mark_short 115,528, by the two that give no order 112,840, by dabzhoni_finish and dabzhoni_finish_short 141,944, by dabzhoni_step
-     and dabzhoni_step_short 323,016, by dabzhoni_initial 11,512. Each of them was run on a stack of 512 KiB. */
+     dabzhoni_mark_short 115,528, by the two that give no order 112,840, by dabzhoni_finish and dabzhoni_finish_short 141,944, by dabzhoni_sheet
+     and dabzhoni_sheet_short 113,304, by dabzhoni_step and dabzhoni_step_short 323,016, by dabzhoni_initial 11,512. Each of them was run on a
+     stack of 512 KiB. */
 #ifndef DABZHONI_H
 #define DABZHONI_H
 
@@ -235,6 +236,35 @@ struct dabzhoni_tail dabzhoni_finish(const uint8_t *paper, size_t paper_len, uin
 /* The same for a paper of the short course: what is over its limits is 25, and any other trace is answered as above. */
 struct dabzhoni_tail dabzhoni_finish_short(const uint8_t *paper, size_t paper_len, uint32_t *what, size_t what_len, int64_t *values,
                                            size_t values_len);
+
+/* What is said of a session sheet. number and line are those of its refusal, both 0 where its papers are counted; papers is how many there are,
+   which may be 0, and accepted how many of them are accepted; both are 0 after a refusal. written is the length of the text. */
+struct dabzhoni_session {
+  size_t number;
+  size_t line;
+  size_t papers;
+  size_t accepted;
+  size_t written;
+};
+
+DABZHONI_ASSERT(offsetof(struct dabzhoni_session, number) == 0, "layout of what is said of a sheet");
+DABZHONI_ASSERT(offsetof(struct dabzhoni_session, line) == 8, "layout of what is said of a sheet");
+DABZHONI_ASSERT(offsetof(struct dabzhoni_session, papers) == 16, "layout of what is said of a sheet");
+DABZHONI_ASSERT(offsetof(struct dabzhoni_session, accepted) == 24, "layout of what is said of a sheet");
+DABZHONI_ASSERT(offsetof(struct dabzhoni_session, written) == 32, "layout of what is said of a sheet");
+DABZHONI_ASSERT(sizeof(struct dabzhoni_session) == 40, "layout of what is said of a sheet");
+
+/* Marks the papers of a session sheet, which are joined end to end and found from the last trailer backwards, and counts them.
+   sheet: the bytes.
+   out: the text goes to its front: `papers n`, `accepted n`, `refused number n` for each number that occurs, rising, and `share a/b`, in lowest
+   terms; bytes past it stay as they were. A paper whose order is denied is accepted.
+   Refusals, all at line 0: 7, before all, out under 32,768 bytes; nothing is touched then, and all but number is 0. 1, over 65,536 bytes.
+   31, what is left does not end in a trailer, or a trailer points before the first byte or not at an H. After 1 and 31 the text is the one line
+   `refused 0 number`. */
+struct dabzhoni_session dabzhoni_sheet(const uint8_t *sheet, size_t sheet_len, uint8_t *out, size_t out_len);
+
+/* The same for papers of the short course: what is over its limits is 25. */
+struct dabzhoni_session dabzhoni_sheet_short(const uint8_t *sheet, size_t sheet_len, uint8_t *out, size_t out_len);
 
 /* Makes the state before the first event, in both courses, in memory that is a state already, as zeros are. Counts out of range are kept, and
    each step, whatever its letter, is then refused by 8. No thread waits and no variable is volatile: for a trace with a V line the caller sets

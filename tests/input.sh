@@ -45,6 +45,15 @@ expect "$program, in pieces" '0|N 0 0|' pieces $program
 expect "$program, 65,536 bytes" '0|refused 0 2|' long $program 65536
 expect "$program, 65,537 bytes" '0|refused 0 1|' long $program 65537
 expect "$program, a full disk" '0||the tail cannot be written' full $program
+# two papers of a sheet
+paper=$'H 1 1 0\nG -\nZ 12\nH\nZ 2\n'
+program=target/bin/sheet
+expect "$program, a folder" '0||the paper cannot be read' folder $program
+expect "$program, no input" '0||the paper cannot be read' closed $program
+expect "$program, in pieces" $'0|papers 2\naccepted 1\nrefused 3 1\nshare 1/2|' pieces $program
+expect "$program, 65,536 bytes" '0|refused 0 31|' long $program 65536
+expect "$program, 65,537 bytes" '0|refused 0 1|' long $program 65537
+expect "$program, a full disk" '0||the sheet cannot be written' full $program
 expect 'a folder' "2||mark: 'examples' is not a file that can be read" ./mark examples
 expect 'no such file' "2||mark: 'nosuch' is not a file that can be read" ./mark nosuch
 refused='0|refused 6 16|'
@@ -58,5 +67,10 @@ expect 'the tail of a refused paper' "$refused" ./mark --tail examples/refused.t
 expect 'the tail of a paper with a V line' '0|refused 0 24|' tail_of $'H 1 1 0\nG -\nV 0\nZ 16\n'
 expect 'the tail of a paper that waits' '0|refused 0 24|' ./mark --tail examples/waiting.txt
 expect 'no tail in the short course' "2||$(./mark --help)" ./mark --short --tail
+expect 'a sheet' "0|$(cat crates/sheet/stdout)|" ./mark --sheet crates/sheet/stdin
+expect 'an empty sheet' $'0|papers 0\naccepted 0\nshare 0/1|' ./mark --sheet /dev/null
+expect 'a sheet of one refused paper' $'0|papers 1\naccepted 0\nrefused 16 1\nshare 0/1|' ./mark --sheet examples/refused.txt
+expect 'no sheet in the short course' "2||$(./mark --help)" ./mark --sheet --short
+expect 'no tail of a sheet' "2||$(./mark --help)" ./mark --tail --sheet
 echo "$passed passed, $failed failed"
 [ "$failed" -eq 0 ]

@@ -1,7 +1,7 @@
 #!/usr/bin/env bash
 # Every program and every C entry on a stack of 512 KB, or of another size: each must answer, and as marker A does.
 #   tests/stack.sh [KB]
-# The papers are long in each part that is read. Prints how much stack each needs. The last line is 'N passed, M failed'.
+# The papers and sheets are long in each part that is read. Prints how much stack each needs. The last line is 'N passed, M failed'.
 set -u
 export LC_ALL=C
 cd "$(dirname "$0")/.." || exit 2
@@ -19,7 +19,7 @@ tests/library &&
     cargo build --release --offline --quiet --manifest-path tests/marker_a/Cargo.toml ||
     { echo "tests/stack.sh: the static library, $stack or marker A is not built"; exit 2; }
 # a program that is not built fails below
-for program in mark mark_short tail; do
+for program in mark mark_short tail sheet; do
     [ -x target/bin/$program ] || rt check $program > target/mark.log 2>&1 || cat target/mark.log
 done
 
@@ -116,6 +116,24 @@ awk 'BEGIN {
 }' | closed | paper short-long-listing
 awk 'BEGIN { print "H 2 4 2\nG 0 0 0 0"; for (i = 0; i < 200; i++) print "K", i % 2, i % 2 }' | closed | paper short-locks-held-at-the-end
 
+# ---- the sheets, which are no papers
+
+sheet() { cat > "$work/$1.sheet"; }
+# repeated N TEXT: the text N times
+repeated() { local i; for ((i = 0; i < $1; i++)); do printf '%s' "$2"; done; }
+headless=$'H\nZ 2\n'
+accepted=$'H 1 1 0\nG -\nZ 12\n'
+repeated 10922 "$headless" | sheet most-papers
+repeated 3640 "$accepted" | sheet most-accepted
+{ repeated 2729 "$accepted"; repeated 2735 "$headless"; } | sheet accepted-and-refused
+{ printf '%s' "$headless"; times 65500 ' '; } | sheet spaces-behind
+{ printf '%s' "$headless"; times 65500 ' '; echo; } | sheet line-of-spaces-behind
+{ times 65500 ' '; printf '%s' "$headless"; } | sheet spaces-before
+{ repeated 10922 "$headless"; printf 'Z 2\n'; } | sheet 65536-bytes
+{ repeated 10922 "$headless"; printf 'Z  2\n'; } | sheet 65537-bytes
+# papers with events, accepted and refused
+{ repeated 1000 $'H 2 2 2\nG -\nP 0 0 5\nW 0 0 5\nB 0 0 5\nZ 36\n'; repeated 980 $'H 2 1 1\nG 0\nU 0 0 0\nZ 20\n'; } | sheet papers-with-events
+
 # ---- who answers what
 
 # check NAME PAPER WANTED: the command's answer stands in $work/got, its status in $status
@@ -166,6 +184,16 @@ for p in "$work"/*.paper; do
     $A --short < "$p" | grep -E '^refused [0-9]+ 25$' > "$work/a" || cp "$work/tail" "$work/a"
     entry finish_short "$p" "$work/a"
 done
+# every paper as a sheet, and every sheet
+for p in "$work"/*.paper "$work"/*.sheet; do
+    $A --sheet < "$p" > "$work/a"
+    on "$KB" target/bin/sheet < "$p" > "$work/got" 2> /dev/null
+    status=$?
+    check sheet "$(basename "$p" .paper)" "$work/a"
+    entry sheet "$p" "$work/a"
+    $A --sheet --short < "$p" > "$work/a"
+    entry sheet_short "$p" "$work/a"
+done
 for name in 2000-events 2001-events last-event-refused long-listing volatile-events waiting-events waiting-at-the-end \
     locks-held-at-the-end; do
     $A < "$work/$name.paper" | head -n 1 > "$work/a"
@@ -210,6 +238,8 @@ whole mark "$work/long-listing.paper" "$work/a"
 whole mark_short "$work/short-long-listing.paper" "$work/a-short"
 target/bin/tail < "$work/longest-tail.paper" > "$work/tail"
 whole tail "$work/longest-tail.paper" "$work/tail"
+$A --sheet < "$work/papers-with-events.sheet" > "$work/a"
+whole sheet "$work/papers-with-events.sheet" "$work/a"
 for program in forms papers; do
     whole $program "$(its_input $program)" crates/$program/stdout
 done

@@ -1,11 +1,13 @@
-/* Runs one entry of the C interface on a thread with a stack of SIZE KB, on the paper that it reads from standard input, and writes the answer:
+/* Runs one entry of the C interface on a thread with a stack of SIZE KB, on the paper or sheet that it reads from standard input, and writes the
+   answer:
      stack mark SIZE                   the listing
      stack mark_unordered SIZE
      stack step SIZE                   `accepted n` or `refused line number`: the paper's events one by one, each of the form of an event
      stack out_of_range SIZE           number and line of a step of each kind, and of no letter, from a state that refusal 8 refuses
      stack finish SIZE                 the lines of the tail, or `refused line number`
-     stack finish_short SIZE, stack mark_short SIZE, stack mark_short_unordered SIZE, stack step_short SIZE, stack out_of_range_short SIZE
-                                       the same in the short course
+     stack sheet SIZE                  the text of the sheet
+     stack finish_short SIZE, stack mark_short SIZE, stack mark_short_unordered SIZE, stack step_short SIZE, stack out_of_range_short SIZE,
+     stack sheet_short SIZE            the same in the short course
    and to standard error the entry's name and how many bytes of stack it touched, those of a thread that does nothing left aside. A guard
    page lies below the stack: an entry that needs more ends the program with signal 11. */
 #define _GNU_SOURCE
@@ -32,6 +34,7 @@ static struct dabzhoni_marked marked;
 static uint32_t tail_what[2256];
 static int64_t tail_values[2256];
 static struct dabzhoni_tail tail;
+static struct dabzhoni_session session;
 
 static struct dabzhoni_state state;
 static size_t threads, variables, locks;
@@ -72,6 +75,11 @@ static void print_tail(void) {
     if (w >> 16 != 'N') printf(" %" PRId64, tail_values[i]);
     printf("\n");
   }
+}
+
+static void *sheet(void *p) {
+  session = (short_course ? dabzhoni_sheet_short : dabzhoni_sheet)(paper, length, out, sizeof out);
+  return p;
 }
 
 static void *initial(void *p) {
@@ -150,6 +158,9 @@ int main(int count, char **args) {
   } else if (is(entry, "finish", "finish_short")) {
     need(entry, finish, size);
     print_tail();
+  } else if (is(entry, "sheet", "sheet_short")) {
+    need(entry, sheet, size);
+    fwrite(out, 1, session.written, stdout);
   } else if (is(entry, "step", "step_short")) {
     read_events();
     need("initial", initial, size);

@@ -1,4 +1,4 @@
--- What a program in C is told in plain numbers: of one step, of a whole trace, and of its tail.
+-- What a program in C is told in plain numbers: of one step, of a whole trace, of its tail, and of the sheet of a sitting.
 use Prim.Native.Nat.{ℕ}
 use mathlib.Core.Path.{_≡_}
 use mathlib.Core.Bool.{cond}
@@ -22,11 +22,14 @@ use Rattle.finishing.specs.declared.Tail.the-variants.{Given, Refused}
 use Rattle.finishing.specs.Tail.{Gives}
 use Rattle.report.specs.declared.Report.{Report}
 use Rattle.report.specs.Report.{Fills, Briefs}
+use Rattle.session.specs.declared.Session.{Session}
+use Rattle.session.specs.Session.{Sessions}
 use Rattle.c_api.specs.declared.Reply.{Reply}
 use Rattle.c_api.specs.declared.StepReply.{StepReply}
 use Rattle.c_api.specs.declared.OrderReply.{OrderReply}
 use Rattle.c_api.specs.declared.MarkReply.{MarkReply}
 use Rattle.c_api.specs.declared.TailReply.{TailReply}
+use Rattle.c_api.specs.declared.SheetReply.{SheetReply}
 
 -- the number of a refusal and its line: both are 0 where nothing is refused
 unfoldable pub replyOf : Verdict → Reply
@@ -94,3 +97,18 @@ pub record TailReplies (m : Limits) (s whats : List ℕ) (values : List ℤ) (r 
   pub tail : Tail
   pub gives : Gives m s whats values tail whats′ values′
   pub says : r ≡ tailReply tail
+
+-- ---- the sheet of a sitting
+
+abbrev pub withCounts : Session → Reply → SheetReply
+withCounts s v = record { number = v .number; line = v .line; papers = s .traces; accepted = s .accepted; written = s .written }
+
+-- number and line of the refusal of the sheet, how many papers it holds and how many are accepted, and the length of the text
+unfoldable pub sheetReply : Session → SheetReply
+sheetReply s = withCounts s (replyOf (s .verdict))
+
+-- the numbers of the sheet, and what the lent output holds
+pub record SheetReplies (m : Limits) (s out : List ℕ) (r : SheetReply) (out′ : List ℕ) : Type 0 where
+  pub session : Session
+  pub sessions : Sessions m s out session out′
+  pub says : r ≡ sheetReply session

@@ -1,8 +1,8 @@
-// What a program in C calls: a whole trace, marked into lent memory, its tail, and one step over a state that it keeps. Events and answers are
-// plain numbers. include/dabzhoni.h declares these functions and the layout of the state.
+// What a program in C calls: a whole trace, marked into lent memory, its tail, the sheet of a sitting, and one step over a state that it keeps.
+// Events and answers are plain numbers. include/dabzhoni.h declares these functions and the layout of the state.
 ghost use mathlib.Core.Path.{_≡_};
 ghost use Rattle.rules.specs.Limits.{full, short, limitsOf};
-ghost use Rattle.c_api.specs.Replies.{initialOf, replyOf, stepReply, orderReply, markReply, MarkReplies, BriefReplies, tailReply, TailReplies};
+ghost use Rattle.c_api.specs.Replies.{initialOf, replyOf, stepReply, orderReply, markReply, MarkReplies, BriefReplies, tailReply, TailReplies, sheetReply, SheetReplies};
 ghost use Rattle.c_api.specs.Computed.Stepping.{eventOf, replyTo};
 use finishing::Tail;
 use ordering::Ordering;
@@ -14,6 +14,7 @@ use rules::Kind;
 use rules::Named;
 use rules::Value;
 use rules::Verdict;
+use session::Session;
 use state::State;
 
 // The number of a refusal and its line; both are 0 where nothing is refused.
@@ -340,4 +341,49 @@ pub extern "C" fn dabzhoni_finish_short(
 {
     let t = finishing::finish(Course::Short, paper, what, values);
     tail_reply(t)
+}
+
+// ---- The sheet of a sitting.
+
+// What is said of a sheet: the number of a refusal and its line, both 0 where the papers are counted; how many papers there are and how many are
+// accepted, both 0 after a refusal; and the length of the text.
+#[repr(C)]
+pub struct SheetReply {
+    pub number: usize,
+    pub line: usize,
+    pub papers: usize,
+    pub accepted: usize,
+    pub written: usize,
+}
+
+pub fn sheet_reply(s: Session) -> SheetReply
+    ensures { λ r. ⌜ r ≡ sheetReply s ⌝ }
+{
+    let verdict = s.verdict;
+    let v = reply_of(verdict);
+    SheetReply {
+        number: v.number,
+        line: v.line,
+        papers: s.traces,
+        accepted: s.accepted,
+        written: s.written,
+    }
+}
+
+// Marks the papers of a sheet, and puts the counts to the front of the output.
+#[no_mangle]
+pub extern "C" fn dabzhoni_sheet(sheet: &[u8], out: &mut [u8]) -> SheetReply
+    ensures { λ r. ⌜ SheetReplies full (now (sheet .entry)) (now (out .entry)) r (now (out .exit)) ⌝ }
+{
+    let s = session::mark_sheet(Course::Full, sheet, out);
+    sheet_reply(s)
+}
+
+// The same in the short course.
+#[no_mangle]
+pub extern "C" fn dabzhoni_sheet_short(sheet: &[u8], out: &mut [u8]) -> SheetReply
+    ensures { λ r. ⌜ SheetReplies short (now (sheet .entry)) (now (out .entry)) r (now (out .exit)) ⌝ }
+{
+    let s = session::mark_sheet(Course::Short, sheet, out);
+    sheet_reply(s)
 }

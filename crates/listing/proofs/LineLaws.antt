@@ -8,11 +8,11 @@ use lib.IntN.{ℤ}
 use lib.ListN.{length, take, drop, length-append, length-drop}
 use lib.Seq.{drop-drop}
 use borrow.Rule.Slice.PartMut.{putMid}
-use Rattle.decimal.specs.Text.{wordRow, wordValue, ended, room, Wrote, andThen}
-use Rattle.decimal.proofs.TextLaws.{over-length, room-yes, room-fits, wrote-then, wrote-start, wrote-like}
+use Rattle.decimal.specs.Text.{naturalText, wordRow, wordValue, ended, room, Wrote, andThen}
+use Rattle.decimal.proofs.TextLaws.{text-short, over-length, room-yes, room-fits, wrote-then, wrote-start, wrote-like}
 use Rattle.decimal.proofs.RowLaws.{row-line-short, value-line-short}
 use Rattle.serial.specs.Lists.{All}
-use Rattle.listing.specs.Listing.{textOf, lineRoom, writeAll}
+use Rattle.listing.specs.Listing.{shareFront, shareLine, textOf, lineRoom, writeAll}
 
 -- ---- one line
 
@@ -25,6 +25,19 @@ row-fits w ns h k = omega (arith, row-line-short w ns)
 
 pub value-fits : (w ns : List ℕ) (x : ℤ) → length w ≤ 16 → length ns ≤ 2 → Fits (wordValue w ns x)
 value-fits w ns x h k = omega (arith, value-line-short w ns x)
+
+-- the parts of a share
+pub front-short : (a : ℕ) → length (shareFront a) ≤ 37
+front-short a = simp length-append (omega (arith, text-short a))
+
+pub end-short : (b : ℕ) → length (ended (47 ∷ naturalText b)) ≤ 33
+end-short b = simp length-append (omega (arith, text-short b))
+
+pub share-parts : (a b : ℕ) → shareFront a ++ ended (47 ∷ naturalText b) ≡ ended (shareLine a b)
+share-parts a b = sym (append-assoc (shareFront a) (47 ∷ naturalText b) (10 ∷ []))
+
+pub share-fits : (a b : ℕ) → Fits (shareLine a b)
+share-fits a b = omega (arith, front-short a, end-short b, length-append (shareFront a) (ended (47 ∷ naturalText b)), ap length (share-parts a b))
 
 -- ---- lines
 

@@ -73,7 +73,7 @@ text-both : (ls ms : List (List ℕ)) → length (textOf (ls ++ ms)) ≡ length 
 text-both ls ms = ap length (text-append ls ms) ∙ length-append (textOf ls) (textOf ms)
 
 -- lines of at most k bytes
-text-most : (k : ℕ) (ls : List (List ℕ)) → All (λ l. length (ended l) ≤ k) ls → length (textOf ls) ≤ k * length ls
+pub text-most : (k : ℕ) (ls : List (List ℕ)) → All (λ l. length (ended l) ≤ k) ls → length (textOf ls) ≤ k * length ls
 unfolding textOf
 text-most k [] f = omega arith
 text-most k (l ∷ ls) f = omega (arith, length-append (ended l) (textOf ls), f .0, text-most k ls (f .1), mul-suc k (length ls))
@@ -91,11 +91,11 @@ mains-count v (x ∷ xs) = ap suc (mains-count (suc v) xs)
 -- ---- what the memories hold
 
 -- what holds of all that f gives holds of the whole list
-each-all : {A : Type 0} (P : A → Type 0) (f : ℕ → List A) (n : ℕ) → ((i : ℕ) → i < n → All P (f i)) → All P (each f (below n))
+pub each-all : {A : Type 0} (P : A → Type 0) (f : ℕ → List A) (n : ℕ) → ((i : ℕ) → i < n → All P (f i)) → All P (each f (below n))
 each-all P f zero g = unfold below each in tt
 each-all P f (suc n) g = rw (each-suc f n) (both P (each f (below n)) (f n) (each-all P f n (λ i h. g i (omega arith))) (g n (omega arith)))
 
-each-most : {A : Type 0} (k : ℕ) (f : ℕ → List A) (n : ℕ) → ((i : ℕ) → i < n → length (f i) ≤ k) → length (each f (below n)) ≤ k * n
+pub each-most : {A : Type 0} (k : ℕ) (f : ℕ → List A) (n : ℕ) → ((i : ℕ) → i < n → length (f i) ≤ k) → length (each f (below n)) ≤ k * n
 each-most k f zero g = unfold below each in omega arith
 each-most k f (suc n) g =
     rw (each-suc f n) (omega (arith, length-append (each f (below n)) (f n), each-most k f n (λ i h. g i (omega arith)), g n (omega arith), mul-suc k n))

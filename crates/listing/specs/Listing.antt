@@ -1,4 +1,4 @@
--- Document 01, "One paper whole": the lines that are printed for a trace.
+-- Document 01, "One paper whole", and document 02 (j): the lines that are printed for a trace and for a sheet.
 use Prim.Native.Nat.{ℕ, suc}
 use mathlib.Core.Bool.{false, cond}
 use mathlib.Core.List.{List, [], _∷_, _++_, map}
@@ -10,13 +10,13 @@ use Rattle.rules.specs.declared.Main.{Main}
 use Rattle.rules.specs.declared.Memories.{Memories}
 use Rattle.rules.specs.Limits.{full, cellNumber, allowed}
 use Rattle.rules.specs.Memories.{Copy, below, each}
-use Rattle.decimal.specs.Text.{wordRow, wordValue, ended, room, andThen}
+use Rattle.decimal.specs.Text.{naturalText, wordRow, wordValue, ended, room, andThen}
 use Rattle.sections.specs.CriticalSections.{Entry}
 use Rattle.sections.specs.Entries.{entryIn}
 
 -- ---- lines, without their end
 
--- `accepted n`: events
+-- `accepted n`: events of a trace, accepted traces of a sheet
 abbrev pub acceptedLine : ℕ → List ℕ
 acceptedLine n = wordRow (97 ∷ 99 ∷ 99 ∷ 101 ∷ 112 ∷ 116 ∷ 101 ∷ 100 ∷ []) (n ∷ [])
 
@@ -32,13 +32,24 @@ copyLine c = wordValue (99 ∷ 111 ∷ 112 ∷ 121 ∷ []) (c .thread ∷ c .var
 abbrev pub sectionLine : Entry → List ℕ
 sectionLine e = wordRow (115 ∷ 101 ∷ 99 ∷ 116 ∷ 105 ∷ 111 ∷ 110 ∷ []) (e .thread ∷ e .first ∷ e .last ∷ [])
 
--- `refused line number`
+-- `refused line number`; of a sheet `refused k n`
 abbrev pub refusedLine : ℕ → ℕ → List ℕ
 refusedLine l n = wordRow (114 ∷ 101 ∷ 102 ∷ 117 ∷ 115 ∷ 101 ∷ 100 ∷ []) (l ∷ n ∷ [])
 
 -- `unordered line number`
 abbrev pub unorderedLine : ℕ → ℕ → List ℕ
 unorderedLine l n = wordRow (117 ∷ 110 ∷ 111 ∷ 114 ∷ 100 ∷ 101 ∷ 114 ∷ 101 ∷ 100 ∷ []) (l ∷ n ∷ [])
+
+-- `papers n`
+abbrev pub papersLine : ℕ → List ℕ
+papersLine n = wordRow (112 ∷ 97 ∷ 112 ∷ 101 ∷ 114 ∷ 115 ∷ []) (n ∷ [])
+
+-- `share a/b`
+abbrev pub shareFront : ℕ → List ℕ
+shareFront a = (115 ∷ 104 ∷ 97 ∷ 114 ∷ 101 ∷ []) ++ (32 ∷ naturalText a)
+
+abbrev pub shareLine : ℕ → ℕ → List ℕ
+shareLine a b = shareFront a ++ (47 ∷ naturalText b)
 
 -- ---- texts
 

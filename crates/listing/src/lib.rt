@@ -1,4 +1,4 @@
-// The lines that are printed for a trace. Each goes to the front of what remains of an output, and its writer answers its length.
+// The lines that are printed for a trace and for a sheet. Each goes to the front of what remains of an output, and its writer answers its length.
 // Where less room remains than a line may need, nothing of it is written.
 use rules::CELLS;
 use rules::Cached;
@@ -8,10 +8,11 @@ use rules::Main;
 use rules::Memories;
 use rules::VARIABLES;
 use rules::Value;
+ghost use mathlib.Core.List.{_∷_};
 ghost use Prim.Native.Nat.{_≤_, _<_};
 ghost use lib.ListN.{length};
 ghost use Rattle.rules.specs.Memories.{below, each};
-ghost use Rattle.decimal.specs.Text.{wordRow, wordValue, ended, room, Wrote};
+ghost use Rattle.decimal.specs.Text.{naturalText, wordRow, wordValue, ended, room, Wrote};
 ghost use Rattle.sections.specs.Entries.{entryIn};
 ghost use Rattle.listing.specs.Listing.{
   acceptedLine,
@@ -19,6 +20,9 @@ ghost use Rattle.listing.specs.Listing.{
   sectionLine,
   refusedLine,
   unorderedLine,
+  papersLine,
+  shareFront,
+  shareLine,
   lineRoom,
   writeAll,
   mainLines,
@@ -72,11 +76,50 @@ pub fn write_unordered(out: &mut [u8], line: usize, number: usize) -> usize
     row_line(out, b"unordered", &[line, number])
 }
 
-// The number of events.
-fn write_accepted(out: &mut [u8], n: usize) -> usize
+// The number of events of a trace, or of accepted traces of a sheet.
+pub fn write_accepted(out: &mut [u8], n: usize) -> usize
     ensures { λ r. ⌜ Wrote (room lineRoom (ended (acceptedLine n))) (now (out .entry)) r (now (out .exit)) ⌝ }
 {
     row_line(out, b"accepted", &[n])
+}
+
+// The number of traces of a sheet.
+pub fn write_papers(out: &mut [u8], n: usize) -> usize
+    ensures { λ r. ⌜ Wrote (room lineRoom (ended (papersLine n))) (now (out .entry)) r (now (out .exit)) ⌝ }
+{
+    row_line(out, b"papers", &[n])
+}
+
+// The word of a share, a space and a number.
+fn share_front(out: &mut [u8], a: usize) -> usize
+    requires { ⌜ 37 ≤ length (now out) ⌝ }
+    ensures { λ r. ⌜ Wrote (room 37 (shareFront a)) (now (out .entry)) r (now (out .exit)) ⌝ }
+{
+    let m = decimal::write_bytes(out, b"share");
+    let n = decimal::write_number(&mut out[m..], b' ', a);
+    m + n
+}
+
+// A slash and a number, and the end of the line.
+fn share_end(out: &mut [u8], b: usize) -> usize
+    requires { ⌜ 33 ≤ length (now out) ⌝ }
+    ensures { λ r. ⌜ Wrote (room 33 (ended (47 ∷ naturalText b))) (now (out .entry)) r (now (out .exit)) ⌝ }
+{
+    let m = decimal::write_number(out, b'/', b);
+    let n = decimal::write_byte(&mut out[m..], 10);
+    m + n
+}
+
+// The share of the accepted traces of a sheet.
+pub fn write_share(out: &mut [u8], a: usize, b: usize) -> usize
+    ensures { λ r. ⌜ Wrote (room lineRoom (ended (shareLine a b))) (now (out .entry)) r (now (out .exit)) ⌝ }
+{
+    if out.len() < LINE_ROOM {
+        return 0;
+    }
+    let m = share_front(out, a);
+    let n = share_end(&mut out[m..], b);
+    m + n
 }
 
 // A variable's value in main memory.

@@ -1,4 +1,5 @@
-// What the programs do: a trace is read from standard input, and its listing or its tail is written to standard output.
+// What the programs do: a trace or a session sheet is read from standard input, and its listing, its tail or its counts are written to standard
+// output.
 ghost use Prim.Native.Nat.{_≤_};
 ghost use mathlib.Core.Path.{_≡_};
 ghost use mathlib.Core.Bool.{cond};
@@ -6,6 +7,7 @@ ghost use lib.Dec.{ltb};
 ghost use lib.ListN.{length, take};
 ghost use Rattle.rules.specs.Limits.{full, limitsOf};
 ghost use Rattle.decimal.specs.Text.{over};
+ghost use Rattle.session.specs.Session.{sheetText};
 ghost use Rattle.report.specs.Report.{listingOf};
 ghost use Rattle.tail_text.specs.TailText.{tailText};
 use libc::STDERR_FILENO;
@@ -19,7 +21,7 @@ use rules::SCRATCH;
 use rules::Value;
 use tail_text::TAIL_TEXT;
 
-// One byte more than a trace may have tells that there are more.
+// One byte more than a trace or a sheet may have tells that there are more.
 pub const INPUT: usize = 65537;
 
 // What was read of the standard input: so many bytes, and whether they are all of it or all that there is room for.
@@ -94,5 +96,16 @@ pub fn print_tail(course: Course, s: &[u8]) -> usize
     let mut out = [0u8; TAIL_TEXT];
     let n = tail_text::list_tail(course, s, &mut out);
     hand_on(&out[..n], b"the tail cannot be written\n");
+    n
+}
+
+// Hands the text of a session sheet, whose traces are marked by a course, to standard output; its length.
+pub fn print_sheet(course: Course, s: &[u8]) -> usize
+    ensures { λ r. ⌜ r ≡ length (sheetText (limitsOf course) (now (s .entry))) ⌝ }
+{
+    let mut out = [0u8; OUTPUT];
+    let r = session::mark_sheet(course, s, &mut out);
+    let n = r.written;
+    hand_on(&out[..n], b"the sheet cannot be written\n");
     n
 }

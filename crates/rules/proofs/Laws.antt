@@ -197,7 +197,7 @@ letter-kept n ks c w e p r h = row-kept n c w e p (each-among (inRow n) ks (lett
 abbrev pub letters : List ℕ
 letters = U ∷ A ∷ L ∷ S ∷ R ∷ W ∷ K ∷ N ∷ P ∷ B ∷ Y ∷ F ∷ C ∷ []
 
-lettered : (k : Kind) → T (among letters (letter k))
+pub lettered : (k : Kind) → T (among letters (letter k))
 lettered (Use v x) = tt
 lettered (Assign v x) = tt
 lettered (Load v x) = tt

@@ -29,13 +29,13 @@ use Rattle.trace.specs.declared.GuardLine.{GuardLine}
 use Rattle.trace.specs.declared.VolatileLine.{VolatileLine}
 use Rattle.trace.specs.declared.Guards.{Guards}
 use Rattle.trace.specs.declared.Trace.{Trace}
-use Rattle.trace.specs.Trace.{tooLong, wrongHead, overLimits, wrongGuards, wrongVolatiles, checkAt, lastLine, trailerNumber, trailerOf, noHead, checkCounts, checkHead, headOf, badLine, lockLine, lockOf, locksFrom, guardsOf, volatilesOf, unfound, withGuards, secondOf, behindHead, firstHead, firstOf, behindTrailer, plainTraceOf, eventsOf, beginsWithV, withVolatiles, thirdOf, traceOf, meantVolatile, found}
+use Rattle.trace.specs.Trace.{tooLong, wrongHead, overLimits, wrongGuards, wrongVolatiles, checkAt, lastLine, lastNumber, lastOf, trailerOf, noHead, checkCounts, checkHead, headOf, badLine, lockLine, lockOf, locksFrom, guardsOf, volatilesOf, unfound, withGuards, secondOf, behindHead, firstHead, firstOf, behindTrailer, plainTraceOf, eventsOf, beginsWithV, withVolatiles, thirdOf, traceOf, meantVolatile, found}
 use Rattle.trace.proofs.VolatileLaws.{volatiles-flags, volatiles-named, any-some, any-none, none-volatile, allowed-with}
 
-pub trailer-none : (s : List ℕ) → length s ≡ 0 → trailer.Wrong ≡ trailerOf s
-unfolding trailerOf
-trailer-none [] h = refl
-trailer-none (x ∷ xs) h = absurd (omega arith)
+pub last-none : (s : List ℕ) → length s ≡ 0 → record { at = 0; number = natural.Bad } ≡ lastOf s
+unfolding lastLine lastNumber upTo
+last-none [] h = refl
+last-none (x ∷ xs) h = absurd (omega arith)
 
 pub last-le : (s : List ℕ) → lastLine s ≤ length s - 1
 unfolding lastLine
@@ -116,15 +116,7 @@ check-place at e (natural.Of n) h = by (eqb n at) h
 
 pub trailer-at : (s : List ℕ) (e : ℕ) → trailerOf s ≡ trailer.At e → e ≡ lastLine s
 unfolding trailerOf
-trailer-at s e h =
-    by (eqb (getD s (length s - 1) 0) 10) (checkAt (lastLine s) n) h (check-place (lastLine s) e n)
-  where
-    n : Natural
-    n = trailerNumber (splitOn 32 (take (length s - 1 - lastLine s) (drop (lastLine s) s)))
-
-    by : (q : Bool) (t : Trailer) → cond q t trailer.Wrong ≡ trailer.At e → (t ≡ trailer.At e → e ≡ lastLine s) → e ≡ lastLine s
-    by true t h k = k h
-    by false t h k = absurd (let z : _≡_ {A = ℕ} 0 1 = cc in omega arith)
+trailer-at s e h = check-place (lastLine s) e (lastNumber s) h
 
 pub trailer-le : (s : List ℕ) (e : ℕ) → trailerOf s ≡ trailer.At e → e ≤ length s
 trailer-le s e h = omega (arith, trailer-at s e h, last-le s)
@@ -246,7 +238,8 @@ module _ (m : Limits) where
 
 module _ (m : Limits) (s : List ℕ) where
   pub data Finding (b : Bool) : Trace → Type 0 where
-    denied : (n line : ℕ) → T (among (1 ∷ 2 ∷ 3 ∷ 6 ∷ []) n) → Finding b (unfound (said (refused n line)))
+    denied : (n line : ℕ) → T (among (1 ∷ 2 ∷ 3 ∷ 6 ∷ []) n) → ((e : ℕ) → trailerOf s ≡ trailer.At e → length s ≤ m .bytes → T (among (3 ∷ 6 ∷ []) n))
+        → Finding b (unfound (said (refused n line)))
     over : (h : Counts) → allowed full h ≡ true → allowed m h ≡ false → Finding b (unfound (overLimits m))
     given : (h : Counts) (g : Guards) (a e : ℕ) → Head m b h → a ≤ e → trailerOf s ≡ trailer.At e → length s ≤ m .bytes
         → Finding b (record { verdict = said accepted; head = h; guards = g; from = a; to = e })
@@ -259,10 +252,10 @@ module _ (m : Limits) (s : List ℕ) where
         on : (a : ℕ) (g : GuardLine) (o : Bool) → a ≤ e
             → Finding false (cond o (record { verdict = said accepted; head = h; guards = record { given = g .given; locks = g .locks }; from = a; to = e }) (unfound wrongGuards))
         on a g true q = given h (record { given = g .given; locks = g .locks }) a e f q k few
-        on a g false q = denied 6 2 tt
+        on a g false q = denied 6 2 tt (λ e k f. tt)
 
         by : (q : Bool) → ltb (before 10 u) (length u) ≡ q → (g : GuardLine) → Finding false (cond q (withGuards (at + before 10 u + 1) e h g) (unfound wrongGuards))
-        by false r g = denied 6 2 tt
+        by false r g = denied 6 2 tt (λ e k f. tt)
         by true r g = on (at + before 10 u + 1) g (g .ok) (omega (arith, l, ltb-true (before 10 u) (length u) r))
 
     finding-first : (u : List ℕ) → length u ≡ e → Finding false (firstOf m u e)
@@ -273,14 +266,14 @@ module _ (m : Limits) (s : List ℕ) where
             → Finding false (cond o (cond p (secondOf (drop (before 10 u + 1) u) (before 10 u + 1) e h) (unfound (overLimits m))) (unfound wrongHead))
         on h true true f v q i = finding-second (drop (before 10 u + 1) u) (before 10 u + 1) h (plain-head m h v (f refl) q) (omega (arith, l, length-drop (before 10 u + 1) u))
         on h true false f v q i = over h (f refl) q
-        on h false p f v q i = denied 3 1 tt
+        on h false p f v q i = denied 3 1 tt (λ e k f. tt)
 
         by : (q : Bool) → ltb (before 10 u) (length u) ≡ q → (r : Headed) → r ≡ firstHead u → (r .ok ≡ true → allowed full (r .head) ≡ true) → r .head .volatiles ≡ noVolatiles
             → Finding false (behindHead m u (before 10 u) e r)
         by true z r k f v = on (r .head) (r .ok) (allowed m (r .head)) f v refl (ltb-true (before 10 u) (length u) z)
         by false z r k f v =
             let none : firstHead u ≡ noHead = (unfold firstHead in rw z refl) in
-            subst (λ (x : Headed). Finding false (behindHead m u (before 10 u) e x)) (sym (k ∙ none)) (denied 3 1 tt)
+            subst (λ (x : Headed). Finding false (behindHead m u (before 10 u) e x)) (sym (k ∙ none)) (denied 3 1 tt (λ e k f. tt))
 
   -- lines 1 and 2
   pub finding-plain : Finding false (plainTraceOf m s)
@@ -288,8 +281,8 @@ module _ (m : Limits) (s : List ℕ) where
   finding-plain = by (ltb (m .bytes) (length s)) refl (trailerOf s) refl
     where
       by : (q : Bool) → ltb (m .bytes) (length s) ≡ q → (t : Trailer) → trailerOf s ≡ t → Finding false (cond q (unfound tooLong) (behindTrailer m s t))
-      by true l t r = denied 1 0 tt
-      by false l trailer.Wrong r = denied 2 0 tt
+      by true l t r = denied 1 0 tt (λ e k f. absurd (omega (arith, f, ltb-true (m .bytes) (length s) l)))
+      by false l trailer.Wrong r = denied 2 0 tt (λ e k f. absurd (let z : _≡_ {A = ℕ} 0 1 = cc in omega arith))
       by false l (trailer.At e) r = finding-first e r (ltb-false (m .bytes) (length s) l) (take e s) (length-take-le e s (trailer-le s e r))
 
   -- line 3
@@ -309,7 +302,7 @@ module _ (m : Limits) (s : List ℕ) where
 
       on : (o : Bool) → r .ok ≡ o → a + n ≤ e → Finding true (cond o (record { verdict = said accepted; head = withFlags h (r .volatiles); guards = g; from = a + n; to = e }) (unfound wrongVolatiles))
       on true z w = given (withFlags h (r .volatiles)) g (a + n) e (volatile-head m h fs f z) w k few
-      on false z w = denied 6 3 tt
+      on false z w = denied 6 3 tt (λ e k f. tt)
 
       by : (b : Bool) → beginsWithV u ≡ b
           → Finding b (cond b (withVolatiles n (record { verdict = said accepted; head = h; guards = g; from = a; to = e }) r) (record { verdict = said accepted; head = h; guards = g; from = a; to = e }))
@@ -321,7 +314,7 @@ module _ (m : Limits) (s : List ℕ) where
   finding = by (m .volatiles) finding-plain
     where
       on : {t : Trace} → Finding false t → Finding (beginsWithV (eventsOf s t)) (thirdOf (eventsOf s t) t)
-      on (denied n line o) = denied n line o
+      on (denied n line o f) = denied n line o f
       on (over h f q) = over h f q
       on (given h g a e f l k few) = finding-third h g a e (take (e - a) (drop a s)) f l k few refl
 
@@ -334,7 +327,7 @@ pub found-allowed : (m : Limits) (s : List ℕ) → found (traceOf m s) ≡ acce
 found-allowed m s = by (finding m s)
   where
     by : {b : Bool} {t : Trace} → Finding m s b t → found t ≡ accepted → allowed m (t .head) ≡ true
-    by (denied n line o) q = absurd (let z : _≡_ {A = ℕ} 0 1 = cc in omega arith)
+    by (denied n line o f) q = absurd (let z : _≡_ {A = ℕ} 0 1 = cc in omega arith)
     by (over h f k) q = absurd (let z : _≡_ {A = ℕ} 0 1 = cc in omega arith)
     by (given h g a e f l k few) q = f .fit
 
@@ -344,16 +337,26 @@ pub found-number : (m : Limits) (s : List ℕ) (n line : ℕ) → found (traceOf
 found-number m s n line = by (finding m s)
   where
     by : {b : Bool} {t : Trace} → Finding m s b t → found t ≡ refused n line → T (among (1 ∷ 2 ∷ 3 ∷ 6 ∷ []) n) ⊎ ((h : Counts) × (allowed full h ≡ true) × (allowed m h ≡ false) × (n ≡ m .excess) × (line ≡ 1))
-    by (denied k l o) q = inl (subst (λ (i : ℕ). T (among (1 ∷ 2 ∷ 3 ∷ 6 ∷ []) i)) (ap numberIn q) o)
+    by (denied k l o f) q = inl (subst (λ (i : ℕ). T (among (1 ∷ 2 ∷ 3 ∷ 6 ∷ []) i)) (ap numberIn q) o)
     by (over h f k) q = inr (h, f, k, sym (ap numberIn q), sym (ap lineIn q))
     by (given h g a e f l k few) q = absurd (let z : _≡_ {A = ℕ} 0 1 = cc in omega arith)
+
+-- with 3 or 6, or for such counts, where it has no more bytes than m allows and its trailer is right
+pub trailed-number : (m : Limits) (s : List ℕ) (n line e : ℕ) → trailerOf s ≡ trailer.At e → length s ≤ m .bytes → found (traceOf m s) ≡ refused n line
+    → T (among (3 ∷ 6 ∷ []) n) ⊎ (n ≡ m .excess)
+trailed-number m s n line e k few = by (finding m s)
+  where
+    by : {b : Bool} {t : Trace} → Finding m s b t → found t ≡ refused n line → T (among (3 ∷ 6 ∷ []) n) ⊎ (n ≡ m .excess)
+    by (denied i l o f) q = inl (subst (λ (j : ℕ). T (among (3 ∷ 6 ∷ []) j)) (ap numberIn q) (f e k few))
+    by (over h f i) q = inr (sym (ap numberIn q))
+    by (given h g a e f l i few) q = absurd (let z : _≡_ {A = ℕ} 0 1 = cc in omega arith)
 
 -- of a trace that is refused nothing is kept
 pub not-found : (m : Limits) (s : List ℕ) (n line : ℕ) → found (traceOf m s) ≡ refused n line → traceOf m s ≡ unfound (said (refused n line))
 not-found m s n line = by (finding m s)
   where
     by : {b : Bool} {t : Trace} → Finding m s b t → found t ≡ refused n line → t ≡ unfound (said (refused n line))
-    by (denied k l o) q = ap (λ (v : Marked). unfound (said v)) q
+    by (denied k l o f) q = ap (λ (v : Marked). unfound (said v)) q
     by (over h f k) q = ap (λ (v : Marked). unfound (said v)) q
     by (given h g a e f l k few) q = absurd (let z : _≡_ {A = ℕ} 0 1 = cc in omega arith)
 
@@ -365,7 +368,7 @@ pub record Lies (t : Trace) (w : List ℕ) : Type 0 where
 
 module _ (m : Limits) (s : List ℕ) where
   lies-found : {b : Bool} {t : Trace} → Finding m s b t → Lies t s
-  lies-found (denied n line o) = record { start = omega arith; end = omega arith; ended = unfold upTo in refl }
+  lies-found (denied n line o f) = record { start = omega arith; end = omega arith; ended = unfold upTo in refl }
   lies-found (over h f k) = record { start = omega arith; end = omega arith; ended = unfold upTo in refl }
   lies-found (given h g a e f l k few) = record { start = l; end = trailer-le s e k; ended = trailer-ended s e k }
 
@@ -380,7 +383,7 @@ module _ (m : Limits) (s : List ℕ) where
   plain-fits = by (finding-plain m s)
     where
       by : {t : Trace} → Finding m s false t → (t .to ≤ m .bytes) × (t .head .variables ≤ full .variables)
-      by (denied n line o) = (omega arith, omega arith)
+      by (denied n line o f) = (omega arith, omega arith)
       by (over h f k) = (omega arith, omega arith)
       by (given h g a e f l k few) = (omega (arith, trailer-le s e k), f .few)
 
@@ -410,7 +413,7 @@ module _ (m : Limits) (s : List ℕ) where
       by false = refl
 
   flags-found : {b : Bool} {t : Trace} → Finding m s b t → length (t .head .volatiles) ≡ full .variables
-  flags-found (denied n line o) = refl
+  flags-found (denied n line o f) = refl
   flags-found (over h f k) = refl
   flags-found (given h g a e f l k few) = f .size
 
@@ -423,7 +426,7 @@ module _ (m : Limits) (s : List ℕ) where
   found-volatile = by (finding m s)
     where
       by : {b : Bool} {t : Trace} → Finding m s b t → found t ≡ accepted → anyVolatile (t .head) ≡ b
-      by (denied n line o) q = absurd (let z : _≡_ {A = ℕ} 0 1 = cc in omega arith)
+      by (denied n line o f) q = absurd (let z : _≡_ {A = ℕ} 0 1 = cc in omega arith)
       by (over h f k) q = absurd (let z : _≡_ {A = ℕ} 0 1 = cc in omega arith)
       by (given h g a e f l k few) q = f .any
 
@@ -437,7 +440,7 @@ module _ (m : Limits) (s : List ℕ) where
   plain-any = by (finding-plain m s)
     where
       by : {t : Trace} → Finding m s false t → anyVolatile (t .head) ≡ false
-      by (denied n line o) = any-none _ refl
+      by (denied n line o f) = any-none _ refl
       by (over h f k) = any-none _ refl
       by (given h g a e f l k few) = f .any
 

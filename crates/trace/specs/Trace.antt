@@ -12,6 +12,7 @@ use Rattle.lines.specs.Lines.{before, upTo, splitOn, letter}
 use Rattle.decimal.specs.declared.Natural.{Natural}
 use Rattle.decimal.specs.declared.Natural.the-variants as natural
 use Rattle.decimal.specs.Decimal.{naturalOf}
+use Rattle.trace.specs.declared.LastLine.{LastLine}
 use Rattle.trace.specs.declared.Trailer.{Trailer}
 use Rattle.trace.specs.declared.Trailer.the-variants as trailer
 use Rattle.trace.specs.declared.Headed.{Headed}
@@ -62,12 +63,19 @@ checkAt at (natural.Of n) = cond (eqb n at) (trailer.At at) trailer.Wrong
 unfoldable pub lastLine : List ℕ → ℕ
 lastLine s = upTo 10 (take (length s - 1) s)
 
--- each line is ended by byte 10
-unfoldable pub trailerOf : List ℕ → Trailer
-trailerOf s =
+-- the number of the last line where it is a trailer; each line is ended by byte 10
+unfoldable pub lastNumber : List ℕ → Natural
+lastNumber s =
     cond (eqb (getD s (length s - 1) 0) 10)
-    (checkAt (lastLine s) (trailerNumber (splitOn 32 (take (length s - 1 - lastLine s) (drop (lastLine s) s)))))
-    trailer.Wrong
+    (trailerNumber (splitOn 32 (take (length s - 1 - lastLine s) (drop (lastLine s) s))))
+    natural.Bad
+
+-- where the last line starts, and its number
+abbrev pub lastOf : List ℕ → LastLine
+lastOf s = record { at = lastLine s; number = lastNumber s }
+
+unfoldable pub trailerOf : List ℕ → Trailer
+trailerOf s = checkAt (lastLine s) (lastNumber s)
 
 -- ---- the head
 

@@ -11,7 +11,7 @@ ghost use Rattle.lines.specs.Lines.{splitOn};
 ghost use Rattle.decimal.specs.Decimal.{naturalOf};
 ghost use Rattle.rules.specs.Limits.{full, limitsOf, noVolatiles};
 ghost use Rattle.rules.specs.Rules.{refused, said};
-ghost use Rattle.trace.specs.Trace.{trailerNumber, checkAt, trailerOf, noHead, checkHead, headOf, badLine, noLocks, lockOf, locksFrom, isDash, guardsOf, badVolatiles, risingOf, volatilesFrom, volatilesOf, unfound, withGuards, secondOf, firstOf, plainTraceOf, eventsOf, beginsWithV, withVolatiles, thirdOf, traceOf};
+ghost use Rattle.trace.specs.Trace.{trailerNumber, checkAt, lastOf, trailerOf, noHead, checkHead, headOf, badLine, noLocks, lockOf, locksFrom, isDash, guardsOf, badVolatiles, risingOf, volatilesFrom, volatilesOf, unfound, withGuards, secondOf, firstOf, plainTraceOf, eventsOf, beginsWithV, withVolatiles, thirdOf, traceOf};
 
 // The guards of a trace: whether line 2 names locks, and then the lock of each variable, 0 past the last.
 pub struct Guards {
@@ -26,6 +26,12 @@ pub struct Trace {
     pub guards: Guards,
     pub from: usize,
     pub to: usize,
+}
+
+// The last line: where it starts, and the number of a trailer where it is one.
+pub struct LastLine {
+    pub at: usize,
+    pub number: Natural,
 }
 
 // The trailer: wrong, or where it starts.
@@ -80,20 +86,35 @@ fn check_at(at: usize, n: Natural) -> Trailer
     }
 }
 
+// The last line of the bytes.
+pub fn last_line(s: &[u8]) -> LastLine
+    ensures { λ r. ⌜ r ≡ lastOf (now (s .entry)) ⌝ }
+{
+    if s.len() == 0 {
+        return LastLine {
+            at: 0,
+            number: Natural::Bad,
+        };
+    }
+    let last = s.len() - 1;
+    let at = lines::last_end(&s[..last]);
+    if s[last] != 10 {
+        return LastLine {
+            at,
+            number: Natural::Bad,
+        };
+    }
+    let number = trailer_number(&s[at..last]);
+    LastLine { at, number }
+}
+
 // The trailer: the last line, with the number of bytes before it.
 fn find_trailer(s: &[u8]) -> Trailer
     ensures { λ r. ⌜ r ≡ trailerOf (now (s .entry)) ⌝ }
 {
-    if s.len() == 0 {
-        return Trailer::Wrong;
-    }
-    let last = s.len() - 1;
-    if s[last] == 10 {
-        let at = lines::last_end(&s[..last]);
-        check_at(at, trailer_number(&s[at..last]))
-    } else {
-        Trailer::Wrong
-    }
+    let l = last_line(s);
+    let number = l.number;
+    check_at(l.at, number)
 }
 
 fn no_head() -> Headed

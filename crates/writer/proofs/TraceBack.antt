@@ -24,7 +24,7 @@ use Rattle.events.specs.Events.{readings}
 use Rattle.trace.specs.declared.Guards.{Guards}
 use Rattle.trace.specs.declared.Trace.{Trace}
 use Rattle.trace.specs.declared.Trailer.the-variants as trailer
-use Rattle.trace.specs.Trace.{trailerNumber, checkAt, lastLine, trailerOf, headOf, lockLine, locksFrom, isDash, guardsOf, volatilesOf, withGuards, secondOf, firstOf, behindTrailer, plainTraceOf, eventsOf, withVolatiles, thirdOf, traceOf, meantVolatile, found}
+use Rattle.trace.specs.Trace.{trailerNumber, checkAt, lastLine, lastNumber, trailerOf, headOf, lockLine, locksFrom, isDash, guardsOf, volatilesOf, withGuards, secondOf, firstOf, behindTrailer, plainTraceOf, eventsOf, withVolatiles, thirdOf, traceOf, meantVolatile, found}
 use Rattle.trace.proofs.VolatileLaws.{flags-none, allowed-flags, allowed-with}
 use Rattle.trace.proofs.TraceLaws.{head-right, second-some, third-none, third-some, trace-short, found-volatile}
 use Rattle.writer.specs.Text.{headLine, guardLine, numbersFrom, volatileRow, volatilesText, volatileLine, eventLine, trailerLine, eventsText, bodyText, traceText, allBelow, padded, Guarded, none, given, AllDeclared, done, more, foundText}
@@ -89,7 +89,7 @@ module _ (b : List ℕ) (whole : upTo 10 b ≡ length b) (small : length b ≤ c
       ∙ ap (λ (i : ℕ). take i (ended last)) n ∙ take-at last (10 ∷ []) (length last) refl
 
   pub trailer-back : trailerOf bytes ≡ trailer.At (length b)
-  unfolding trailerOf
+  unfolding trailerOf lastNumber
   trailer-back =
       rw (eq-eqb _ _ final)
       (ap (λ (a : ℕ). checkAt a (trailerNumber (splitOn 32 (take (length bytes - 1 - a) (drop a bytes))))) start

@@ -1,4 +1,4 @@
-//! A naive marker, written from documents 01 and 02, requests (a) to (g), (i) and (k).
+//! A naive marker, written from documents 01 and 02, requests (a) to (g) and (i) to (k).
 //! Every word is computed anew from the list of earlier events. (b) and (k) change no answer here: there is no table
 //! of cells and no scratch.
 
@@ -6,6 +6,7 @@ pub mod listing;
 pub mod order;
 pub mod paper;
 pub mod rules;
+pub mod sheet;
 pub mod tail;
 
 #[cfg(test)]

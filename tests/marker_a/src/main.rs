@@ -1,22 +1,23 @@
-//! Reads a paper from standard input and prints its listing; `--short` selects the short course. With `--tail` it prints `tail n` in its place,
-//! how many events the paper's tail has, or `refused line number`.
+//! Reads a paper from standard input and prints its listing; `--short` selects the short course.
+//! With `--tail` it prints `tail n` in its place, how many events the paper's tail has, or `refused line number`.
+//! With `--sheet` it reads a session sheet and prints its counts; `--short` marks its papers in the short course.
 
 use std::io::{Read, Write};
 
 fn main() {
     let has = |flag: &str| std::env::args_os().skip(1).any(|argument| argument == flag);
-    let mut paper = Vec::new();
-    let read = std::io::stdin().take(marker_a::MAX_BYTES as u64 + 1).read_to_end(&mut paper);
+    let mut input = Vec::new();
+    let read = std::io::stdin().take(marker_a::MAX_BYTES as u64 + 1).read_to_end(&mut input);
     if let Err(error) = read {
         eprintln!("standard input: {error}");
         std::process::exit(1);
     }
-    let text = if has("--tail") {
-        tail(&paper).into_bytes()
-    } else if has("--short") {
-        marker_a::mark_short(&paper)
-    } else {
-        marker_a::mark(&paper)
+    let text = match (has("--tail"), has("--sheet"), has("--short")) {
+        (true, _, _) => tail(&input).into_bytes(),
+        (false, true, false) => marker_a::sheet::sheet(&input),
+        (false, true, true) => marker_a::sheet::sheet_short(&input),
+        (false, false, false) => marker_a::mark(&input),
+        (false, false, true) => marker_a::mark_short(&input),
     };
     if let Err(error) = std::io::stdout().write_all(&text) {
         eprintln!("standard output: {error}");

@@ -12,6 +12,8 @@ mod long_orders;
 mod marking;
 mod old_papers;
 mod ordering;
+mod sheet_lists;
+mod sheets;
 mod short_course;
 mod short_lists;
 mod tail_lists;
