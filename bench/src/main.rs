@@ -2,7 +2,7 @@
 //! last table. Prints tables in markdown. Each time is the least of several rounds, in which the markers take turns.
 
 use bench::counter::Counter;
-use bench::markers::{Lent, Marker, MARKERS};
+use bench::markers::{self, Lent, Marker, MARKERS};
 use bench::mixes::{self, Paper};
 use papers::{Counts, Course, COURSES};
 use std::fs::File;
@@ -122,6 +122,44 @@ fn by_course() {
     }
 }
 
+/// As many of the papers, in turn, as a sheet of 65,536 bytes has room for.
+fn fill(papers: &[Paper]) -> Vec<Paper> {
+    let mut room = 65_536;
+    let fits = |p: &&Paper| {
+        let fits = p.len() <= room;
+        room -= if fits { p.len() } else { 0 };
+        fits
+    };
+    papers.iter().cycle().take_while(fits).cloned().collect()
+}
+
+/// Sheets, and their papers one by one, without an order but with records and listing.
+fn by_sheet() {
+    head(&["sheets of full length", "papers", "ms a sheet", "µs a paper", "one by one, µs a paper", "sheet / one by one"]);
+    let smallest: Paper = b"H\nZ 2\n".to_vec();
+    let empty: Paper = b"H 1 1 0\nG -\nZ 12\n".to_vec();
+    let row = |name: &str, papers: &[Paper]| {
+        let (papers, mut lent) = (fill(papers), Lent::default());
+        let sheet = papers.concat();
+        let [mut whole, mut single] = [f64::MAX; 2];
+        for _ in 0..ROUNDS {
+            let start = Instant::now();
+            markers::count(&sheet, &mut lent);
+            whole = whole.min(start.elapsed().as_nanos() as f64);
+            let start = Instant::now();
+            papers.iter().for_each(|p| markers::mark_unordered(p, &mut lent));
+            single = single.min(start.elapsed().as_nanos() as f64);
+        }
+        let [a, b] = [whole, single].map(|t| t / 1000.0 / papers.len() as f64);
+        println!("| {name} | {} | {:.2} | {a:.2} | {b:.2} | {:.2} |", papers.len(), whole / 1e6, whole / single);
+    };
+    row("a bare `H` each, refused with 3", &[smallest]);
+    row("no events", &[empty]);
+    for n in [5, 50, 500] {
+        row(&format!("{n} random events"), &mixes::randoms(50, n, 40));
+    }
+}
+
 /// Instructions, where the machine counts them.
 fn by_instructions() {
     let Some(counter) = Counter::instructions() else {
@@ -173,6 +211,7 @@ fn main() {
     by_length();
     by_order();
     by_course();
+    by_sheet();
     by_instructions();
     by_process(&programs);
 }

@@ -47,3 +47,14 @@ impl Marker {
         }
     }
 }
+
+/// Counts the papers of a sheet.
+pub fn count(sheet: &[u8], lent: &mut Lent) {
+    black_box(c_api::sheet(Course::Full, sheet, &mut lent.out));
+}
+
+/// Marks a paper without an order.
+pub fn mark_unordered(paper: &[u8], lent: &mut Lent) {
+    let Lent { what, values, out, .. } = lent;
+    black_box(c_api::mark_unordered(Course::Full, paper, what, values, out));
+}

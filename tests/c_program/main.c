@@ -1,4 +1,5 @@
-/* A caller of the C interface: steps over a state that it keeps, and whole papers and their tails into memory that it lends; in both courses. */
+/* A caller of the C interface: steps over a state that it keeps, and whole papers, their tails and session sheets into memory that it lends; in
+   both courses. */
 #include "dabzhoni.h"
 
 #include <inttypes.h>
@@ -11,6 +12,7 @@ typedef struct dabzhoni_marked mark_entry(const uint8_t *, size_t, uint32_t *, s
                                           size_t, uint64_t *, size_t);
 typedef struct dabzhoni_marked unordered_entry(const uint8_t *, size_t, uint32_t *, size_t, int64_t *, size_t, uint8_t *, size_t);
 typedef struct dabzhoni_tail finish_entry(const uint8_t *, size_t, uint32_t *, size_t, int64_t *, size_t);
+typedef struct dabzhoni_session sheet_entry(const uint8_t *, size_t, uint8_t *, size_t);
 typedef struct dabzhoni_reply step_entry(struct dabzhoni_state *, uint8_t, size_t, size_t, int64_t);
 
 /* A course: its entries, its limits, and the refusal of more events. */
@@ -19,6 +21,7 @@ struct course {
   mark_entry *mark;
   unordered_entry *mark_unordered;
   finish_entry *finish;
+  sheet_entry *sheet;
   step_entry *step;
   size_t threads, variables, locks;
   uint32_t events;
@@ -26,9 +29,18 @@ struct course {
 };
 
 static const struct course FULL = {
-    "full course", dabzhoni_mark, dabzhoni_mark_unordered, dabzhoni_finish, dabzhoni_step, 8, 16, 8, 2000, 9};
-static const struct course SHORT = {
-    "short course", dabzhoni_mark_short, dabzhoni_mark_short_unordered, dabzhoni_finish_short, dabzhoni_step_short, 2, 4, 2, 200, 25};
+    "full course", dabzhoni_mark, dabzhoni_mark_unordered, dabzhoni_finish, dabzhoni_sheet, dabzhoni_step, 8, 16, 8, 2000, 9};
+static const struct course SHORT = {"short course",
+                                    dabzhoni_mark_short,
+                                    dabzhoni_mark_short_unordered,
+                                    dabzhoni_finish_short,
+                                    dabzhoni_sheet_short,
+                                    dabzhoni_step_short,
+                                    2,
+                                    4,
+                                    2,
+                                    200,
+                                    25};
 static const struct course *course;
 
 static void expect(const char *what, bool ok) {
@@ -875,6 +887,90 @@ static void longest_tail(void) {
   finish_in(&(struct tail){.name = "the longest tail", .text = text, .lines = lines, .first = 2003, .over = 1});
 }
 
+/* ---- session sheets */
+
+/* A sheet, the text that is printed for it, and what is counted in it or the number of its refusal; in the short course the text and the count
+   over_text and over_accepted, where these are given. */
+struct sheet {
+  const char *name, *sheet, *text, *over_text;
+  size_t papers, accepted, over_accepted, number;
+};
+
+static const struct sheet SHEETS[] = {
+    {.name = "the empty sheet", .sheet = "", .text = "papers 0\naccepted 0\nshare 0/1\n"},
+    {.name = "the sheet of docs/PAPERS.md",
+     .sheet = "H 1 1 0\nG -\nA 0 0 5\nS 0 0 5\nW 0 0 5\nZ 36\nH 1 1 0\nG -\nU 0 0 0\nZ 20\nH 1 1 1\nG 0\nK 0 0\nZ 18\n"
+              "H 9 1 0\nG -\nZ 12\nH 1 1 0\nG -\nZ 12\nH 2 1 1\nG 0\nK 1 0\nN 1 0\nZ 24\n",
+     .text = "papers 6\naccepted 4\nrefused 3 1\nrefused 17 1\nshare 2/3\n",
+     .papers = 6,
+     .accepted = 4},
+    {.name = "none accepted", .sheet = "H\nZ 2\nH\nZ 2\n", .text = "papers 2\naccepted 0\nrefused 3 2\nshare 0/1\n", .papers = 2},
+    {.name = "all accepted",
+     .sheet = "H 1 1 0\nG -\nZ 12\nH 1 1 0\nG -\nZ 12\n",
+     .text = "papers 2\naccepted 2\nshare 1/1\n",
+     .papers = 2,
+     .accepted = 2},
+    {.name = "20, 21 and 22",
+     .sheet = "H 1 1 1\nG 0\nA 0 0 5\nZ 20\nH 1 1 2\nG 0\nK 0 0\nK 0 1\nN 0 0\nK 0 0\nN 0 0\nN 0 1\nZ 48\nH 1 1 1\nG 0\nK 0 0\nZ 18\n",
+     .text = "papers 3\naccepted 3\nshare 1/1\n",
+     .papers = 3,
+     .accepted = 3},
+    {.name = "25 in the short course",
+     .sheet = "H 3 1 0\nG -\nZ 12\nH 1 1 0\nG -\nX\nZ 14\nH 2 4 2\nG -\nV 0\nZ 16\nH 1 1 3\nG 0\nK 0 1\nZ 18\n",
+     .text = "papers 4\naccepted 3\nrefused 4 1\nshare 3/4\n",
+     .over_text = "papers 4\naccepted 1\nrefused 4 1\nrefused 25 2\nshare 1/4\n",
+     .papers = 4,
+     .accepted = 3,
+     .over_accepted = 1},
+    {.name = "a trailer that points at an earlier paper",
+     .sheet = "H 1 1 0\nG -\nZ 12\nH 1 1 0\nG -\nZ 29\n",
+     .text = "papers 1\naccepted 0\nrefused 4 1\nshare 0/1\n",
+     .papers = 1},
+    {.name = "31, no trailer", .sheet = "\n", .number = 31},
+    {.name = "31, no line feed", .sheet = "H\nZ 2", .number = 31},
+    {.name = "31, at its own Z", .sheet = "Z 0\n", .number = 31},
+    {.name = "31, before the first byte", .sheet = "H\nZ 3\n", .number = 31},
+    {.name = "31, before the first byte by 64 bits", .sheet = "H\nZ 18446744073709551618\n", .number = 31},
+    {.name = "31, not at an H", .sheet = "H\nZ 2\nH\nZ 3\n", .number = 31},
+    {.name = "31, other bytes in front", .sheet = "X\nH\nZ 2\n", .number = 31},
+    {.name = "31, other bytes between", .sheet = "H\nZ 2\n\nH\nZ 2\n", .number = 31},
+    {.name = "31, other bytes behind", .sheet = "H\nZ 2\n ", .number = 31},
+};
+
+/* A sheet with so much output lent: what is said of it, the text at the front of the output, and nothing else is touched. */
+static void count(const char *name, const char *sheet, size_t length, size_t lent, struct dabzhoni_session w, const char *text) {
+  fill();
+  struct dabzhoni_session s = course->sheet((const uint8_t *)sheet, length, out, lent);
+  if (memcmp(&s, &w, sizeof s))
+    printf("%s: number %zu, line %zu, papers %zu, accepted %zu, written %zu\n", name, s.number, s.line, s.papers, s.accepted, s.written);
+  expect(name, !memcmp(&s, &w, sizeof s));
+  if (!listed(text, "")) printf("%s, %zu bytes of output, ", name, lent);
+  expect("text of a sheet", listed(text, ""));
+}
+
+/* With the output that must be lent, with one byte more, with one too few, and with none. */
+static void count_in(const struct sheet *t, size_t length) {
+  const struct dabzhoni_session seven = {.number = 7};
+  bool over = course == &SHORT && t->over_text;
+  const char *text = t->number == 1 ? "refused 0 1\n" : t->number ? "refused 0 31\n" : over ? t->over_text : t->text;
+  struct dabzhoni_session w = {t->number, 0, t->papers, over ? t->over_accepted : t->accepted, strlen(text)};
+  count(t->name, t->sheet, length, OUT, w, text);
+  count(t->name, t->sheet, length, OUT + 1, w, text);
+  count(t->name, t->sheet, length, OUT - 1, seven, "");
+  count(t->name, t->sheet, length, 0, seven, "");
+}
+
+/* The most papers, and a sheet with one more: 65,532 and 65,538 bytes; and 65,536 and 65,537 bytes that are no papers. */
+static void long_sheets(void) {
+  static char sheet[65539];
+  for (int i = 0; i < 10923; i++) memcpy(sheet + 6 * i, "H\nZ 2\n", 6);
+  const char *text = "papers 10922\naccepted 0\nrefused 3 10922\nshare 0/1\n";
+  count_in(&(struct sheet){.name = "the most papers", .sheet = sheet, .text = text, .papers = 10922}, 65532);
+  count_in(&(struct sheet){.name = "31, 65,536 bytes", .sheet = sheet, .number = 31}, 65536);
+  count_in(&(struct sheet){.name = "1, before 31", .sheet = sheet, .number = 1}, 65537);
+  count_in(&(struct sheet){.name = "1, one paper more", .sheet = sheet, .number = 1}, 65538);
+}
+
 static void all(const struct course *c) {
   course = c;
   steps();
@@ -891,6 +987,8 @@ static void all(const struct course *c) {
   about_two_hundred();
   for (size_t i = 0; i < sizeof TAILS / sizeof *TAILS; i++) finish_in(&TAILS[i]);
   longest_tail();
+  for (size_t i = 0; i < sizeof SHEETS / sizeof *SHEETS; i++) count_in(&SHEETS[i], strlen(SHEETS[i].sheet));
+  long_sheets();
 }
 
 int main(void) {

@@ -139,6 +139,20 @@ pub struct Tail {
 
 const _: () = assert!(offset_of!(Tail, events) == 16 && offset_of!(Tail, first) == 24 && size_of::<Tail>() == 32);
 
+/// What is said of a sheet.
+#[repr(C)]
+#[derive(Clone, Copy, Debug, Default, PartialEq, Eq)]
+pub struct Sheet {
+    pub number: usize,
+    pub line: usize,
+    pub papers: usize,
+    pub accepted: usize,
+    pub written: usize,
+}
+
+const _: () = assert!(offset_of!(Sheet, papers) == 16 && offset_of!(Sheet, accepted) == 24 && offset_of!(Sheet, written) == 32);
+const _: () = assert!(size_of::<Sheet>() == 40);
+
 #[link(name = "c_api", kind = "static")]
 extern "C" {
     fn dabzhoni_initial(state: *mut State, threads: usize, variables: usize, locks: usize);
@@ -208,6 +222,8 @@ extern "C" {
         values: *mut Value,
         values_len: usize,
     ) -> Tail;
+    fn dabzhoni_sheet(sheet: *const u8, sheet_len: usize, out: *mut u8, out_len: usize) -> Sheet;
+    fn dabzhoni_sheet_short(sheet: *const u8, sheet_len: usize, out: *mut u8, out_len: usize) -> Sheet;
 }
 
 /// The memory of a state, byte for byte.
@@ -320,4 +336,14 @@ pub fn finish(course: Course, paper: &[u8], what: &mut [u32], values: &mut [Valu
     };
     // SAFETY: three slices that do not overlap, each with its own length.
     unsafe { finish(paper.as_ptr(), paper.len(), what.as_mut_ptr(), what.len(), values.as_mut_ptr(), values.len()) }
+}
+
+/// Counts the papers of a sheet into a lent output.
+pub fn sheet(course: Course, sheet: &[u8], out: &mut [u8]) -> Sheet {
+    let count = match course {
+        Course::Full => dabzhoni_sheet,
+        Course::Short => dabzhoni_sheet_short,
+    };
+    // SAFETY: two slices that do not overlap, each with its own length.
+    unsafe { count(sheet.as_ptr(), sheet.len(), out.as_mut_ptr(), out.len()) }
 }

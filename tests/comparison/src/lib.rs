@@ -2,6 +2,7 @@
 
 pub mod c_api;
 pub mod model;
+pub mod sheets;
 pub mod steps;
 pub mod tails;
 pub mod whole;

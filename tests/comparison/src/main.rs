@@ -1,6 +1,8 @@
-//! The proved marker against markers A, B and C: `comparison [TIMES [SEED]]`, TIMES as many papers and steps as in the gate, from this seed.
+//! The proved marker against markers A, B and C: `comparison [TIMES [SEED]]`, TIMES as many papers, sheets and steps as in the gate, from
+//! this seed.
 //! The last line is `N passed, M failed`.
 
+use comparison::sheets;
 use comparison::steps::{self, Tally};
 use comparison::tails;
 use comparison::whole::Papers;
@@ -25,8 +27,11 @@ fn main() {
         aimed: 40 * times as usize,
         short: 5,
     };
-    // The steps run beside the papers.
-    let steps = thread::spawn(move || COURSES.map(|course| all_steps(course, times as usize, seed)));
+    // The steps and the sheets run beside the papers.
+    let others = thread::spawn(move || {
+        let steps = COURSES.map(|course| all_steps(course, times as usize, seed));
+        (steps, sheets::all(times as usize, seed))
+    });
     let papers = Rc::new(Papers::new());
     let same = Rc::clone(&papers);
     let (mut passed, mut failed) = run(Box::new(move |course, paper, with_a| same.check(course, paper, with_a)), size);
@@ -38,7 +43,10 @@ fn main() {
         }
     }
     println!("{}\n{}", papers.orders(), papers.tails());
-    for (lines, tally) in steps.join().expect("the steps") {
+    let (steps, (lines, of_sheets)) = others.join().expect("the steps and the sheets");
+    print!("{lines}");
+    (passed, failed) = (passed + of_sheets.0, failed + of_sheets.1);
+    for (lines, tally) in steps {
         print!("{lines}");
         (passed, failed) = (passed + tally.passed, failed + tally.failed);
     }

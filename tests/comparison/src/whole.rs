@@ -11,10 +11,10 @@ use std::cell::{Cell, RefCell};
 use std::slice;
 
 /// Places that must be lent.
-const RECORDS: usize = 2_000;
-const OUT: usize = 32_768;
-const ORDER: usize = 1_000;
-const SCRATCH: usize = 1_000;
+pub(crate) const RECORDS: usize = 2_000;
+pub(crate) const OUT: usize = 32_768;
+pub(crate) const ORDER: usize = 1_000;
+pub(crate) const SCRATCH: usize = 1_000;
 /// At most so many places of scratch are lent.
 const LONG_SCRATCH: usize = 3_000;
 /// At most so many more places are lent of the others, and so many or more lie behind the lent ones.
@@ -38,7 +38,7 @@ impl<T: Copy + PartialEq> Memory<T> {
         self.places[..n] == *front && self.places[n..] == self.pattern[n..]
     }
 
-    fn renew(&mut self) {
+    pub(crate) fn renew(&mut self) {
         self.places.copy_from_slice(&self.pattern);
     }
 
