@@ -6,3 +6,4 @@ pub mod Rounds
 pub mod SheetLines
 pub mod Answers
 pub mod Examples
+pub mod Theorems

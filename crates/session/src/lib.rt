@@ -38,10 +38,10 @@ pub struct Session {
 const NUMBERS: usize = 31;
 
 // Whether the traces of a sheet are found, how many they are, and how often each number occurs, 0 of those that are accepted.
-pub struct Tally {
-    pub found: bool,
-    pub count: usize,
-    pub counts: [usize; NUMBERS],
+struct Tally {
+    found: bool,
+    count: usize,
+    counts: [usize; NUMBERS],
 }
 
 // ---- Finding.
