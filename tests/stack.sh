@@ -124,7 +124,7 @@ repeated() { local i; for ((i = 0; i < $1; i++)); do printf '%s' "$2"; done; }
 headless=$'H\nZ 2\n'
 accepted=$'H 1 1 0\nG -\nZ 12\n'
 repeated 10922 "$headless" | sheet most-papers
-repeated 3640 "$accepted" | sheet most-accepted
+repeated 3855 "$accepted" | sheet most-accepted
 { repeated 2729 "$accepted"; repeated 2735 "$headless"; } | sheet accepted-and-refused
 { printf '%s' "$headless"; times 65500 ' '; } | sheet spaces-behind
 { printf '%s' "$headless"; times 65500 ' '; echo; } | sheet line-of-spaces-behind

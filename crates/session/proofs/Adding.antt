@@ -70,7 +70,7 @@ adds-up c ts =
 
 -- ---- the row of counts
 
-pub counts-length : (ns : List ℕ) → length (countsOf ns) ≡ suc greatest
+counts-length : (ns : List ℕ) → length (countsOf ns) ≡ suc greatest
 unfolding countsOf
 counts-length [] = length-replicate {A = ℕ} (suc greatest) 0
 counts-length (n ∷ ns) = length-set (countsOf ns) n (getD (countsOf ns) n 0 + 1) ∙ counts-length ns

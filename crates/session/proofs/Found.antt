@@ -26,11 +26,11 @@ use Rattle.session.specs.Sheet.{pointed, startOf, Sheet, holds, turnedAw
 
 -- ---- the last line of what stands behind other bytes, and of a part up to the end
 
-up-append : (b : ℕ) (xs u : List ℕ) → 0 < upTo b u → upTo b (xs ++ u) ≡ length xs + upTo b u
+up-behind : (b : ℕ) (xs u : List ℕ) → 0 < upTo b u → upTo b (xs ++ u) ≡ length xs + upTo b u
 unfolding upTo
-up-append b [] u h = omega arith
-up-append b (x ∷ xs) u h =
-    let r : upTo b (xs ++ u) ≡ length xs + upTo b u = up-append b xs u h in
+up-behind b [] u h = omega arith
+up-behind b (x ∷ xs) u h =
+    let r : upTo b (xs ++ u) ≡ length xs + upTo b u = up-behind b xs u h in
     rw (ne-eqb (upTo b (xs ++ u)) 0 (λ z. omega arith)) (omega arith)
 
 -- more than one byte up to the last b: the first is passed
@@ -63,7 +63,7 @@ module _ (xs p : List ℕ) (more : 0 < lastLine p) where
   unfolding lastLine
   last-behind =
       ap (λ (k : ℕ). upTo 10 (take k (xs ++ p))) end-behind ∙ ap (upTo 10) (take-append-add xs p (length p - 1))
-      ∙ up-append 10 xs (take (length p - 1) p) more
+      ∙ up-behind 10 xs (take (length p - 1) p) more
 
   byte-behind : getD (xs ++ p) (length (xs ++ p) - 1) 0 ≡ getD p (length p - 1) 0
   byte-behind = ap (λ (k : ℕ). getD (xs ++ p) k 0) end-behind ∙ getD-append-add xs p (length p - 1) 0
@@ -128,9 +128,9 @@ last-z s n e = by (eqb (getD s (length s - 1) 0) 10) e
 
 -- ---- a right trailer has the number of bytes before it
 
-trailed-number : (t : List ℕ) → trailerOf t ≡ trailer.At (lastLine t) → lastNumber t ≡ natural.Of (lastLine t)
+right-number : (t : List ℕ) → trailerOf t ≡ trailer.At (lastLine t) → lastNumber t ≡ natural.Of (lastLine t)
 unfolding trailerOf
-trailed-number t h = by (lastNumber t) h
+right-number t h = by (lastNumber t) h
   where
     on : (n : ℕ) (q : Bool) → eqb n (lastLine t) ≡ q → cond q (trailer.At (lastLine t)) trailer.Wrong ≡ trailer.At (lastLine t) → natural.Of n ≡ natural.Of (lastLine t)
     on n true r h = ap (λ (k : ℕ). natural.Of k) (eqb-true n (lastLine t) r)
@@ -146,7 +146,7 @@ number-trailed t e = ap (checkAt (lastLine t)) e ∙ rw (eq-eqb (lastLine t) (la
 
 -- a trace has a line before its trailer
 ends-more : (p : List ℕ) → Ends p → 0 < lastLine p
-ends-more p e = by (lastLine p) (last-z p (lastLine p) (trailed-number p (e .trailed)))
+ends-more p e = by (lastLine p) (last-z p (lastLine p) (right-number p (e .trailed)))
   where
     by : (l : ℕ) → getD p l 0 ≡ 90 → 0 < l
     by zero z = absurd (omega (arith, z, e .begins))
@@ -158,7 +158,7 @@ start-behind : (xs p : List ℕ) → Ends p → startOf (xs ++ p) ≡ start.At (
 unfolding startOf
 start-behind xs p e =
     let m = ends-more p e in
-    let n : lastNumber (xs ++ p) ≡ natural.Of (lastLine p) = number-behind xs p m ∙ trailed-number p (e .trailed) in
+    let n : lastNumber (xs ++ p) ≡ natural.Of (lastLine p) = number-behind xs p m ∙ right-number p (e .trailed) in
     let l = last-behind xs p m in
     let back : length xs + lastLine p - lastLine p ≡ length xs = omega arith in
     let z : length xs ≡ length xs + 0 = omega arith in
@@ -194,7 +194,7 @@ cut s a n r h d b = record { within = inside; ends = record { begins = first; tr
         let e : n ≡ lastLine (drop a s) = omega (arith, l, d, h) in
         sym (number-behind (take a s) (drop a s) (omega (arith, l, inside))) ∙ ap lastNumber (take-append-drop a s) ∙ r ∙ ap (λ (k : ℕ). natural.Of k) e
 
-pub start-cut : (s : List ℕ) (a : ℕ) → startOf s ≡ start.At a → Cut s a
+start-cut : (s : List ℕ) (a : ℕ) → startOf s ≡ start.At a → Cut s a
 unfolding startOf
 start-cut s a h = by (lastNumber s) refl h
   where
@@ -389,10 +389,10 @@ away-long s e = by (ltb (full .bytes) (length s)) refl e
     by false r e = absurd (omega (arith, find-away (length s) s [] 1 e))
 
 -- and 31 exactly where there are not, and no split is possible.
-pub away-none : (s : List ℕ) (ts : List (List ℕ)) → sheetOf s ≡ turnedAway 31 → All Ends ts → joined ts ≡ s → ⊥
-away-none s ts e f j =
+pub away-none : (s : List ℕ) → sheetOf s ≡ turnedAway 31 → (length s ≤ full .bytes) × ((ts : List (List ℕ)) → All Ends ts → joined ts ≡ s → ⊥)
+away-none s e =
     let w = within s (turnedAway 31) (λ z. let y : _≡_ {A = ℕ} 0 1 = cc in omega arith) e in
-    subst Away (sym (w .1) ∙ ap (λ (s : List ℕ). findFrom (length s) s []) (sym j) ∙ found-back ts f) tt
+    (w .0, λ ts f j. subst Away (sym (w .1) ∙ ap (λ (s : List ℕ). findFrom (length s) s []) (sym j) ∙ found-back ts f) tt)
 
 pub none-away : (s : List ℕ) → length s ≤ full .bytes → ((ts : List (List ℕ)) → All Ends ts → joined ts ≡ s → ⊥) → sheetOf s ≡ turnedAway 31
 unfolding sheetOf

@@ -28,9 +28,9 @@ use Rattle.session.proofs.Found.{sheet-ends, sheet-fits}
 
 -- ---- a test that the numbers of lines and rows pass
 
-pub record Passes (f : ℕ → Bool) : Type 0 where
-  pub lines : T (allOf f (0 ∷ 4 ∷ 5 ∷ 9 ∷ 25 ∷ []))
-  pub table : T (allOf (λ k. allOf f (rowIn rows k)) letters)
+record Passes (f : ℕ → Bool) : Type 0 where
+  lines : T (allOf f (0 ∷ 4 ∷ 5 ∷ 9 ∷ 25 ∷ []))
+  table : T (allOf (λ k. allOf f (rowIn rows k)) letters)
 
 module _ (f : ℕ → Bool) (t : Passes f) where
   line-pass : (n : ℕ) → T (among (0 ∷ 4 ∷ 5 ∷ 9 ∷ 25 ∷ []) n) → T (f n)

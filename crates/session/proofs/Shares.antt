@@ -27,15 +27,15 @@ record Greatest (m a b g : ℕ) : Type 0 where
 whole : (d a : ℕ) → a % d ≡ 0 → a ≡ d * (a / d)
 whole d a e = omega (arith, div-add-mod a d, e)
 
-greatest : (m a b : ℕ) → Greatest m a b (common m a b)
+common-greatest : (m a b : ℕ) → Greatest m a b (common m a b)
 unfolding common
-greatest zero a b = record {
+common-greatest zero a b = record {
   some = omega arith;
   left = omega arith;
   right = omega arith;
   most = λ d h x y. omega arith;
 }
-greatest (suc m) a b = by (dividesBoth (suc m) a b) refl (greatest m a b)
+common-greatest (suc m) a b = by (dividesBoth (suc m) a b) refl (common-greatest m a b)
   where
     more : (d : ℕ) (g : ℕ) → Greatest m a b g → dividesBoth (suc m) a b ≡ false → d ≤ suc m → a % d ≡ 0 → b % d ≡ 0 → (t : Bool) → eqb d (suc m) ≡ t → d ≤ g
     more d g r e h x y true k =
@@ -53,7 +53,7 @@ greatest (suc m) a b = by (dividesBoth (suc m) a b) refl (greatest m a b)
     by false e r = record { some = r .some; left = r .left; right = r .right; most = λ d h x y. more d (common m a b) r e h x y (eqb d (suc m)) refl }
 
 pub common-some : (m a b : ℕ) → 0 < common m a b
-common-some m a b = greatest m a b .some
+common-some m a b = common-greatest m a b .some
 
 -- a product with a number that is not 0
 product-le : (k m p : ℕ) → 0 < k → k ≡ m * p → m ≤ k
@@ -107,7 +107,7 @@ none-accepted n = record { same = zero-mul n; lowest = λ d p q e f. one-divides
 pub lowest : (a n : ℕ) → Lowest a n (above a n) (beneath a n)
 unfolding above beneath
 lowest zero n = none-accepted n
-lowest (suc a) n = rw (ne-eqb (suc a) 0 (λ z. omega arith)) (divided (suc a) n (common (suc a) (suc a) n) (omega arith) (greatest (suc a) (suc a) n))
+lowest (suc a) n = rw (ne-eqb (suc a) 0 (λ z. omega arith)) (divided (suc a) n (common (suc a) (suc a) n) (omega arith) (common-greatest (suc a) (suc a) n))
 
 pub none-share : (n : ℕ) → (above 0 n ≡ 0) × (beneath 0 n ≡ 1)
 unfolding above beneath common

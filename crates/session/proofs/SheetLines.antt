@@ -73,7 +73,7 @@ sheet-fit m (holds ts) = rw (← both-parts (length ts) (λ k. times k (numbersO
 sheet-fit m (turnedAway n) = (row-fits _ (0 ∷ n ∷ []) (omega arith) (omega arith), tt)
 
 -- 33 lines of at most 128 bytes
-pub lines-room : (m : Limits) (q : Sheet) → length (textOf (sheetLines m q)) ≤ 4224
+lines-room : (m : Limits) (q : Sheet) → length (textOf (sheetLines m q)) ≤ 4224
 lines-room m q = omega (arith, sheet-few m q, text-most 128 (sheetLines m q) (sheet-fit m q))
 
 -- The text of a sheet fits the output.

@@ -58,11 +58,8 @@ fn point(s: &[u8], at: usize, number: Natural) -> Start
         return Start::Nowhere;
     }
     let a = at - n;
-    if s[a] == b'H' {
-        Start::At(a)
-    } else {
-        Start::Nowhere
-    }
+    let head = s[a] == b'H';
+    if head { Start::At(a) } else { Start::Nowhere }
 }
 
 // Where the last trace of what is left starts.
