@@ -1,5 +1,7 @@
 // What a program in C calls: a whole trace, marked into lent memory, its tail, the sheet of a sitting, and one step over a state that it keeps.
 // Events and answers are plain numbers. include/dabzhoni.h declares these functions and the layout of the state.
+#![tactic(auto)]
+
 ghost use Rattle.std.specs.Prelude.{◌≡◌};
 ghost use Rattle.rules.specs.Limits.{full, short, limits_of};
 ghost use Rattle.c_api.specs.Replies.{initial_of, reply_of, step_reply, order_reply, mark_reply, MarkReplies, BriefReplies, tail_reply, TailReplies, sheet_reply, SheetReplies};
@@ -14,7 +16,7 @@ use state::State;
 
 // The number of a refusal and its line; both are 0 where nothing is refused.
 #[repr(C)]
-#[derive(Drop)]
+#[derive(Clone, Copy)]
 pub struct Reply {
     pub number: usize,
     pub line: usize,
@@ -34,7 +36,7 @@ pub fn reply_of(v: Verdict) -> Reply
 // ---- One step.
 
 // The reply to an event, and the state after it.
-#[derive(Drop)]
+#[derive(Clone, Copy)]
 pub struct StepReply {
     pub reply: Reply,
     pub state: State,
@@ -158,7 +160,7 @@ pub extern "C" fn dabzhoni_step_short(
 // ---- A whole trace.
 
 // What is said of an order: 1 where there is one, and how many entries the order list then has; or the number and the line of what denies it.
-#[derive(Drop)]
+#[derive(Clone, Copy)]
 pub struct OrderReply {
     pub ordered: usize,
     pub sections: usize,
@@ -195,7 +197,7 @@ pub fn order_reply(o: Ordering) -> OrderReply
 // length of the listing; 1 where there is an order, else 0; how many entries the order list has; and 20 to 22 and its line where the order is
 // denied, else 0.
 #[repr(C)]
-#[derive(Drop)]
+#[derive(Clone, Copy)]
 pub struct MarkReply {
     pub number: usize,
     pub line: usize,
@@ -294,7 +296,7 @@ pub extern "C" fn dabzhoni_mark_short_unordered(
 // What is said of a tail: the number of a refusal and its line, both 0 where a tail is given; then how many events it has and the line of the
 // first, both 0 after a refusal.
 #[repr(C)]
-#[derive(Drop)]
+#[derive(Clone, Copy)]
 pub struct TailReply {
     pub number: usize,
     pub line: usize,
@@ -348,7 +350,7 @@ pub extern "C" fn dabzhoni_finish_short(
 // What is said of a sheet: the number of a refusal and its line, both 0 where the papers are counted; how many papers there are and how many are
 // accepted, both 0 after a refusal; and the length of the text.
 #[repr(C)]
-#[derive(Drop)]
+#[derive(Clone, Copy)]
 pub struct SheetReply {
     pub number: usize,
     pub line: usize,

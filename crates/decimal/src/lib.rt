@@ -1,4 +1,6 @@
 // Numbers in base ten: read from a whole field, and written into the front of what remains of an output.
+#![tactic(auto)]
+
 ghost use Rattle.std.specs.Prelude.{◌≡◌, not, ◌&&◌, [], ◌∷◌, ◌+◌, ◌*◌, ◌≤◌, ◌<◌, min, eqb, leb, nat_abs, length, drop};
 ghost use Rattle.rules.specs.Limits.{value_width};
 ghost use Rattle.decimal.specs.Decimal.{cap, digits_from, natural_of, positive_of, negative_of};
@@ -8,14 +10,14 @@ ghost use Rattle.decimal.specs.Text.{natural_text, integer_text, is_negative, ro
 use rules::Value;
 
 // A field read as a number without a sign: Of(n) with n at most CAP, which stands for every larger number too.
-#[derive(Drop)]
+#[derive(Clone, Copy)]
 pub enum Natural {
     Bad,
     Of(usize),
 }
 
 // A field read as a value: no number of the right form, one outside the range, or the value.
-#[derive(Drop)]
+#[derive(Clone, Copy)]
 pub enum Integer {
     Bad,
     Outside,
@@ -23,7 +25,7 @@ pub enum Integer {
 }
 
 // A number and the place behind the byte that ends it.
-#[derive(Drop)]
+#[derive(Clone, Copy)]
 pub struct Reached {
     pub number: Natural,
     pub next: usize,

@@ -1,5 +1,7 @@
 // The forms behind references: one step over a lent state, and a lent row of events. Each function here is thin: what it computes is a
 // call of a function over plain values.
+#![tactic(auto)]
+
 ghost use Rattle.std.specs.Prelude.{◌≡◌, ◌<◌, ◌≤◌, min, length};
 ghost use Rattle.rules.specs.Limits.{limits_of};
 ghost use Rattle.machine.specs.Stepped.{stepped};
@@ -106,7 +108,7 @@ pub fn fill_records(records: &mut [Event], h: Counts, what: &[u32], value: &[Val
 }
 
 // What is said of a trace, its head, and the rows of its records.
-#[derive(Drop)]
+#[derive(Clone, Copy)]
 struct Kept {
     report: Report,
     head: Counts,
@@ -162,7 +164,7 @@ pub fn mark_events(
 // ---- The tail of a trace.
 
 // What is said of a tail, the line of its first event, and how many events are written.
-#[derive(Drop)]
+#[derive(Clone, Copy)]
 struct GivenTail {
     tail: Tail,
     line: usize,
@@ -195,7 +197,7 @@ fn given_in(made: Tail, places: usize) -> GivenTail
 }
 
 // What is given of a tail, and the rows of its records.
-#[derive(Drop)]
+#[derive(Clone, Copy)]
 struct KeptTail {
     given: GivenTail,
     what: [u32; TAIL],

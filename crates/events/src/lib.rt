@@ -1,4 +1,6 @@
 // The event lines of a trace, read forward: each byte is looked at once, line after line.
+#![tactic(auto)]
+
 ghost use Rattle.std.specs.Prelude.{◌≡◌, ◌≤◌, length, drop};
 ghost use Rattle.rules.specs.Limits.{full, limits_of, value_width};
 ghost use Rattle.events.specs.Events.{on_integer, right, last, lock_end, notify_end, value_end, field, lock_fields, after_thread};
@@ -9,7 +11,7 @@ use decimal::{Integer, Natural};
 use rules::{Counts, Course, RECORDS, Value, Verdict};
 
 // An event line as plain numbers, and where the next line starts; all is 0 where there is no event line.
-#[derive(Drop)]
+#[derive(Clone, Copy)]
 pub struct Line {
     pub letter: u8,
     pub thread: usize,
@@ -19,7 +21,7 @@ pub struct Line {
 }
 
 // How many events were read, and what ended the reading.
-#[derive(Drop)]
+#[derive(Clone, Copy)]
 pub struct Read {
     pub count: usize,
     pub verdict: Verdict,

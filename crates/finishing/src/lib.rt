@@ -1,5 +1,7 @@
 // The tail that finishes a trace: events after which nothing is outstanding, fresh, owed or held. It is made from the records of an accepted trace
 // and the copies that it leaves: thread by thread, its variables and then its locks.
+#![tactic(auto)]
+
 ghost use Rattle.std.specs.Prelude.{◌≡◌, cond, ◌&&◌, ◌||◌, [], ◌∷◌, map, ◌≤◌, ◌<◌, length, replicate, take, eqb, pos};
 ghost use Rattle.rules.specs.Events.{B, N, P};
 ghost use Rattle.rules.specs.Limits.{limits_of, any_volatile};
@@ -33,7 +35,7 @@ use rules::{CELLS, Cached, Counts, Course, RECORDS, VARIABLES, Value, Verdict};
 pub const TAIL: usize = 2256;
 
 // What is said of the tail of a trace. `answer_of` in specs/Tail.antt says when each case is given, with its number and values.
-#[derive(Drop)]
+#[derive(Clone, Copy)]
 pub enum Tail {
     // It has so many events, and the first of them this line.
     Given(usize, usize),
@@ -42,7 +44,7 @@ pub enum Tail {
 }
 
 // An event as its record and its value.
-#[derive(Drop)]
+#[derive(Clone, Copy)]
 struct Entry {
     what: u32,
     value: Value,
@@ -58,7 +60,7 @@ fn is_here(w: u32, t: usize, p: usize) -> bool
 }
 
 // Whether an assign is pending, and its announced value; whether the copy is fresh; how many loads and writes there are.
-#[derive(Drop)]
+#[derive(Clone, Copy)]
 struct Facts {
     pending: bool,
     announced: Value,

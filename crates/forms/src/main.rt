@@ -1,5 +1,7 @@
 // Runs the public functions that no other program and no test runs, and writes what they answer to standard output. What is lent is filled
 // with 35, 77 and an event of line 9, so that an untouched place shows.
+#![tactic(auto)]
+
 ghost use Rattle.std.specs.Prelude.{◌≤◌};
 
 use finishing::Tail;
@@ -546,7 +548,7 @@ fn fills() {
 // ---- A trace into lent events.
 
 // What is said of a trace, and the row of its events.
-#[derive(Drop)]
+#[derive(Clone, Copy)]
 struct Outcome {
     report: Report,
     rows: [Event; 2000],
@@ -714,7 +716,7 @@ fn traces(paper: &[u8]) {
 // ---- The tail of a trace into lent events.
 
 // What is said of a tail, and the row of its events.
-#[derive(Drop)]
+#[derive(Clone, Copy)]
 struct Finished {
     tail: Tail,
     rows: [Event; 5],

@@ -1,6 +1,8 @@
 // One event judged from the parts of a state that it looks at, and what it leaves of them. Nothing here sees a whole state. What a turn
 // answers is in specs/Computed/Turns.antt, and proofs/Turned.antt proves that it is the row of the rules, the checks that lead it left aside, and
 // the state after the event; those checks are in specs/Computed/Leads.antt, proofs/Waits.antt and proofs/Leads.antt.
+#![tactic(auto)]
+
 ghost use Rattle.std.specs.Prelude.{◌≡◌, [], ◌<◌, max, get_or};
 ghost use Rattle.rules.specs.Events.{A as Assign, B, C, F, K, L, N, P, R, S, W, Y};
 ghost use Rattle.rules.specs.Rules.{differ};
@@ -31,7 +33,7 @@ use rules::{LOCKS, Main, Slot, THREADS, Value};
 use state::{Cell, Hold, Ring, Waiting};
 
 // What some variable of a thread has: a pending prescient store, a fresh assign, an outstanding store that N and Y count.
-#[derive(Drop)]
+#[derive(Clone, Copy)]
 pub struct OnSome {
     pub pending: bool,
     pub fresh: bool,
@@ -39,20 +41,20 @@ pub struct OnSome {
 }
 
 // The answers: 0 or the number of the first check of the event's row that is broken, and what the event leaves.
-#[derive(Drop)]
+#[derive(Clone, Copy)]
 pub struct CellTurn {
     pub rule: u8,
     pub cell: Cell,
 }
 
-#[derive(Drop)]
+#[derive(Clone, Copy)]
 pub struct ReadsTurn {
     pub rule: u8,
     pub cell: Cell,
     pub slot: Slot,
 }
 
-#[derive(Drop)]
+#[derive(Clone, Copy)]
 pub struct StoresTurn {
     pub rule: u8,
     pub cell: Cell,
@@ -60,14 +62,14 @@ pub struct StoresTurn {
     pub main: Main,
 }
 
-#[derive(Drop)]
+#[derive(Clone, Copy)]
 pub struct LockTurn {
     pub rule: u8,
     pub hold: Hold,
     pub locked: usize,
 }
 
-#[derive(Drop)]
+#[derive(Clone, Copy)]
 pub struct WaitTurn {
     pub rule: u8,
     pub hold: Hold,
@@ -119,7 +121,7 @@ fn pop(q: Ring) -> Ring
 
 // ---- The checks of each row, in the row's order; false fills them.
 
-#[derive(Drop)]
+#[derive(Clone, Copy)]
 struct Checks {
     pub first: bool,
     pub second: bool,
@@ -431,7 +433,7 @@ pub fn barred_rule(w: Waiting, n: usize, k: u8) -> u8
 // ---- The checks that lead each row: of an event on a volatile variable.
 
 // Which of 26, 27 and 28 are broken.
-#[derive(Drop)]
+#[derive(Clone, Copy)]
 struct Lead {
     pub neighbour: bool,
     pub order: bool,
@@ -948,14 +950,14 @@ pub fn wait_turn(
 // ---- An event of any letter.
 
 // The slots at the first place of a queue and behind its last.
-#[derive(Drop)]
+#[derive(Clone, Copy)]
 pub struct Ends {
     pub front: Slot,
     pub behind: Slot,
 }
 
 // The parts of a state that an event may look at.
-#[derive(Drop)]
+#[derive(Clone, Copy)]
 pub struct Parts {
     pub cell: Cell,
     pub reads: Ends,
@@ -967,7 +969,7 @@ pub struct Parts {
 }
 
 // 0 or the number of the first check of the event's row that is broken, and what the event leaves of each part.
-#[derive(Drop)]
+#[derive(Clone, Copy)]
 pub struct Turn {
     pub rule: u8,
     pub cell: Cell,

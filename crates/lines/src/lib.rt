@@ -1,4 +1,6 @@
 // The lines of a text and the fields of a line.
+#![tactic(auto)]
+
 ghost use Rattle.std.specs.Prelude.{◌≡◌, [], cond, ◌+◌, eqb, length, get_or, drop};
 ghost use Rattle.lines.specs.Lines.{before, split_on, letter, up_to};
 

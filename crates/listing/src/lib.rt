@@ -1,5 +1,7 @@
 // The lines that are printed for a trace and for a sheet. Each goes to the front of what remains of an output, and its writer answers its length.
 // Where less room remains than a line may need, nothing of it is written.
+#![tactic(auto)]
+
 ghost use Rattle.std.specs.Prelude.{◌∷◌, ◌≤◌, ◌<◌, length};
 ghost use Rattle.rules.specs.Memories.{below, each};
 ghost use Rattle.decimal.specs.Text.{natural_text, word_row, word_value, ended, room, Wrote};

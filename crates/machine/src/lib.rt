@@ -1,5 +1,7 @@
 // The marking of events one after the other: a row of records by index, with the state and what lock events ask for in locals; and one step over a
 // state that the caller keeps, by value.
+#![tactic(auto)]
+
 ghost use Rattle.std.specs.Prelude.{◌≡◌, cond, ◌≤◌, ◌<◌, [], length};
 ghost use Rattle.rules.specs.Limits.{full, limits_of, line_after};
 ghost use Rattle.rules.specs.Rules.{judge, accepted, refused, said};
@@ -21,21 +23,21 @@ use rules::{
 use state::{Cell, SLOTS, State};
 
 // What is said of an event, and the state that is left.
-#[derive(Drop)]
+#[derive(Clone, Copy)]
 pub struct Answer {
     pub verdict: Verdict,
     pub state: State,
 }
 
 // What is said of a row of events from the initial state, and the memories after the last.
-#[derive(Drop)]
+#[derive(Clone, Copy)]
 pub struct Outcome {
     pub verdict: Verdict,
     pub memories: Memories,
 }
 
 // How many of a thread's declared variables have a pending prescient store, a fresh assign, an outstanding store that N and Y count.
-#[derive(Drop)]
+#[derive(Clone, Copy)]
 pub struct Tally {
     pub pending: u32,
     pub fresh: u32,
@@ -509,7 +511,7 @@ fn parts_of(s: State, t: usize, v: usize, l: usize, u: usize) -> Parts
 }
 
 // What an event breaks, and the state after it.
-#[derive(Drop)]
+#[derive(Clone, Copy)]
 struct Judged {
     rule: u8,
     state: State,

@@ -1,4 +1,6 @@
 // Reads a trace of the short course from standard input, marks it, and writes its listing to standard output.
+#![tactic(auto)]
+
 use print::INPUT;
 use rules::Course;
 

@@ -1,4 +1,6 @@
 // Marks a whole trace: finds it in the bytes, reads its lines into two rows of plain numbers, and marks these.
+#![tactic(auto)]
+
 ghost use Rattle.std.specs.Prelude.{◌≡◌, ◌≤◌, length};
 ghost use Rattle.rules.specs.Limits.{limits_of};
 ghost use Rattle.rules.specs.Rules.{refused};
@@ -10,7 +12,7 @@ use rules::{CELLS, Cached, Counts, Course, Main, Memories, RECORDS, VARIABLES, V
 use trace::Guards;
 
 // What is said of a trace; of an accepted one also its head, its guards, the number of its events, and the memories after the last.
-#[derive(Drop)]
+#[derive(Clone, Copy)]
 pub struct Marking {
     pub verdict: Verdict,
     pub head: Counts,

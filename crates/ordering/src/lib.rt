@@ -1,5 +1,7 @@
 // The serial order of a trace's critical sections, or what denies it one. The events are two rows of records, of a trace that is accepted. The
 // first pass asks 20 to 22 and writes nothing lent; the second lists the sections.
+#![tactic(auto)]
+
 ghost use Rattle.std.specs.Prelude.{◌≡◌, false, cond, ◌≤◌, ◌<◌, ◌+◌, length, replicate, take};
 ghost use Rattle.rules.specs.Limits.{full, limits_of, order_short, line_after};
 ghost use Rattle.rules.specs.declared.Verdict.TheVariants.{Refused};
@@ -15,7 +17,7 @@ use rules::{CELLS, Counts, Course, RECORDS, THREADS, VARIABLES, Value, Verdict};
 use trace::Guards;
 
 // What is said of the order of a trace. `answer_for` in specs/Answer.antt says when each case is given, with its number and values.
-#[derive(Drop)]
+#[derive(Clone, Copy)]
 pub enum Ordering {
     // An order, with so many sections.
     Ordered(usize),
@@ -333,7 +335,7 @@ fn order_front(
 }
 
 // A trace marked, and what is said of its order.
-#[derive(Drop)]
+#[derive(Clone, Copy)]
 pub struct Outcome {
     pub marking: Marking,
     pub ordering: Ordering,

@@ -1,4 +1,6 @@
 // Holds papers of documents 01 and 02 and writes their listings, one after the other, to standard output.
+#![tactic(auto)]
+
 use rules::Course;
 
 // A paper of the full course.

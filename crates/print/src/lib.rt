@@ -1,5 +1,7 @@
 // What the programs do: a trace or a session sheet is read from standard input, and its listing, its tail or its counts are written to standard
 // output.
+#![tactic(auto)]
+
 ghost use Rattle.std.specs.Prelude.{◌≤◌, ◌≡◌, cond, ltb, length, take};
 ghost use Rattle.rules.specs.Limits.{full, limits_of};
 ghost use Rattle.decimal.specs.Text.{over};
@@ -15,7 +17,7 @@ use tail_text::TAIL_TEXT;
 pub const INPUT: usize = 65537;
 
 // What was read of the standard input: so many bytes, and whether they are all of it or all that there is room for.
-#[derive(Drop)]
+#[derive(Clone, Copy)]
 pub struct Input {
     pub count: usize,
     pub whole: bool,

@@ -1,4 +1,6 @@
 // Records: an event as two plain numbers. Their layout is in specs/Records.antt.
+#![tactic(auto)]
+
 ghost use Rattle.std.specs.Prelude.{◌≡◌};
 ghost use Rattle.records.specs.Records.{what_of, packed, letter_in, thread_in, place_in, onto};
 

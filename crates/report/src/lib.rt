@@ -1,5 +1,7 @@
 // A whole trace: marked, with its records, its serial order and its listing in lent memory. Nothing lent is touched before it is known what
 // is to be written.
+#![tactic(auto)]
+
 ghost use Rattle.std.specs.Prelude.{◌≡◌, ◌++◌, min};
 ghost use Rattle.rules.specs.Limits.{limits_of};
 ghost use Rattle.decimal.specs.Text.{Wrote};
@@ -11,7 +13,7 @@ use ordering::Ordering;
 use rules::{Counts, Course, Memories, RECORDS, Value, Verdict};
 
 // What is said of a trace: the verdict, the number of events of an accepted one, what is said of its order, and the length of the listing.
-#[derive(Drop)]
+#[derive(Clone, Copy)]
 pub struct Report {
     pub verdict: Verdict,
     pub events: usize,

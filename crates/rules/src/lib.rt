@@ -1,4 +1,6 @@
 // The events of a trace, what a trace declares, and what is said of it. What the rules say of events stands in specs/.
+#![tactic(auto)]
+
 ghost use Rattle.std.specs.Prelude.{◌≡◌};
 ghost use Rattle.rules.specs.Events.{letter, place, capped, value, thread_of, is_letter, is_lock_letter, kind_of, subject_of};
 ghost use Rattle.rules.specs.Limits.{full, limits_of, most_counts, volatile, any_volatile, stray_volatile, line_after, allowed, declared, lent_short, order_short};
@@ -28,7 +30,7 @@ pub const ENTRIES: usize = 1000;
 pub const SCRATCH: usize = 1000;
 
 // The thirteen kinds, each with its own data: a variable and a value, a lock, or a lock and a thread.
-#[derive(Drop)]
+#[derive(Clone, Copy)]
 pub enum Kind {
     Use(usize, Value),
     Assign(usize, Value),
@@ -51,14 +53,14 @@ pub enum Kind {
 }
 
 // A kind, or none.
-#[derive(Drop)]
+#[derive(Clone, Copy)]
 pub enum Named {
     Nothing,
     Of(Kind),
 }
 
 // An event: its thread, the number of its line in the trace, and its kind.
-#[derive(Drop)]
+#[derive(Clone, Copy)]
 pub struct Event {
     pub thread: usize,
     pub line: usize,
@@ -68,7 +70,7 @@ pub struct Event {
 // An outstanding read or store: its value, and a position among all events, from 1: of a read its own, of a store that of its assign, of a P its own.
 // With 64 bits for each it has no padding, and the empty queues of a first state are cleared at once.
 #[repr(C)]
-#[derive(Drop)]
+#[derive(Clone, Copy)]
 pub struct Slot {
     pub value: Value,
     pub position: usize,
@@ -76,7 +78,7 @@ pub struct Slot {
 
 // How many threads, variables and locks a trace declares in its head, and which variables its V line names.
 #[repr(C)]
-#[derive(Drop)]
+#[derive(Clone, Copy)]
 pub struct Counts {
     pub threads: usize,
     pub variables: usize,
@@ -85,7 +87,7 @@ pub struct Counts {
 }
 
 // The course that a trace is written for: each has its own limits.
-#[derive(Drop)]
+#[derive(Clone, Copy)]
 pub enum Course {
     Full,
     Short,
@@ -93,27 +95,27 @@ pub enum Course {
 
 // The value of a variable in main memory.
 #[repr(C)]
-#[derive(Drop)]
+#[derive(Clone, Copy)]
 pub struct Main {
     pub value: Value,
 }
 
 // A thread's copy of a variable: its value, and whether it is usable.
-#[derive(Drop)]
+#[derive(Clone, Copy)]
 pub struct Cached {
     pub value: Value,
     pub usable: bool,
 }
 
 // The memories after the last event: each variable in main memory, and the copy of thread t and variable v at 16 * t + v.
-#[derive(Drop)]
+#[derive(Clone, Copy)]
 pub struct Memories {
     pub main: [Main; VARIABLES],
     pub copies: [Cached; CELLS],
 }
 
 // Accepted, or refused with this number and line.
-#[derive(Drop)]
+#[derive(Clone, Copy)]
 pub enum Verdict {
     Accepted,
     Refused(u8, usize),

@@ -1,4 +1,6 @@
 // The session sheet: traces joined end to end, found from the last trailer backwards, marked and counted.
+#![tactic(auto)]
+
 ghost use Rattle.std.specs.Prelude.{◌≡◌, [], ◌∷◌, ◌≤◌, ◌<◌, length};
 ghost use Rattle.rules.specs.Limits.{full, limits_of};
 ghost use Rattle.rules.specs.Rules.{number_in};
@@ -14,7 +16,7 @@ use decimal::Natural;
 use rules::{Course, OUTPUT, RECORDS, Value, Verdict};
 
 // Where the last trace of what is left of a sheet starts.
-#[derive(Drop)]
+#[derive(Clone, Copy)]
 pub enum Start {
     Nowhere,
     At(usize),
@@ -22,7 +24,7 @@ pub enum Start {
 
 // What is said of a sheet: its refusal, or how many traces it holds and how many of them are accepted, both 0 after a refusal; and the length of
 // its text.
-#[derive(Drop)]
+#[derive(Clone, Copy)]
 pub struct Session {
     pub verdict: Verdict,
     pub traces: usize,
@@ -34,7 +36,7 @@ pub struct Session {
 const NUMBERS: usize = 31;
 
 // Whether the traces of a sheet are found, how many they are, and how often each number occurs, 0 of those that are accepted.
-#[derive(Drop)]
+#[derive(Clone, Copy)]
 struct Tally {
     found: bool,
     count: usize,

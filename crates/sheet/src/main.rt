@@ -1,4 +1,6 @@
 // Reads a session sheet from standard input, and writes its counts to standard output.
+#![tactic(auto)]
+
 use print::INPUT;
 use rules::Course;
 

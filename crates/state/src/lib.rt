@@ -1,5 +1,7 @@
 // The state of the marker, which a caller keeps: what its fields say is in specs/State.antt, refusal 8 in specs/Range.antt, and the state
 // after an event in specs/Step.antt.
+#![tactic(auto)]
+
 ghost use Rattle.std.specs.Prelude.{◌≡◌, true, ◌<◌, length};
 ghost use Rattle.rules.specs.Limits.{limits_of};
 ghost use Rattle.state.specs.State.{start};
@@ -10,7 +12,7 @@ use rules::{CELLS, Counts, Course, LOCKS, Main, Slot, THREADS, VARIABLES, Value}
 
 // A queue of at most eight: its oldest is at place `first` of the cell's eight places (modulo 8), the others follow it round.
 #[repr(C)]
-#[derive(Drop)]
+#[derive(Clone, Copy)]
 pub struct Ring {
     pub first: u8,
     pub len: u8,
@@ -18,7 +20,7 @@ pub struct Ring {
 
 // What is kept for one thread and variable. The outstanding reads and stores themselves are in the state's `reads` and `stores`.
 #[repr(C)]
-#[derive(Drop)]
+#[derive(Clone, Copy)]
 pub struct Cell {
     pub copy: Value,
     pub announced: Value,
@@ -41,7 +43,7 @@ pub struct Cell {
 
 // Who holds a lock: the thread's number plus 1, or 0 where nobody does, and how many times.
 #[repr(C)]
-#[derive(Drop)]
+#[derive(Clone, Copy)]
 pub struct Hold {
     pub holder: usize,
     pub depth: u32,
@@ -49,7 +51,7 @@ pub struct Hold {
 
 // Which lock a thread waits on: its number plus 1, or 0 where it does not wait; how many holds it gave up; and whether it is notified.
 #[repr(C)]
-#[derive(Drop)]
+#[derive(Clone, Copy)]
 pub struct Waiting {
     pub lock: usize,
     pub depth: u32,
@@ -60,7 +62,7 @@ pub struct Waiting {
 pub const SLOTS: usize = 8 * CELLS;
 
 #[repr(C)]
-#[derive(Drop)]
+#[derive(Clone, Copy)]
 pub struct State {
     // The declared threads, variables and locks, and the volatile variables.
     pub counts: Counts,

@@ -1,4 +1,6 @@
 // Reads a trace from standard input, and writes the lines of the tail that finishes it to standard output.
+#![tactic(auto)]
+
 use print::INPUT;
 use rules::Course;
 

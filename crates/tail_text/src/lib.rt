@@ -1,4 +1,6 @@
 // The text of the tail that finishes a trace, into a lent output.
+#![tactic(auto)]
+
 ghost use Rattle.std.specs.Prelude.{◌+◌, ◌≤◌, length};
 ghost use Rattle.rules.specs.Limits.{limits_of};
 ghost use Rattle.decimal.specs.Text.{room, Wrote};

@@ -1,4 +1,6 @@
 // Finding a trace in bytes: its refusal, or its head, its guards, its volatile variables and the part that holds its events.
+#![tactic(auto)]
+
 ghost use Rattle.std.specs.Prelude.{◌≡◌, ◌+◌, ◌≤◌, length, drop};
 ghost use Rattle.lines.specs.Lines.{split_on};
 ghost use Rattle.decimal.specs.Decimal.{natural_of};
@@ -10,14 +12,14 @@ use decimal::Natural;
 use rules::{Counts, Course, VARIABLES, Verdict};
 
 // The guards of a trace: whether line 2 names locks, and then the lock of each variable, 0 past the last.
-#[derive(Drop)]
+#[derive(Clone, Copy)]
 pub struct Guards {
     pub given: bool,
     pub locks: [usize; VARIABLES],
 }
 
 // A trace that was found, with the places where its events start and its trailer starts; all 0 after a refusal.
-#[derive(Drop)]
+#[derive(Clone, Copy)]
 pub struct Trace {
     pub verdict: Verdict,
     pub head: Counts,
@@ -27,28 +29,28 @@ pub struct Trace {
 }
 
 // The last line: where it starts, and the number of a trailer where it is one.
-#[derive(Drop)]
+#[derive(Clone, Copy)]
 pub struct LastLine {
     pub at: usize,
     pub number: Natural,
 }
 
 // The trailer: wrong, or where it starts.
-#[derive(Drop)]
+#[derive(Clone, Copy)]
 pub enum Trailer {
     Wrong,
     At(usize),
 }
 
 // The head: whether line 1 is right, and its counts; all 0 where it is wrong.
-#[derive(Drop)]
+#[derive(Clone, Copy)]
 pub struct Headed {
     pub ok: bool,
     pub head: Counts,
 }
 
 // Line 2: whether it is right, whether it names locks, and the lock of each variable.
-#[derive(Drop)]
+#[derive(Clone, Copy)]
 pub struct GuardLine {
     pub ok: bool,
     pub given: bool,
@@ -56,7 +58,7 @@ pub struct GuardLine {
 }
 
 // A line 3 that begins with V: whether it is right, and which variables it names.
-#[derive(Drop)]
+#[derive(Clone, Copy)]
 pub struct VolatileLine {
     pub ok: bool,
     pub volatiles: [bool; VARIABLES],

@@ -1,5 +1,7 @@
 // The canonical text of a trace, written line by line: each line goes to the front of what remains of an output, and its writer answers its
 // length. Where less room remains than a writer asks for, it writes nothing.
+#![tactic(auto)]
+
 ghost use Rattle.std.specs.Prelude.{◌+◌, ◌*◌, length};
 ghost use Rattle.decimal.specs.Text.{ended, room, Wrote};
 ghost use Rattle.writer.specs.Text.{head_line, guard_row, volatiles_text, event_line, trailer_line};
