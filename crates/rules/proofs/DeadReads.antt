@@ -10,7 +10,7 @@ use lib.IntN.{ℤ}
 use lib.ListN.{length}
 use borrow.Author.Tests.{not-true, lt-ltb, eqb-true, eqb-false}
 use Rattle.rules.specs.declared.Kind.{Kind}
-use Rattle.rules.specs.declared.Kind.TheVariants.{Assign, Load, Store, Read, Write, PrescientStore, PrescientAssign}
+use Rattle.rules.specs.declared.Kind.TheVariants.{Assign, Load, Store, Read, Write, PrescientStore, PrescientAssign, Unlock, Notify, Lock, Use, Wait, Resume}
 use Rattle.rules.specs.declared.Event.{Event}
 use Rattle.rules.specs.declared.Slot.{Slot}
 use Rattle.rules.specs.declared.Counts.{Counts}
@@ -64,6 +64,12 @@ barred_load h w t n v x p d = go d.why
 barred_change : (h : Counts) (w : Words) (t n : ℕ) (k : Kind) → T (is changing (event_by t n k)) → judge_but 23 h w (event_by t n k) ≡ 0 → Barred (cell_of w t (place k)) w.events
     → Barred (changed (suc w.events) k (cell_of w t (place k))) (suc w.events)
 unfolding judge judge_but except row_in rows is
+barred_change h w t n (Use _ _) o p d = elim o [ ]
+barred_change h w t n (Lock _) o p d = elim o [ ]
+barred_change h w t n (Unlock _) o p d = elim o [ ]
+barred_change h w t n (Wait _) o p d = elim o [ ]
+barred_change h w t n (Notify _ _) o p d = elim o [ ]
+barred_change h w t n (Resume _) o p d = elim o [ ]
 barred_change h w t n (Assign v x) o p d = record { waits = d.waits; early = omega (arith, d.early); why = go d.why }
   where
     go : Bar (cell_of w t v) → Bar (changed (suc w.events) (Assign v x) (cell_of w t v))
@@ -106,6 +112,17 @@ barred_next h w t n k p u m d =
 -- the rows of L and W are without 23
 whole_row : (h : Counts) (w : Words) (t n : ℕ) (k : Kind) → T (is (L ∷ W ∷ []) (event_by t n k)) → judge_but 23 h w (event_by t n k) ≡ 0 → judge h w (event_by t n k) ≡ 0
 unfolding is judge judge_but except row_in rows
+whole_row h w t n (Use _ _) o p = elim o [ ]
+whole_row h w t n (Assign _ _) o p = elim o [ ]
+whole_row h w t n (Store _ _) o p = elim o [ ]
+whole_row h w t n (Read _ _) o p = elim o [ ]
+whole_row h w t n (Lock _) o p = elim o [ ]
+whole_row h w t n (Unlock _) o p = elim o [ ]
+whole_row h w t n (PrescientStore _ _) o p = elim o [ ]
+whole_row h w t n (PrescientAssign _ _) o p = elim o [ ]
+whole_row h w t n (Wait _) o p = elim o [ ]
+whole_row h w t n (Notify _ _) o p = elim o [ ]
+whole_row h w t n (Resume _) o p = elim o [ ]
 whole_row h w t n (Load v x) o p = p
 whole_row h w t n (Write v x) o p = p
 
@@ -119,6 +136,18 @@ barred_no_load h w t n k p u m d = cases (by (L ∷ []) u m e) (λ q. absurd (lo
     e = event_by t n k
 
     loaded : (k : Kind) → T (is (L ∷ []) (event_by t n k)) → judge h w (event_by t n k) ≡ 0 → Barred (cell_of w t (place k)) w.events → ⊥
+    loaded (Use _ _) o p d = elim o [ ]
+    loaded (Assign _ _) o p d = elim o [ ]
+    loaded (Store _ _) o p d = elim o [ ]
+    loaded (Read _ _) o p d = elim o [ ]
+    loaded (Write _ _) o p d = elim o [ ]
+    loaded (Lock _) o p d = elim o [ ]
+    loaded (Unlock _) o p d = elim o [ ]
+    loaded (PrescientStore _ _) o p d = elim o [ ]
+    loaded (PrescientAssign _ _) o p d = elim o [ ]
+    loaded (Wait _) o p d = elim o [ ]
+    loaded (Notify _ _) o p d = elim o [ ]
+    loaded (Resume _) o p d = elim o [ ]
     loaded (Load v x) o p d = barred_load h w t n v x p d
 
     loads : T (by (L ∷ []) u m e) → ⊥
@@ -206,6 +235,16 @@ first_new a b x (s ∷ ss) p = omega (arith, p.1)
 barred_start : (w : Words) (t n : ℕ) (k : Kind) → T (dead_read w (event_by t n k)) → Live (cell_of w t (place k)) w.events
     → Barred (changed (suc w.events) k (cell_of w t (place k))) (suc w.events)
 unfolding dead_read is cell_of
+barred_start w t n (Use _ _) p l = elim p [ ]
+barred_start w t n (Load _ _) p l = elim p [ ]
+barred_start w t n (Store _ _) p l = elim p [ ]
+barred_start w t n (Write _ _) p l = elim p [ ]
+barred_start w t n (Lock _) p l = elim p [ ]
+barred_start w t n (Unlock _) p l = elim p [ ]
+barred_start w t n (PrescientAssign _ _) p l = elim p [ ]
+barred_start w t n (Wait _) p l = elim p [ ]
+barred_start w t n (Notify _ _) p l = elim p [ ]
+barred_start w t n (Resume _) p l = elim p [ ]
 barred_start w t n (Assign v x) p l = record {
   waits = not-true (none? (w.reads t v)) (is_true (and_right (not (w.pending t v)) (not (none? (w.reads t v))) both));
   early = first_below (w.last_write t v) w.events (w.reads t v) l.placed;

@@ -10,7 +10,7 @@ use lib.Dec.{T, eqb, ltb, eqb→eq}
 use borrow.Author.Tests.{eqb-true, lt-ltb, ltb-true, ltb-false, le-ltb, not-false}
 use Rattle.rules.specs.declared.Event.{Event}
 use Rattle.rules.specs.declared.Kind.{Kind}
-use Rattle.rules.specs.declared.Kind.TheVariants.{Lock, Unlock, Wait, Resume}
+use Rattle.rules.specs.declared.Kind.TheVariants.{Lock, Unlock, Wait, Resume, Read, Load, PrescientStore, Write, Notify, PrescientAssign, Assign, Use, Store}
 use Rattle.rules.specs.declared.Counts.{Counts}
 use Rattle.rules.specs.Events.{C, F, K, N, Y, letter, subject, subject_of, among, is, of, on, locks, unlocks}
 use Rattle.rules.specs.Held.{Balance, Balanced}
@@ -79,6 +79,15 @@ module _ (c : Counts) (t l : ℕ) (d : l < c.locks) (es : List Event) where
 
   balance_next : (k : Kind) (u ln : ℕ) → T (is gripping (record { thread = u; line = ln; kind = k })) → judge c (words_of es) (record { thread = u; line = ln; kind = k }) ≡ 0 → Balanced t l es → Balanced t l (record { thread = u; line = ln; kind = k } ∷ es)
   unfolding count by is of on grip grip_after depth remembered
+  balance_next (Use _ _) u ln o j b = elim o [ ]
+  balance_next (Assign _ _) u ln o j b = elim o [ ]
+  balance_next (Load _ _) u ln o j b = elim o [ ]
+  balance_next (Store _ _) u ln o j b = elim o [ ]
+  balance_next (Read _ _) u ln o j b = elim o [ ]
+  balance_next (Write _ _) u ln o j b = elim o [ ]
+  balance_next (PrescientStore _ _) u ln o j b = elim o [ ]
+  balance_next (PrescientAssign _ _) u ln o j b = elim o [ ]
+  balance_next (Notify _ _) u ln o j b = elim o [ ]
   balance_next (Lock i) u ln o j b = lock_balance _ _ _ _ _ _ b (here u i) (λ x. none_remembered u i x (not_waiting c (words_of es) _ j tt))
   balance_next (Unlock i) u ln o j b = unlock_balance _ _ _ _ _ _ b (here u i) (λ x. some_held u i x (unlock_held c (words_of es) _ j tt))
   balance_next (Wait i) u ln o j b = wait_balance _ _ _ _ _ _ b (here u i) (λ x. (some_held u i x (unlock_held c (words_of es) _ j tt), none_remembered u i x (not_waiting c (words_of es) _ j tt)))
@@ -150,6 +159,17 @@ module _ (c : Counts) (t : ℕ) where
 
   one_next : (es : List Event) (k : Kind) (u ln : ℕ) → T (is (Y ∷ C ∷ []) (record { thread = u; line = ln; kind = k })) → judge c (words_of es) (record { thread = u; line = ln; kind = k }) ≡ 0 → One es → One (record { thread = u; line = ln; kind = k } ∷ es)
   unfolding by is of on grip grip_after remembered
+  one_next es (Use _ _) u ln o j b = elim o [ ]
+  one_next es (Assign _ _) u ln o j b = elim o [ ]
+  one_next es (Load _ _) u ln o j b = elim o [ ]
+  one_next es (Store _ _) u ln o j b = elim o [ ]
+  one_next es (Read _ _) u ln o j b = elim o [ ]
+  one_next es (Write _ _) u ln o j b = elim o [ ]
+  one_next es (Lock _) u ln o j b = elim o [ ]
+  one_next es (Unlock _) u ln o j b = elim o [ ]
+  one_next es (PrescientStore _ _) u ln o j b = elim o [ ]
+  one_next es (PrescientAssign _ _) u ln o j b = elim o [ ]
+  one_next es (Notify _ _) u ln o j b = elim o [ ]
   one_next es (Wait n) u ln o j b = λ l i dl di. go (eqb u t) refl l i dl di
     where
       idle : u ≡ t → (l : ℕ) → l < c.locks → 0 < (grip t l es).remembered → ⊥

@@ -7,7 +7,7 @@ use mathlib.Core.List.{List, [], ◌∷◌, ◌++◌}
 use lib.Dec.{T}
 use lib.IntN.{ℤ}
 use Rattle.rules.specs.declared.Kind.{Kind}
-use Rattle.rules.specs.declared.Kind.TheVariants.{Assign, Load, Store, Read, Write, PrescientStore, PrescientAssign}
+use Rattle.rules.specs.declared.Kind.TheVariants.{Assign, Load, Store, Read, Write, PrescientStore, PrescientAssign, Unlock, Notify, Lock, Use, Wait, Resume}
 use Rattle.rules.specs.declared.Event.{Event}
 use Rattle.rules.specs.declared.Slot.{Slot}
 use Rattle.rules.specs.declared.Counts.{Counts}
@@ -95,6 +95,12 @@ live_none c n q h = record { written = λ r. absurd (false≢true (sym r ∙ q))
 live_change : (h : Counts) (w : Words) (t n : ℕ) (k : Kind) → T (is changing (event_by t n k)) → Kept h w t k → Live (cell_of w t (place k)) w.events
     → Live (changed (suc w.events) k (cell_of w t (place k))) (suc w.events)
 unfolding cell_of is
+live_change h w t n (Use _ _) o r l = elim o [ ]
+live_change h w t n (Lock _) o r l = elim o [ ]
+live_change h w t n (Unlock _) o r l = elim o [ ]
+live_change h w t n (Wait _) o r l = elim o [ ]
+live_change h w t n (Notify _ _) o r l = elim o [ ]
+live_change h w t n (Resume _) o r l = elim o [ ]
 live_change h w t n (Assign v x) o r l = record {
   written = l.written;
   stored = λ q f. not_not (w.pending t v) (λ p. false≢true (sym r ∙ dead_assign w t v x p q));

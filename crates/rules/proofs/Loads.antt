@@ -10,7 +10,7 @@ use lib.IntN.{ℤ}
 use lib.ListN.{length, length-append}
 use borrow.Author.Tests.{lt-ltb, ltb-true, le-ltb, eq-eqb}
 use Rattle.rules.specs.declared.Kind.{Kind}
-use Rattle.rules.specs.declared.Kind.TheVariants.{Load, Unlock, PrescientAssign, Wait}
+use Rattle.rules.specs.declared.Kind.TheVariants.{Load, Unlock, PrescientAssign, Wait, Read, PrescientStore, Write, Notify, Lock, Assign, Use, Resume, Store}
 use Rattle.rules.specs.declared.Event.{Event}
 use Rattle.rules.specs.declared.Slot.{Slot}
 use Rattle.rules.specs.declared.Counts.{Counts}
@@ -38,6 +38,18 @@ first_after a b (s ∷ ss) q p = le-ltb s.position a p.0
 load_live : (h : Counts) (w : Words) (t n : ℕ) (k : Kind) → AllLive w → T (is (L ∷ []) (event_by t n k))
     → (judge h w (event_by t n k) ≡ 15 → ⊥) × (judge h w (event_by t n k) ≡ 16 → ⊥)
 unfolding judge first_broken row_in rows breaks no_partner pending_bars not_stored read_before_write not_written is locks unlocks cell_of
+load_live h w t n (Use _ _) l o = elim o [ ]
+load_live h w t n (Assign _ _) l o = elim o [ ]
+load_live h w t n (Store _ _) l o = elim o [ ]
+load_live h w t n (Read _ _) l o = elim o [ ]
+load_live h w t n (Write _ _) l o = elim o [ ]
+load_live h w t n (Lock _) l o = elim o [ ]
+load_live h w t n (Unlock _) l o = elim o [ ]
+load_live h w t n (PrescientStore _ _) l o = elim o [ ]
+load_live h w t n (PrescientAssign _ _) l o = elim o [ ]
+load_live h w t n (Wait _) l o = elim o [ ]
+load_live h w t n (Notify _ _) l o = elim o [ ]
+load_live h w t n (Resume _) l o = elim o [ ]
 load_live h w t n (Load v x) l o = (λ p. stored (earlier row h w e 10 15 p tt) (earlier row h w e 13 15 p tt) (broken_is row h w e 14 p), λ p. written (earlier row h w e 10 16 p tt) (broken_is row h w e 15 p))
   where
     e : Event
@@ -61,6 +73,16 @@ load_clear h es e l o = load_live h (words_of es) e.thread e.line e.kind (live h
 -- 15 and 16 stand in the rows of L, N and Y alone
 rows_of : (t n : ℕ) (k : Kind) → T (among (row_in rows (letter k)) 15 || among (row_in rows (letter k)) 16) → (T (is (L ∷ []) (event_by t n k)) → ⊥) → T (unlocks (event_by t n k))
 unfolding row_in rows is unlocks
+rows_of t n (Use _ _) r f = elim r [ ]
+rows_of t n (Assign _ _) r f = elim r [ ]
+rows_of t n (Store _ _) r f = elim r [ ]
+rows_of t n (Read _ _) r f = elim r [ ]
+rows_of t n (Write _ _) r f = elim r [ ]
+rows_of t n (Lock _) r f = elim r [ ]
+rows_of t n (PrescientStore _ _) r f = elim r [ ]
+rows_of t n (PrescientAssign _ _) r f = elim r [ ]
+rows_of t n (Notify _ _) r f = elim r [ ]
+rows_of t n (Resume _) r f = elim r [ ]
 rows_of t n (Load v x) r f = absurd (f tt)
 rows_of t n (Unlock m) r f = tt
 rows_of t n (Wait m) r f = tt
@@ -178,6 +200,17 @@ module _ (h : Counts) (t v : ℕ) (a : t < h.threads) (b : v < h.variables) (c :
   -- L and B are declared, and while T does not wait the rules that lead the rows ask nothing
   leads : (k : Kind) → place k ≡ v → T (is (L ∷ B ∷ []) (event_by t 0 k)) → (w : Words) → waits h w t ≡ false → (declared h (event_by t 0 k) ≡ true) × Led h w (event_by t 0 k)
   unfolding declared subject_of on_lock of_waiting not_notified is
+  leads (Use _ _) s o w z = elim o [ ]
+  leads (Assign _ _) s o w z = elim o [ ]
+  leads (Store _ _) s o w z = elim o [ ]
+  leads (Read _ _) s o w z = elim o [ ]
+  leads (Write _ _) s o w z = elim o [ ]
+  leads (Lock _) s o w z = elim o [ ]
+  leads (Unlock _) s o w z = elim o [ ]
+  leads (PrescientStore _ _) s o w z = elim o [ ]
+  leads (Wait _) s o w z = elim o [ ]
+  leads (Notify _ _) s o w z = elim o [ ]
+  leads (Resume _) s o w z = elim o [ ]
   leads (Load u x) s o w z = (rw (s, lt-ltb t h.threads a, lt-ltb v h.variables b), record { idle = z; told = refl; plain = rw s c })
   leads (PrescientAssign u x) s o w z = (rw (s, lt-ltb t h.threads a, lt-ltb v h.variables b), record { idle = z; told = refl; plain = rw s c })
 

@@ -12,7 +12,7 @@ use lib.IntN.{ℤ}
 use lib.ListN.{length}
 use borrow.Author.Tests.{eqb-true, eq-eqb, ne_eqb, lt-ltb, not-false}
 use Rattle.rules.specs.declared.Kind.{Kind}
-use Rattle.rules.specs.declared.Kind.TheVariants.{Assign, Load, Store, Read, Write, Unlock, PrescientStore, PrescientAssign, Wait}
+use Rattle.rules.specs.declared.Kind.TheVariants.{Assign, Load, Store, Read, Write, Unlock, PrescientStore, PrescientAssign, Wait, Notify, Lock, Use, Resume}
 use Rattle.rules.specs.declared.Event.{Event}
 use Rattle.rules.specs.declared.Slot.{Slot}
 use Rattle.rules.specs.declared.Counts.{Counts}
@@ -62,6 +62,12 @@ latest_p p k z = cond (is (P ∷ []) (event_by 0 0 k)) (slot_at p (value k)) z
 prescient_change : (h : Counts) (w : Words) (t n : ℕ) (k : Kind) (z : Slot) → T (is changing (event_by t n k)) → Kept h w t k → Prescient z (cell_of w t (place k)) w.events
     → Prescient (latest_p (suc w.events) k z) (changed (suc w.events) k (cell_of w t (place k))) (suc w.events)
 unfolding cell_of is
+prescient_change h w t n (Use _ _) z o r e = elim o [ ]
+prescient_change h w t n (Lock _) z o r e = elim o [ ]
+prescient_change h w t n (Unlock _) z o r e = elim o [ ]
+prescient_change h w t n (Wait _) z o r e = elim o [ ]
+prescient_change h w t n (Notify _ _) z o r e = elim o [ ]
+prescient_change h w t n (Resume _) z o r e = elim o [ ]
 prescient_change h w t n (Assign v x) z o r e = record { placed = placed_later 0 w.events (w.stores t v) e.placed; assigned = omega arith; ending = e.ending }
 prescient_change h w t n (Load v x) z o r e = record { placed = placed_later 0 w.events (w.stores t v) e.placed; assigned = omega (arith, e.assigned); ending = e.ending }
 prescient_change h w t n (Store v x) z o r e = record {
@@ -192,6 +198,17 @@ unlock_row z a b c = cond z 29 (cond a 12 (cond b 15 (cond c 16 0)))
 unlock_judge : (h : Counts) (w : Words) (t n : ℕ) (k : Kind) → T (unlocks (event_by t n k))
     → judge h w (event_by t n k) ≡ unlock_row (breaks 29 h w (event_by t n k)) (breaks 12 h w (event_by t n k)) (breaks 15 h w (event_by t n k)) (on_some h (unwritten w) (event_by t n k))
 unfolding judge rows row_in first_broken breaks not_written wrong_neighbour use_barred write_barred volatile_order prescient_volatile not_notified unlocks is
+unlock_judge h w t n (Use _ _) o = elim o [ ]
+unlock_judge h w t n (Assign _ _) o = elim o [ ]
+unlock_judge h w t n (Load _ _) o = elim o [ ]
+unlock_judge h w t n (Store _ _) o = elim o [ ]
+unlock_judge h w t n (Read _ _) o = elim o [ ]
+unlock_judge h w t n (Write _ _) o = elim o [ ]
+unlock_judge h w t n (Lock _) o = elim o [ ]
+unlock_judge h w t n (PrescientStore _ _) o = elim o [ ]
+unlock_judge h w t n (PrescientAssign _ _) o = elim o [ ]
+unlock_judge h w t n (Notify _ _) o = elim o [ ]
+unlock_judge h w t n (Resume _) o = elim o [ ]
 unlock_judge h w t n (Unlock l) o = refl
 unlock_judge h w t n (Wait l) o = refl
 

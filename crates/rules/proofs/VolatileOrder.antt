@@ -9,7 +9,7 @@ use lib.Dec.{T, ltb}
 use lib.ListN.{length}
 use borrow.Author.Tests.{ltb-true, ltb-false, not-false}
 use Rattle.rules.specs.declared.Kind.{Kind}
-use Rattle.rules.specs.declared.Kind.TheVariants.{Assign, Store, Write, PrescientStore, PrescientAssign}
+use Rattle.rules.specs.declared.Kind.TheVariants.{Assign, Store, Write, PrescientStore, PrescientAssign, Read, Unlock, Load, Notify, Lock, Use, Wait, Resume}
 use Rattle.rules.specs.declared.Event.{Event}
 use Rattle.rules.specs.declared.Slot.{Slot}
 use Rattle.rules.specs.declared.Counts.{Counts}
@@ -113,6 +113,14 @@ module _ (c : Counts) (t v : ℕ) (q : volatile c v ≡ true) (es : List Event) 
 
   turn : (u n : ℕ) (k : Kind) → T (is turning (event_by u n k)) → (of t (event_by u n k) && on v (event_by u n k)) ≡ true → judge c (words_of es) (event_by u n k) ≡ 0 → Turn t v (event_by u n k) es
   unfolding by is
+  turn u n (Use _ _) o b p = elim o [ ]
+  turn u n (Load _ _) o b p = elim o [ ]
+  turn u n (Read _ _) o b p = elim o [ ]
+  turn u n (Lock _) o b p = elim o [ ]
+  turn u n (Unlock _) o b p = elim o [ ]
+  turn u n (Wait _) o b p = elim o [ ]
+  turn u n (Notify _ _) o b p = elim o [ ]
+  turn u n (Resume _) o b p = elim o [ ]
   turn u n (Assign w x) o b p =
       let e = event_by u n (Assign w x) in
       let a = subst T (sym b) tt in
