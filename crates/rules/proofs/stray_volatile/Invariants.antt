@@ -1,0 +1,12 @@
+use Prim.Native.Nat.{◌-◌, ◌≤◌}
+use mathlib.Core.Path.{◌≡◌}
+use mathlib.Core.Bool.{◌&&◌}
+use lib.Dec.{leb}
+use Rattle.rules.specs.Limits.{some, volatile}
+use Rattle.rules.proofs.stray_volatile.Given as goal
+
+abbrev pub invariant-loop-v : goal.invariant-loop-v
+invariant-loop-v l = (l.v ≤ 16) × (l.any ≡ some l.v (λ u. leb l.h.variables u && volatile l.h u))
+
+abbrev pub decreases-loop-v : goal.decreases-loop-v
+decreases-loop-v l = 16 - l.v
