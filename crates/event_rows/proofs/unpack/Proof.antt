@@ -50,14 +50,14 @@ enum-known-named c = search rules
 returns : tie.Need-returns
 returns c =
     let a = c.before.before.before.before.before.before.args in
-    a_read a.line a.w a.value (to_z value_width (of_z value_width a.value)) _ _ _ _ (search rules) c.before.before.before.before.before.thread_in_law.ensures
-    c.before.before.before.before.place_in_law.ensures c.before.before.before.letter-in.ensures c.before.before.kind-of.ensures c.enum_told.given.1
+    a_read a.line a.w a.value (to_z value_width (of_z value_width a.value)) _ _ _ _ (search rules) c.before.before.before.before.before.thread_in.ensures
+    c.before.before.before.before.place_in.ensures c.before.before.before.letter-in.ensures c.before.before.kind-of.ensures c.enum_told.given.1
 
 returns-2 : tie.Need-returns-2
 returns-2 c =
     let a = c.before.before.before.before.before.before.before.args in
-    a_letter a.line a.w a.value (to_z value_width (of_z value_width a.value)) _ _ _ _ (search rules) c.before.before.before.before.before.before.thread_in_law.ensures
-    c.before.before.before.before.before.place_in_law.ensures c.before.before.before.before.letter-in.ensures c.before.before.before.kind-of.ensures _ c.before.named.given.1
+    a_letter a.line a.w a.value (to_z value_width (of_z value_width a.value)) _ _ _ _ (search rules) c.before.before.before.before.before.before.thread_in.ensures
+    c.before.before.before.before.before.place_in.ensures c.before.before.before.before.letter-in.ensures c.before.before.before.kind-of.ensures _ c.before.named.given.1
 
 pub unpack_spec : {M : Type 1} → statement M
 unpack_spec =

@@ -31,7 +31,7 @@ returns : tie.Need-returns
 returns c =
     let a = c.before.before.before.before.before.args in
     let r = c.before.before.before.number-until in
-    c.no_line_law.ensures
+    c.no_line.ensures
     ∙ sym (stage_bad (after_thread value_width a.k) (thread_none a.k) a.at (drop a.at a.s.now) (ap (λ (q : Reached). q.number) (sym r.ensures) ∙ c.before.enum_told.given.1))
 
 returns-2 : tie.Need-returns-2

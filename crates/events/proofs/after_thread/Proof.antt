@@ -43,7 +43,7 @@ returns-2 : tie.Need-returns-2
 returns-2 c =
     let a = c.before.before.before.before.before.before.before.args in
     let r = c.before.before.before.number-until in
-    c.no_line_law.ensures
+    c.no_line.ensures
     ∙ sym (stage_bad (λ v. last (value_end value_width a.k a.t v)) (λ n. refl) a.at (drop a.at a.s.now) (ap (λ (q : Reached). q.number) (sym r.ensures) ∙ c.before.enum_told.given.1))
     ∙ stage_else (is_lock_letter a.k) (lock_fields a.k a.t) (field (λ v. last (value_end value_width a.k a.t v))) a.at (drop a.at a.s.now) (sym c.before.before.before.before.before.is-lock-letter.ensures ∙ c.before.before.before.before.if1.false)
 

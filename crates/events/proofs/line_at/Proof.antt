@@ -17,7 +17,7 @@ returns : tie.Need-returns
 unfolding line_at
 returns c =
     let a = c.before.before.before.args in
-    c.no_line_law.ensures ∙ stage_out (from_fields value_width) a.s.now a.at c.before.if1.true
+    c.no_line.ensures ∙ stage_out (from_fields value_width) a.s.now a.at c.before.if1.true
 
 shared-slice-read-k : tie.Need-shared-slice-read-k
 shared-slice-read-k c = search rules

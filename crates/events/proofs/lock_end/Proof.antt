@@ -23,7 +23,7 @@ enum-known-n c = search rules
 returns : tie.Need-returns
 returns c =
     let a = c.before.before.before.before.before.args in
-    rw (number_line (λ l. right a.k a.t l (pos 0)) a.at (drop a.at a.s.now), sym c.before.before.before.number-until.ensures, c.before.enum_told.given.1) c.no_line_law.ensures
+    rw (number_line (λ l. right a.k a.t l (pos 0)) a.at (drop a.at a.s.now), sym c.before.before.before.number-until.ensures, c.before.enum_told.given.1) c.no_line.ensures
 
 returns-2 : tie.Need-returns-2
 returns-2 c =

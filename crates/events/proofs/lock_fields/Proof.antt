@@ -42,7 +42,7 @@ returns-2 : tie.Need-returns-2
 returns-2 c =
     let a = c.before.before.before.before.before.before.args in
     let r = c.before.before.before.number-until in
-    c.no_line_law.ensures
+    c.no_line.ensures
     ∙ sym (stage_bad (λ l. last (notify_end a.k a.t l)) (λ n. refl) a.at (drop a.at a.s.now) (ap (λ (q : Reached). q.number) (sym r.ensures) ∙ c.before.enum_told.given.1))
     ∙ stage_then (eqb a.k F) (field (λ l. last (notify_end a.k a.t l))) (last (lock_end a.k a.t)) a.at (drop a.at a.s.now) (eq-eqb _ _ c.before.before.before.before.if1.false)
 

@@ -35,7 +35,7 @@ cast-t11 c = search rules
 returns : tie.Need-returns
 returns c =
     let a = c.before.before.before.before.before.args in
-    rw (number_line (λ u. right a.k a.t a.l (pos (capped u))) a.at (drop a.at a.s.now), sym c.before.before.before.number-until.ensures, c.before.enum_told.given.1) c.no_line_law.ensures
+    rw (number_line (λ u. right a.k a.t a.l (pos (capped u))) a.at (drop a.at a.s.now), sym c.before.before.before.number-until.ensures, c.before.enum_told.given.1) c.no_line.ensures
 
 returns-2 : tie.Need-returns-2
 returns-2 c =

@@ -18,7 +18,7 @@ no-line-requires c κs = search rules
 returns : tie.Need-returns
 returns c =
     let a = c.before.before.before.args in
-    c.no_line_law.ensures ∙ stage_out (last (value_end value_width a.k a.t a.v)) a.s.now a.at c.before.if1.true
+    c.no_line.ensures ∙ stage_out (last (value_end value_width a.k a.t a.v)) a.s.now a.at c.before.if1.true
 
 shared-slice-read-if2 : tie.Need-shared-slice-read-if2
 shared-slice-read-if2 c = search rules

@@ -42,7 +42,7 @@ loop-again c =
     let a = c.before.before.before.before.before.args in
     let l = c.before.before.before.loop in
     let w = get_or a.what.now l.i 0 in
-    let q = c.depth_after_law.ensures in
+    let q = c.depth_after.ensures in
     let z = depth_few (letter_in w) l.d l.i (here a.t a.l w) l.invariant.1 in
     (omega (arith, c.before.before.loop-test.true), omega (arith, z, q), scan_more (hold_after a.t a.l) 0 a.what.now [] l.i l.d _ l.invariant.2 q)
 

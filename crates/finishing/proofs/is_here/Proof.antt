@@ -12,7 +12,7 @@ place-in-requires c κs = search rules
 
 returns : tie.Need-returns
 unfolding here
-returns c = rw (c.place_in_law.ensures, c.before.thread_in_law.ensures)
+returns c = rw (c.place_in.ensures, c.before.thread_in.ensures)
 
 pub is_here_spec : {M : Type 1} → statement M
 is_here_spec = tie.close (tie.spec thread-in-requires place-in-requires returns)

@@ -13,7 +13,7 @@ bars-write-requires c κs = search rules
 
 returns : tie.Need-returns
 unfolding bars_event
-returns c = rw (c.before.bars_write_law.ensures, c.before.before.bars_use_law.ensures) refl
+returns c = rw (c.before.bars_write.ensures, c.before.before.bars_use.ensures) refl
 
 pub bars_event_spec : {M : Type 1} → statement M
 bars_event_spec = tie.close (tie.spec bars-use-requires bars-write-requires returns)

@@ -43,7 +43,7 @@ prescient-assigned-requires c κs = search rules
 
 returns : tie.Need-returns
 unfolding use_rule after_use cell_turn next_cell row_of table row_in
-returns c = rw (c.used.ensures, c.before.use_rule_law.ensures, c.before.before.if1.true, to_z-of_z value_width c.before.before.before.args.x c.before.before.before.ranges.x) refl
+returns c = rw (c.used.ensures, c.before.use_rule.ensures, c.before.before.if1.true, to_z-of_z value_width c.before.before.before.args.x c.before.before.before.ranges.x) refl
 
 returns-2 : tie.Need-returns-2
 unfolding use_rule cell_turn next_cell row_of table row_in

@@ -58,7 +58,7 @@ returns c = rw (c.back.ensures, c.before.taken-again.ensures, c.before.before.fi
 
 returns-2 : tie.Need-returns-2
 unfolding wait_turn hold_for hold_after wait_for wait_after row_of table row_in
-returns-2 c = rw (c.waiting.ensures, c.before.given_up_law.ensures, c.before.before.first-of2.ensures, c.before.before.before.row-at2.ensures, c.before.before.before.before.unlock-checks.ensures, c.before.before.before.before.before.if2.true) refl
+returns-2 c = rw (c.waiting.ensures, c.before.given_up.ensures, c.before.before.first-of2.ensures, c.before.before.before.row-at2.ensures, c.before.before.before.before.unlock-checks.ensures, c.before.before.before.before.before.if2.true) refl
 
 returns-3 : tie.Need-returns-3
 unfolding wait_turn hold_for hold_after wait_for wait_after row_of table row_in

@@ -14,7 +14,7 @@ lead-rule-requires : tie.Need-lead-rule-requires
 lead-rule-requires c κs = search rules
 
 returns : tie.Need-returns
-returns c = lead_found c.before.before.before.before.before.args.h c.before.before.before.before.before.args.c c.before.before.before.before.before.args.cells c.before.before.before.before.before.args.stores c.before.before.before.before.before.args.t c.before.before.before.before.before.args.v c.before.before.before.before.before.args.k c.before.before.before.before.is-volatile.ensures c.before.before.before.if1.true c.before.volatile_order_law.ensures c.lead-rule.ensures
+returns c = lead_found c.before.before.before.before.before.args.h c.before.before.before.before.before.args.c c.before.before.before.before.before.args.cells c.before.before.before.before.before.args.stores c.before.before.before.before.before.args.t c.before.before.before.before.before.args.v c.before.before.before.before.before.args.k c.before.before.before.before.is-volatile.ensures c.before.before.before.if1.true c.before.volatile_order.ensures c.lead-rule.ensures
 
 lead-rule-requires-2 : tie.Need-lead-rule-requires-2
 lead-rule-requires-2 c κs = search rules

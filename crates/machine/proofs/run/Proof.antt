@@ -59,14 +59,14 @@ abbrev letter : Head → ℕ
 letter c = c.before.before.before.letter-in.result
 
 abbrev thread : Head → ℕ
-thread c = c.before.before.thread_in_law.result
+thread c = c.before.before.thread_in.result
 
 abbrev place : Head → ℕ
-place c = c.before.place_in_law.result
+place c = c.before.place_in.result
 
 -- taken apart
 turn : (c : Head) → Turn c.before.before.before.before.before.before.before.before.before.before.args.start c.before.before.before.before.before.before.before.before.before.before.args.what.now c.before.before.before.before.before.before.before.before.before.before.args.value.now (state c) c.before.before.before.before.before.before.before.loop.tallies c.before.before.before.before.before.before.before.loop.i (letter c) (thread c) (place c)
-turn c = record { running = c.before.before.before.before.before.before.before.loop.invariant; more = c.before.before.before.before.before.before.loop-test.true; letter = c.before.before.before.letter-in.ensures; thread = c.before.before.thread_in_law.ensures; place = c.before.place_in_law.ensures }
+turn c = record { running = c.before.before.before.before.before.before.before.loop.invariant; more = c.before.before.before.before.before.before.loop-test.true; letter = c.before.before.before.letter-in.ensures; thread = c.before.before.thread_in.ensures; place = c.before.place_in.ensures }
 
 -- the declared counts are the state's
 declared : (c : Head) → c.before.before.before.before.before.before.before.before.before.before.args.start.counts ≡ (state c).counts
@@ -352,7 +352,7 @@ returns-6 c =
     let l = is_named (lock_row d) in
     let a = hold_arm (letter h) c.before.before.before.before.before.before.if6.true in
     let o = held_known d a in
-    c.refuse-after6.ensures ∙ lined h _ ∙ ap outcome_of (turn_broken u l o _ (unled _ _ _ (sym (held_ahead d a c.before.before.before.before.before.barred-rule.ensures) ∙ c.before.before.before.before.if7.false) (lock_led d) (lock_rule (state h) _ (numbers u l) o.within a _ c.before.before.before.lock-turn.ensures (lock_some d c.before.before.before.before.before.before.before.before.some_in_law.ensures) u.running.threads)) c.before.if8.true)
+    c.refuse-after6.ensures ∙ lined h _ ∙ ap outcome_of (turn_broken u l o _ (unled _ _ _ (sym (held_ahead d a c.before.before.before.before.before.barred-rule.ensures) ∙ c.before.before.before.before.if7.false) (lock_led d) (lock_rule (state h) _ (numbers u l) o.within a _ c.before.before.before.lock-turn.ensures (lock_some d c.before.before.before.before.before.before.before.before.some_in.ensures) u.running.threads)) c.before.if8.true)
 
 mul-s : tie.Need-overflow-mul-s invariant-loop decreases-loop
 mul-s c = omega (arith, thread_low c.before.before.before.before.before.before.before.before.before.before.before.before.before.before.before.before)
@@ -380,7 +380,7 @@ loop-again c =
     let l = is_named (lock_row d) in
     let a = hold_arm (letter h) c.before.before.before.before.before.before.if6.true in
     let o = held_known d a in
-    turn_more u l o _ (unled _ _ _ (sym (held_ahead d a c.before.before.before.before.before.barred-rule.ensures) ∙ c.before.before.before.before.if7.false) (lock_led d) (lock_rule (state h) _ (numbers u l) o.within a _ c.before.before.before.lock-turn.ensures (lock_some d c.before.before.before.before.before.before.before.before.some_in_law.ensures) u.running.threads)) c.before.if8.false _ (lock_put (state h) _ (numbers u l) o.within a _ c.before.before.before.lock-turn.ensures (shallow (state h) u.running.ranged o.room _ (lock_low d))) c.before.before.before.before.before.before.before.before.before.before.before.before.before.before.before.before.before.before.before.before.before.before.before.before.before.before.before.before.loop.tallies (tallied_same (state h) _ _ refl refl u.running.tallied)
+    turn_more u l o _ (unled _ _ _ (sym (held_ahead d a c.before.before.before.before.before.barred-rule.ensures) ∙ c.before.before.before.before.if7.false) (lock_led d) (lock_rule (state h) _ (numbers u l) o.within a _ c.before.before.before.lock-turn.ensures (lock_some d c.before.before.before.before.before.before.before.before.some_in.ensures) u.running.threads)) c.before.if8.false _ (lock_put (state h) _ (numbers u l) o.within a _ c.before.before.before.lock-turn.ensures (shallow (state h) u.running.ranged o.room _ (lock_low d))) c.before.before.before.before.before.before.before.before.before.before.before.before.before.before.before.before.before.before.before.before.before.before.before.before.before.before.before.before.loop.tallies (tallied_same (state h) _ _ refl refl u.running.tallied)
 
 subject-of-requires : tie.Need-subject-of-requires invariant-loop decreases-loop
 subject-of-requires c κs = search rules
@@ -431,7 +431,7 @@ returns-9 c =
     let u = turn h in
     let l = is_named (lock_row d) in
     let o = wait_known q in
-    c.refuse-after9.ensures ∙ lined h _ ∙ ap outcome_of (turn_broken u l o _ (unled _ _ _ (sym (wait_ahead q c.before.before.before.before.before.ahead-rule.ensures) ∙ c.before.before.before.before.if10.false) (lock_led d) (wait_rule (state h) _ (numbers u l) o.within (is_wait q) (wait_subject q) _ c.before.before.before.wait-turn.ensures (lock_some d c.before.before.before.before.before.before.before.before.before.before.before.before.some_in_law.ensures) u.running.threads)) c.before.if11.true)
+    c.refuse-after9.ensures ∙ lined h _ ∙ ap outcome_of (turn_broken u l o _ (unled _ _ _ (sym (wait_ahead q c.before.before.before.before.before.ahead-rule.ensures) ∙ c.before.before.before.before.if10.false) (lock_led d) (wait_rule (state h) _ (numbers u l) o.within (is_wait q) (wait_subject q) _ c.before.before.before.wait-turn.ensures (lock_some d c.before.before.before.before.before.before.before.before.before.before.before.before.some_in.ensures) u.running.threads)) c.before.if11.true)
 
 mul-s-2 : tie.Need-overflow-mul-s-2 invariant-loop decreases-loop
 mul-s-2 c = omega (arith, thread_low c.before.before.before.before.before.before.before.before.before.before.before.before.before.before.before.before.before.before.before.before.before)
@@ -465,7 +465,7 @@ loop-again-2 c =
     let u = turn h in
     let l = is_named (lock_row d) in
     let o = wait_known q in
-    turn_more u l o _ (unled _ _ _ (sym (wait_ahead q c.before.before.before.before.before.before.ahead-rule.ensures) ∙ c.before.before.before.before.before.if10.false) (lock_led d) (wait_rule (state h) _ (numbers u l) o.within (is_wait q) (wait_subject q) _ c.before.before.before.before.wait-turn.ensures (lock_some d c.before.before.before.before.before.before.before.before.before.before.before.before.before.some_in_law.ensures) u.running.threads)) c.before.before.if11.false _ (wait_put (state h) _ (numbers u l) o.within (is_wait q) (wait_subject q) _ c.before.before.before.before.wait-turn.ensures (shallow (state h) u.running.ranged o.room _ (lock_low d))) c.before.before.before.before.before.before.before.before.before.before.before.before.before.before.before.before.before.before.before.before.before.before.before.before.before.before.before.before.before.before.before.before.before.loop.tallies (tallied_same (state h) _ _ refl refl u.running.tallied)
+    turn_more u l o _ (unled _ _ _ (sym (wait_ahead q c.before.before.before.before.before.before.ahead-rule.ensures) ∙ c.before.before.before.before.before.if10.false) (lock_led d) (wait_rule (state h) _ (numbers u l) o.within (is_wait q) (wait_subject q) _ c.before.before.before.before.wait-turn.ensures (lock_some d c.before.before.before.before.before.before.before.before.before.before.before.before.before.some_in.ensures) u.running.threads)) c.before.before.if11.false _ (wait_put (state h) _ (numbers u l) o.within (is_wait q) (wait_subject q) _ c.before.before.before.before.wait-turn.ensures (shallow (state h) u.running.ranged o.room _ (lock_low d))) c.before.before.before.before.before.before.before.before.before.before.before.before.before.before.before.before.before.before.before.before.before.before.before.before.before.before.before.before.before.before.before.before.before.loop.tallies (tallied_same (state h) _ _ refl refl u.running.tallied)
 
 refuse-after-requires-10 : tie.Need-refuse-after-requires-10 invariant-loop decreases-loop
 refuse-after-requires-10 c κs = search rules
@@ -554,7 +554,7 @@ returns-13 c =
     let n = by_numbers d in
     let i = c.before.before.before.before.before.before.cell-place2.ensures.0 in
     let b = c.before.before.before.before.before.before.before in
-    c.refuse-after13.ensures ∙ lined h _ ∙ ap outcome_of (turn_broken u l o _ (unled _ _ _ (clear b.before.before) (kept b) (use_rule_law (state h) _ n o.within c.before.before.before.before.if16.true i c.before.before.use_rule_law.ensures)) c.before.if17.true)
+    c.refuse-after13.ensures ∙ lined h _ ∙ ap outcome_of (turn_broken u l o _ (unled _ _ _ (clear b.before.before) (kept b) (use_rule_law (state h) _ n o.within c.before.before.before.before.if16.true i c.before.before.use_rule.ensures)) c.before.if17.true)
 
 is-used-requires : tie.Need-is-used-requires invariant-loop decreases-loop
 is-used-requires c κs = search rules
@@ -576,7 +576,7 @@ loop-again-3 c =
     let i = c.before.before.before.before.before.before.before.cell-place2.ensures.0 in
     let b = c.before.before.before.before.before.before.before.before in
     let q = c.before.before.before.before.before.if16.true in
-    turn_more u l o _ (unled _ _ _ (clear b.before.before) (kept b) (use_rule_law (state h) _ n o.within q i c.before.before.before.use_rule_law.ensures)) c.before.before.if17.false _ (use_kept (state h) _ n o.within q i (sym c.before.is-used.ensures ∙ c.if18.true)) _ (tallied_same (state h) _ _ refl refl u.running.tallied)
+    turn_more u l o _ (unled _ _ _ (clear b.before.before) (kept b) (use_rule_law (state h) _ n o.within q i c.before.before.before.use_rule.ensures)) c.before.before.if17.false _ (use_kept (state h) _ n o.within q i (sym c.before.is-used.ensures ∙ c.if18.true)) _ (tallied_same (state h) _ _ refl refl u.running.tallied)
 
 used-requires : tie.Need-used-requires invariant-loop decreases-loop
 used-requires c κs = search rules
@@ -603,7 +603,7 @@ loop-again-4 c =
     let n = by_numbers d in
     let i = c.before.before.before.before.before.before.before.before.cell-place2.ensures.0 in
     let b = c.before.before.before.before.before.before.before.before.before in
-    turn_more u l o _ (unled _ _ _ (clear b.before.before) (kept b) (use_rule_law (state h) _ n o.within c.before.before.before.before.before.before.if16.true i c.before.before.before.before.use_rule_law.ensures)) c.before.before.before.if17.false _ (use_put (state h) _ n o.within c.before.before.before.before.before.before.if16.true i c.used.ensures) _ (tallied_kept_at (state h) _ _ _ _ u.running.shape.cells (thread_low (row d)) (variable_low d) d.if12.false refl i refl _ _ _ _ (use_arm _ c.before.before.before.before.before.before.if16.true) (use_next (state h) _ n o.within c.before.before.before.before.before.before.if16.true i c.used.ensures) _ u.running.tallied)
+    turn_more u l o _ (unled _ _ _ (clear b.before.before) (kept b) (use_rule_law (state h) _ n o.within c.before.before.before.before.before.before.if16.true i c.before.before.before.before.use_rule.ensures)) c.before.before.before.if17.false _ (use_put (state h) _ n o.within c.before.before.before.before.before.before.if16.true i c.used.ensures) _ (tallied_kept_at (state h) _ _ _ _ u.running.shape.cells (thread_low (row d)) (variable_low d) d.if12.false refl i refl _ _ _ _ (use_arm _ c.before.before.before.before.before.before.if16.true) (use_next (state h) _ n o.within c.before.before.before.before.before.before.if16.true i c.used.ensures) _ u.running.tallied)
 
 slot-place-requires : tie.Need-slot-place-requires invariant-loop decreases-loop
 slot-place-requires c κs = search rules

@@ -1,8 +1,8 @@
 -- `machine::some_in` meets its contract. Assumes nothing.
 use mathlib.Core.Path.{refl}
 use Rattle.machine.specs.Computed.Tallies.{some_in}
-use Rattle.machine.proofs.some_in_law.Statement.{statement}
-use Rattle.machine.proofs.some_in_law.Tie as tie
+use Rattle.machine.proofs.some_in.Statement.{statement}
+use Rattle.machine.proofs.some_in.Tie as tie
 
 returns : tie.Need-returns
 unfolding some_in

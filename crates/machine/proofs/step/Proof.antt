@@ -22,7 +22,7 @@ unchanged-requires c κs = search rules
 returns : tie.Need-returns
 returns c =
     let a = c.before.before.before.args in
-    c.unchanged.ensures ∙ step_out (limits_of a.course) a.s a.e (sym c.before.before.in_range_law.ensures.0 ∙ not-true _ c.before.if1.true)
+    c.unchanged.ensures ∙ step_out (limits_of a.course) a.s a.e (sym c.before.before.in_range.ensures.0 ∙ not-true _ c.before.if1.true)
 
 line-after-requires : tie.Need-line-after-requires
 line-after-requires c κs = search rules
@@ -39,7 +39,7 @@ unchanged-requires-2 c κs = search rules
 returns-2 : tie.Need-returns-2
 returns-2 c =
     let a = c.before.before.before.before.before.before.before.before.args in
-    let r = sym c.before.before.before.before.before.before.before.in_range_law.ensures.0 ∙ not-false _ c.before.before.before.before.before.before.if1.false in
+    let r = sym c.before.before.before.before.before.before.before.in_range.ensures.0 ∙ not-false _ c.before.before.before.before.before.before.if1.false in
     let n = c.before.excess-of in
     c.unchanged2.ensures ∙ ap (λ (l : ℕ). unchanged a.s (refused n.result l)) c.before.before.before.before.line_after.ensures
     ∙ step_limit (limits_of a.course) a.s a.e (up_to_full a.course) r n.result n.ensures (omega (arith, c.before.before.if2.true, c.before.before.before.most-events.ensures))
@@ -53,14 +53,14 @@ unchanged-requires-3 c κs = search rules
 returns-3 : tie.Need-returns-3
 returns-3 c =
     let a = c.before.before.before.before.before.before.before.before.before.args in
-    let r = sym c.before.before.before.before.before.before.before.before.in_range_law.ensures.0 ∙ not-false _ c.before.before.before.before.before.before.before.if1.false in
+    let r = sym c.before.before.before.before.before.before.before.before.in_range.ensures.0 ∙ not-false _ c.before.before.before.before.before.before.before.if1.false in
     c.unchanged3.ensures ∙ ap (λ (l : ℕ). unchanged a.s (refused 5 l)) c.before.before.before.before.before.line_after.ensures
     ∙ step_undeclared (limits_of a.course) a.s a.e (up_to_full a.course) r (omega (arith, c.before.before.before.if2.false, c.before.before.before.before.most-events.ensures)) (sym c.before.before.is_declared.ensures ∙ not-true _ c.before.if3.true)
 
 take-turn-requires : tie.Need-take-turn-requires
 take-turn-requires c κs =
     let a = c.before.before.before.before.before.before.before.before.args in
-    let r = sym c.before.before.before.before.before.before.before.in_range_law.ensures.0 ∙ not-false _ c.before.before.before.before.before.before.if1.false in
+    let r = sym c.before.before.before.before.before.before.before.in_range.ensures.0 ∙ not-false _ c.before.before.before.before.before.before.if1.false in
     turnable (limits_of a.course) a.s a.e (up_to_full a.course) r (omega (arith, c.before.before.if2.false, c.before.before.before.most-events.ensures)) (sym c.before.is_declared.ensures ∙ not-false _ c.if3.false)
 
 unchanged-requires-4 : tie.Need-unchanged-requires-4
@@ -69,7 +69,7 @@ unchanged-requires-4 c κs = search rules
 returns-4 : tie.Need-returns-4
 returns-4 c =
     let a = c.before.before.before.before.before.before.before.before.before.before.before.before.args in
-    let r = sym c.before.before.before.before.before.before.before.before.before.before.before.in_range_law.ensures.0 ∙ not-false _ c.before.before.before.before.before.before.before.before.before.before.if1.false in
+    let r = sym c.before.before.before.before.before.before.before.before.before.before.before.in_range.ensures.0 ∙ not-false _ c.before.before.before.before.before.before.before.before.before.before.if1.false in
     let j = c.before.before.before.take-turn in
     c.unchanged4.ensures ∙ ap (λ (l : ℕ). unchanged a.s (refused j.result.rule l)) c.before.before.before.before.before.before.before.before.line_after.ensures
     ∙ step_broken (limits_of a.course) a.s a.e (up_to_full a.course) r (omega (arith, c.before.before.before.before.before.before.if2.false, c.before.before.before.before.before.before.before.most-events.ensures)) (sym c.before.before.before.before.before.is_declared.ensures ∙ not-false _ c.before.before.before.before.if3.false)
@@ -78,7 +78,7 @@ returns-4 c =
 returns-5 : tie.Need-returns-5
 returns-5 c =
     let a = c.before.before.before.before.before.before.before.before.before.before.before.before.args in
-    let r = sym c.before.before.before.before.before.before.before.before.before.before.before.in_range_law.ensures.0 ∙ not-false _ c.before.before.before.before.before.before.before.before.before.before.if1.false in
+    let r = sym c.before.before.before.before.before.before.before.before.before.before.before.in_range.ensures.0 ∙ not-false _ c.before.before.before.before.before.before.before.before.before.before.if1.false in
     let j = c.before.before.before.take-turn in
     step_kept (limits_of a.course) a.s a.e (up_to_full a.course) r (omega (arith, c.before.before.before.before.before.before.if2.false, c.before.before.before.before.before.before.before.most-events.ensures)) (sym c.before.before.before.before.before.is_declared.ensures ∙ not-false _ c.before.before.before.before.if3.false)
     j.result.rule (ap (λ (z : Judged). z.rule) j.ensures) c.before.if4.false (ap (λ (z : Judged). z.state) j.ensures)

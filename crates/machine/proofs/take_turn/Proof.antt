@@ -157,7 +157,7 @@ returns c =
     let a = c.before.before.before.before.before.before.before.before.before.before.before.before.before.before.before.before.before.before.before.before.before.before.before.before.before.before.before.before.before.before.before in
     let f = c.before.before.before.before.before.before.before.before.before.before.before.before.before.before.before.before.before.before.before.before.before.before.before in
     turn_taken a.args.t1 a.args.e a.requires c.before.before.before.before.before.before.before.before.before.before.before.before.before.before.before.before.before.before.before.before.before.before.before.before.before.before.before.before.before.before.letter-of.ensures (variable f) (lock f) (valued f) c.before.before.before.before.before.before.before.before.before.before.before.before.before.before.before.before.before.before.before.before.before.before.before.before.subject-of.ensures
-    c.before.before.before.before.before.before.before.before.before.before.before.before.before.before.before.before.before.before.before.before.before.before.parts-of.ensures (some_is a.args.t1 _ _ _ c.before.before.before.before.before.before.before.before.before.before.before.before.before.before.before.before.before.before.before.before.before.tally-of.ensures c.before.before.before.before.before.before.before.before.before.before.before.before.before.before.before.before.before.before.before.before.some_in_law.ensures) c.before.before.before.before.before.before.before.before.before.before.before.before.before.before.before.before.before.before.before.any-turn.ensures
+    c.before.before.before.before.before.before.before.before.before.before.before.before.before.before.before.before.before.before.before.before.before.before.parts-of.ensures (some_is a.args.t1 _ _ _ c.before.before.before.before.before.before.before.before.before.before.before.before.before.before.before.before.before.before.before.before.before.tally-of.ensures c.before.before.before.before.before.before.before.before.before.before.before.before.before.before.before.before.before.before.before.before.some_in.ensures) c.before.before.before.before.before.before.before.before.before.before.before.before.before.before.before.before.before.before.before.any-turn.ensures
     c.before.before.before.before.before.before.before.before.before.before.before.before.before.before.before.before.before.ahead-rule.ensures c.before.before.before.before.before.before.before.before.before.before.before.before.before.lead-of.ensures (c.either2.ensures ∙ ap (either_of c.before.before.before.before.before.before.before.before.before.before.before.before.before.before.before.before.before.ahead-rule.result) c.before.either.ensures)
     c.before.before.before.before.before.before.before.before.before.before.cell-place.ensures.0 c.before.before.before.before.before.before.before.before.before.slot-place.ensures.0 c.before.before.before.before.before.before.before.before.slot-place2.ensures.0
 

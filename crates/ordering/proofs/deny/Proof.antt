@@ -21,12 +21,12 @@ decreases-loop h what value locks levels₀ pending₀ depths₀ remembered₀ l
 abbrev Here : Type 0
 Here = tie.After-place-in invariant-loop decreases-loop
 
-turn : (c : Here) → Turn c.before.before.before.before.before.before.before.args.h c.before.before.before.before.before.before.before.args.t2 c.before.before.before.before.before.before.before.args.what.now c.before.before.before.before.before.before.before.args.value.now c.before.before.before.before.before.loop.levels c.before.before.before.before.before.loop.pending c.before.before.before.before.before.loop.depths c.before.before.before.before.before.loop.remembered c.before.before.before.before.before.loop.late c.before.before.before.before.before.loop.i c.before.before.letter-in.result c.before.thread_in_law.result c.place_in_law.result
+turn : (c : Here) → Turn c.before.before.before.before.before.before.before.args.h c.before.before.before.before.before.before.before.args.t2 c.before.before.before.before.before.before.before.args.what.now c.before.before.before.before.before.before.before.args.value.now c.before.before.before.before.before.loop.levels c.before.before.before.before.before.loop.pending c.before.before.before.before.before.loop.depths c.before.before.before.before.before.loop.remembered c.before.before.before.before.before.loop.late c.before.before.before.before.before.loop.i c.before.before.letter-in.result c.before.thread_in.result c.place_in.result
 turn c = record {
   fits = c.before.before.before.before.before.before.before.requires;
   going = c.before.before.before.before.before.loop.invariant;
   more = c.before.before.before.before.loop-test.true;
-  reads = reads_at_law c.before.before.before.before.before.before.before.args.h c.before.before.before.before.before.before.before.args.what.now c.before.before.before.before.before.before.before.args.value.now c.before.before.before.before.before.before.before.requires c.before.before.before.before.before.loop.i c.before.before.before.before.loop-test.true c.before.before.letter-in.result c.before.thread_in_law.result c.place_in_law.result c.before.before.letter-in.ensures c.before.thread_in_law.ensures c.place_in_law.ensures;
+  reads = reads_at_law c.before.before.before.before.before.before.before.args.h c.before.before.before.before.before.before.before.args.what.now c.before.before.before.before.before.before.before.args.value.now c.before.before.before.before.before.before.before.requires c.before.before.before.before.before.loop.i c.before.before.before.before.loop-test.true c.before.before.letter-in.result c.before.thread_in.result c.place_in.result c.before.before.letter-in.ensures c.before.thread_in.ensures c.place_in.ensures;
 }
 
 -- ---- the answers
@@ -101,7 +101,7 @@ loop-less : tie.Need-loop-smaller invariant-loop decreases-loop
 loop-less c = search rules
 
 loop-again : tie.Need-loop-preserved invariant-loop decreases-loop
-loop-again c = goes (turn c.before.before.before.before.before.before.before.before.before) c.before.before.before.before.before.before.before.is-under.ensures c.before.before.before.before.before.before.if1.false c.before.before.hold.ensures c.before.late_after_law.ensures c.pending-after.ensures
+loop-again c = goes (turn c.before.before.before.before.before.before.before.before.before) c.before.before.before.before.before.before.before.is-under.ensures c.before.before.before.before.before.before.if1.false c.before.before.hold.ensures c.before.late_after.ensures c.pending-after.ensures
 
 unfinished-requires : tie.Need-unfinished-requires invariant-loop decreases-loop
 unfinished-requires c κs = let m = allowed_bounds _ c.before.before.before.before.before.before.requires.accepted.head in (m.0, m.1)

@@ -23,7 +23,7 @@ decreases-loop h what value scratch₀ levels₀ depths₀ remembered₀ first�
 abbrev Here : Type 0
 Here = tie.After-place-in invariant-loop decreases-loop
 
-turn : (c : Here) → Turn c.before.before.before.before.before.before.before.before.args.h c.before.before.before.before.before.before.before.before.args.what.now c.before.before.before.before.before.before.before.before.args.value.now c.before.before.before.before.before.loop.scratch c.before.before.before.before.before.loop.levels c.before.before.before.before.before.loop.depths c.before.before.before.before.before.loop.remembered c.before.before.before.before.before.loop.first c.before.before.before.before.before.loop.top c.before.before.before.before.before.loop.n c.before.before.before.before.before.loop.i c.before.before.letter-in.result c.before.thread_in_law.result c.place_in_law.result
+turn : (c : Here) → Turn c.before.before.before.before.before.before.before.before.args.h c.before.before.before.before.before.before.before.before.args.what.now c.before.before.before.before.before.before.before.before.args.value.now c.before.before.before.before.before.loop.scratch c.before.before.before.before.before.loop.levels c.before.before.before.before.before.loop.depths c.before.before.before.before.before.loop.remembered c.before.before.before.before.before.loop.first c.before.before.before.before.before.loop.top c.before.before.before.before.before.loop.n c.before.before.before.before.before.loop.i c.before.before.letter-in.result c.before.thread_in.result c.place_in.result
 turn c = record {
   fits = c.before.before.before.before.before.before.before.before.requires.0;
   filling = c.before.before.before.before.before.loop.invariant.0;
@@ -34,7 +34,7 @@ turn c = record {
     c.before.before.before.before.before.before.before.before.requires.1.1,
     c.before.before.before.before.before.loop.invariant.1,
   );
-  reads = reads_at_law c.before.before.before.before.before.before.before.before.args.h c.before.before.before.before.before.before.before.before.args.what.now c.before.before.before.before.before.before.before.before.args.value.now c.before.before.before.before.before.before.before.before.requires.0 c.before.before.before.before.before.loop.i c.before.before.before.before.loop-test.true c.before.before.letter-in.result c.before.thread_in_law.result c.place_in_law.result c.before.before.letter-in.ensures c.before.thread_in_law.ensures c.place_in_law.ensures;
+  reads = reads_at_law c.before.before.before.before.before.before.before.before.args.h c.before.before.before.before.before.before.before.before.args.what.now c.before.before.before.before.before.before.before.before.args.value.now c.before.before.before.before.before.before.before.before.requires.0 c.before.before.before.before.before.loop.i c.before.before.before.before.loop-test.true c.before.before.letter-in.result c.before.thread_in.result c.place_in.result c.before.before.letter-in.ensures c.before.thread_in.ensures c.place_in.ensures;
 }
 
 -- ---- the answers
@@ -109,7 +109,7 @@ loop-less : tie.Need-loop-smaller invariant-loop decreases-loop
 loop-less c = search rules
 
 loop-again : tie.Need-loop-preserved invariant-loop decreases-loop
-loop-again c = (filling_lock (turn c.before.before.before.before.before.before.before) c.hold.ensures c.before.before.before.before.before.if1.true (c.before.before.before.before.idle_or_law.ensures ∙ ap (idle_or _ _) c.before.before.before.before.before.before.line_after.ensures) (omega arith) (omega arith), length-set c.before.before.before.before.before.before.before.before.before.before.before.before.loop.scratch c.before.before.before.before.before.before.before.before.before.before.before.before.loop.n _ ∙ c.before.before.before.before.before.before.before.before.before.before.before.before.loop.invariant.1)
+loop-again c = (filling_lock (turn c.before.before.before.before.before.before.before) c.hold.ensures c.before.before.before.before.before.if1.true (c.before.before.before.before.idle_or.ensures ∙ ap (idle_or _ _) c.before.before.before.before.before.before.line_after.ensures) (omega arith) (omega arith), length-set c.before.before.before.before.before.before.before.before.before.before.before.before.loop.scratch c.before.before.before.before.before.before.before.before.before.before.before.before.loop.n _ ∙ c.before.before.before.before.before.before.before.before.before.before.before.before.loop.invariant.1)
 
 hold-requires-2 : tie.Need-hold-requires-2 invariant-loop decreases-loop
 hold-requires-2 c κs = holdable_here (turn c.before.before.before.before.before.before)

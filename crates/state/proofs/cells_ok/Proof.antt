@@ -34,7 +34,7 @@ loop-less c = search rules
 loop-again : tie.Need-loop-preserved invariant-loop decreases-loop
 loop-again c =
     let l = c.before.before.before.loop in
-    (search rules, every_more l.i (cells_in c.before.before.before.before.args.t1) l.invariant.1 c.cell_ok_law.ensures)
+    (search rules, every_more l.i (cells_in c.before.before.before.before.args.t1) l.invariant.1 c.cell_ok.ensures)
 
 returns : tie.Need-returns invariant-loop decreases-loop
 unfolding cells_ok

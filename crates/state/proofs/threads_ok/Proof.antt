@@ -46,7 +46,7 @@ loop-less c = search rules
 loop-again : tie.Need-loop-preserved invariant-loop decreases-loop
 loop-again c =
     let l = c.before.before.before.before.loop in
-    (search rules, every_more l.t (threads_in c.before.before.before.before.before.before.args.t1) l.invariant.1 (ap (λ (b : Bool). b && leb (get_or c.before.before.before.before.before.before.args.t1.locked l.t 0) c.before.before.before.before.before.before.args.t1.events) c.before.wait_ok_law.ensures))
+    (search rules, every_more l.t (threads_in c.before.before.before.before.before.before.args.t1) l.invariant.1 (ap (λ (b : Bool). b && leb (get_or c.before.before.before.before.before.before.args.t1.locked l.t 0) c.before.before.before.before.before.before.args.t1.events) c.before.wait_ok.ensures))
 
 returns : tie.Need-returns invariant-loop decreases-loop
 unfolding threads_ok

@@ -34,7 +34,7 @@ write-event-requires c κs = search rules
 returns : tie.Need-returns
 returns c =
     let a = c.before.before.before.before.before.before.before.args in
-    text_none a.w a.x (to_z value_width (of_z value_width a.x)) _ _ _ _ (search rules) c.before.before.before.before.before.thread_in_law.ensures c.before.before.before.before.place_in_law.ensures c.before.before.before.letter-in.ensures c.before.before.kind-of.ensures c.enum_told.given.1 a.out.now
+    text_none a.w a.x (to_z value_width (of_z value_width a.x)) _ _ _ _ (search rules) c.before.before.before.before.before.thread_in.ensures c.before.before.before.before.place_in.ensures c.before.before.before.letter-in.ensures c.before.before.kind-of.ensures c.enum_told.given.1 a.out.now
 
 same_length : tie.Need-same-length
 same_length c = search rules
@@ -43,7 +43,7 @@ returns-2 : tie.Need-returns-2
 returns-2 c =
     let a = c.before.before.before.before.before.before.before.before.before.before.before.before.args in
     let w = c.before.before.write-event in
-    wrote_same _ (room line_room _) a.out.now w.new.0 w.result (ap (room line_room) (text_some a.w a.x (to_z value_width (of_z value_width a.x)) _ _ _ _ (search rules) c.before.before.before.before.before.before.before.before.before.before.thread_in_law.ensures c.before.before.before.before.before.before.before.before.before.place_in_law.ensures c.before.before.before.before.before.before.before.before.letter-in.ensures c.before.before.before.before.before.before.before.kind-of.ensures _ c.before.before.before.before.before.named.given.1)) w.ensures
+    wrote_same _ (room line_room _) a.out.now w.new.0 w.result (ap (room line_room) (text_some a.w a.x (to_z value_width (of_z value_width a.x)) _ _ _ _ (search rules) c.before.before.before.before.before.before.before.before.before.before.thread_in.ensures c.before.before.before.before.before.before.before.before.before.place_in.ensures c.before.before.before.before.before.before.before.before.letter-in.ensures c.before.before.before.before.before.before.before.kind-of.ensures _ c.before.before.before.before.before.named.given.1)) w.ensures
 
 pub write_record_spec : {M : Type 1} → statement M
 write_record_spec =

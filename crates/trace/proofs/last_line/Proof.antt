@@ -55,7 +55,7 @@ returns-3 c =
     let s = c.before.before.before.before.before.before.before.before.args.s.now in
     let l = c.before.before.before.before.last-end in
     let b : get_or s (length s - 1) 0 ≡ 10 = omega arith in
-    rw (c.trailer_number_law.ensures, l.ensures, eq-eqb (get_or s (length s - 1) 0) 10 b) refl
+    rw (c.trailer_number.ensures, l.ensures, eq-eqb (get_or s (length s - 1) 0) 10 b) refl
 
 pub last_line_spec : {M : Type 1} → statement M
 last_line_spec =
