@@ -2,7 +2,7 @@
 use Prim.Native.Nat.{ℕ, zero, suc, ◌+◌, ◌-◌, ◌%◌, ◌≤◌, ◌<◌, zero-le, suc-le-suc}
 use native.Mathlib.Omega.{arith}
 use native.Mathlib.Nat.{suc-ne-zero, not-suc-le-zero, le_of_suc-le-suc}
-use mathlib.Core.Path.{◌≡◌, refl, sym, ap}
+use mathlib.Core.Path.{◌≡◌, refl, sym, ap, subst}
 use mathlib.Core.Logic.{◌≢◌}
 use mathlib.Core.Bool.{Bool, true, false, cond}
 use mathlib.Core.List.{List, [], ◌∷◌, ◌++◌}
@@ -80,7 +80,7 @@ around_more ss x i f (suc n) h l = next (f + suc n) (omega arith) l (λ k. aroun
     next : (g : ℕ) → g ≡ suc f + n → slot_number i g < length ss
         → (slot_number i (suc f + n) < length ss → around (set ss (slot_number i (suc f + n)) x) i (suc f) (suc n) ≡ around ss i (suc f) n ++ (x ∷ []))
         → get_or (set ss (slot_number i g) x) (slot_number i f) no_slot ∷ around (set ss (slot_number i g) x) i (suc f) (suc n) ≡ (get_or ss (slot_number i f) no_slot ∷ around ss i (suc f) n) ++ (x ∷ [])
-    next g e k more = rw (get_or-set_other ss (slot_number i g) (slot_number i f) x no_slot (apart g e)) (ap (λ (z : List Slot). get_or ss (slot_number i f) no_slot ∷ z) (rw e (more (rw e at k))))
+    next g e k more = subst (λ g. slot_number i g < length ss → get_or (set ss (slot_number i g) x) (slot_number i f) no_slot ∷ around (set ss (slot_number i g) x) i (suc f) (suc n) ≡ (get_or ss (slot_number i f) no_slot ∷ around ss i (suc f) n) ++ (x ∷ [])) (sym e) (λ l. rw (get_or-set_other ss (slot_number i (suc f + n)) (slot_number i f) x no_slot (apart (suc f + n) refl)) (ap (λ (z : List Slot). get_or ss (slot_number i f) no_slot ∷ z) (more l))) k
 
 pub queued_pushed : (ss : List Slot) (i : ℕ) (q : Ring) (x : Slot) → q.len < most → behind i q < length ss → queued (set ss (behind i q) x) i (pushed q) ≡ queued ss i q ++ (x ∷ [])
 unfolding queued
