@@ -120,6 +120,11 @@ module _ (s : State) (t line : ℕ) (ht : t < 8) (hn : s.counts.variables ≤ 16
   checks_in : (k : Kind) → T (not (among lock_letters (letter k))) → place k < 16 → volatile h (place k) ≡ true → (o : Bool)
       → ((lead_checks (at (place k)) o (letter k)).neighbour ≡ wrong_neighbour h w (of k)) × (order k ≡ volatile_order h w (of k)) × ((lead_checks (at (place k)) o (letter k)).prescient ≡ prescient_volatile h (of k))
   unfolding is_access wrong_neighbour volatile_order use_barred write_barred prescient_volatile is words_in
+  checks_in (kind.Lock _) m l q o = elim m [ ]
+  checks_in (kind.Unlock _) m l q o = elim m [ ]
+  checks_in (kind.Wait _) m l q o = elim m [ ]
+  checks_in (kind.Notify _ _) m l q o = elim m [ ]
+  checks_in (kind.Resume _) m l q o = elim m [ ]
   checks_in (kind.Use v x) m l q o = (rw (q, cell_in v l) refl, use_order v l ∙ sym (rw (q, or-false) refl), refl)
   checks_in (kind.Assign v x) m l q o = (rw (q, cell_in v l) refl, quiet v A refl refl, refl)
   checks_in (kind.Load v x) m l q o = (rw (q, cell_in v l) refl, quiet v L refl refl, refl)

@@ -1,0 +1,10 @@
+-- `judging::any_turn` meets its contract.
+use mathlib.Core.Path.{refl}
+use mir.ValLaws.{to_z-of_z}
+use Rattle.rules.specs.Limits.{value_width}
+use Rattle.judging.specs.Computed.Turns.{turn_of}
+use Rattle.judging.proofs.any_turn.Goals as goal
+
+pub returns : goal.returns
+unfolding turn_of
+returns c = rw (c.either-rule.ensures, c.either-2.ensures, c.either.ensures, c.either-locks.ensures, c.stores_turn-store.ensures, c.reads_turn-read.ensures, c.cell_turn-alone.ensures, c.wait_turn-waits.ensures, c.lock_turn-lock.ensures, to_z-of_z value_width c.args.x c.ranges.x) refl

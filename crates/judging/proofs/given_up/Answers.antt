@@ -1,0 +1,18 @@
+-- `judging::given_up` meets its contract.
+use mathlib.Core.Path.{refl}
+use borrow.Author.Tests.{lt-ltb, le-ltb}
+use Rattle.state.specs.Step.{hold_after}
+use Rattle.judging.specs.Computed.Turns.{hold_for}
+use Rattle.judging.proofs.given_up.Goals as goal
+
+pub returns-then-a-lt2000 : goal.returns-then-a-lt2000
+unfolding hold_for hold_after
+returns-then-a-lt2000 c = rw (lt-ltb _ _ c.if-t-lt-THREADS.true, lt-ltb _ _ c.if-a-lt2000.true) refl
+
+pub returns-else-a-lt2000 : goal.returns-else-a-lt2000
+unfolding hold_for hold_after
+returns-else-a-lt2000 c = rw (lt-ltb _ _ c.if-t-lt-THREADS.true, le-ltb _ _ c.if-a-lt2000.false) refl
+
+pub returns-else-t-lt-THREADS : goal.returns-else-t-lt-THREADS
+unfolding hold_for hold_after
+returns-else-t-lt-THREADS c = rw (le-ltb _ _ c.if-t-lt-THREADS.false) refl

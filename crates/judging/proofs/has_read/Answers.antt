@@ -1,0 +1,8 @@
+-- `judging::has_read` meets its contract.
+use Rattle.state.specs.Step.{next_cell}
+use mathlib.Core.Path.{refl}
+use Rattle.judging.proofs.has_read.Goals as goal
+
+pub returns : goal.returns
+unfolding next_cell
+returns c = rw c.push-more.ensures refl

@@ -1,0 +1,6 @@
+-- `judging::notify_checks` meets its contract.
+use mathlib.Core.Path.{refl}
+use Rattle.judging.proofs.notify_checks.Goals as goal
+
+pub returns : goal.returns
+returns c = rw c.depth_of-n.ensures refl

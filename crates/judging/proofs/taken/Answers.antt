@@ -1,0 +1,23 @@
+-- `judging::taken` meets its contract.
+use borrow.Author.Tests.{lt-ltb, le-ltb}
+use Rattle.state.specs.Step.{hold_after}
+use Rattle.judging.specs.Computed.Turns.{hold_for}
+use Rattle.state.proofs.LeafLaws.{depth_under}
+use native.Mathlib.Omega.{arith}
+use mathlib.Core.Path.{refl}
+use Rattle.judging.proofs.taken.Goals as goal
+
+pub overflow_add-result-then-a-lt2000 : goal.overflow_add-result-then-a-lt2000
+overflow_add-result-then-a-lt2000 c = let low = depth_under c.args.a c.args.t in omega arith
+
+pub returns-then-a-lt2000 : goal.returns-then-a-lt2000
+unfolding hold_for hold_after
+returns-then-a-lt2000 c = rw (← c.depth_of-n.ensures, lt-ltb _ _ c.if-t-lt-THREADS.true, lt-ltb _ _ c.if-a-lt2000.true) refl
+
+pub returns-else-a-lt2000 : goal.returns-else-a-lt2000
+unfolding hold_for hold_after
+returns-else-a-lt2000 c = rw (lt-ltb _ _ c.if-t-lt-THREADS.true, le-ltb _ _ c.if-a-lt2000.false) refl
+
+pub returns-else-t-lt-THREADS : goal.returns-else-t-lt-THREADS
+unfolding hold_for hold_after
+returns-else-t-lt-THREADS c = rw (le-ltb _ _ c.if-t-lt-THREADS.false) refl
