@@ -9,7 +9,7 @@ use lib.Dec.{T, ltb}
 use borrow.Author.Tests.{lt-ltb, ltb-true}
 use Rattle.rules.specs.declared.Event.{Event}
 use Rattle.rules.specs.declared.Kind.{Kind}
-use Rattle.rules.specs.declared.Kind.TheVariants.{Lock, Resume}
+use Rattle.rules.specs.declared.Kind.TheVariants.{Lock, Resume, Store, PrescientAssign, Write, PrescientStore, Wait, Read, Load, Use, Assign, Notify, Unlock}
 use Rattle.rules.specs.declared.Counts.{Counts}
 use Rattle.rules.specs.Events.{place, is, of, on, locks}
 use Rattle.rules.specs.Words.{by, locks_by, grip_after, grip, depth, remembered}
@@ -87,6 +87,17 @@ lock_taken_law h es e j q = go e.kind j (subst T (sym q) tt)
     u = e.thread
 
     go : (k : Kind) → judge h (words_of es) (event_by u e.line k) ≡ 0 → T (locks (event_by u e.line k)) → held (words_of (event_by u e.line k ∷ es)) u (place k) ≡ true
+    go (Use _ _) j q = elim q [ ]
+    go (Assign _ _) j q = elim q [ ]
+    go (Load _ _) j q = elim q [ ]
+    go (Store _ _) j q = elim q [ ]
+    go (Read _ _) j q = elim q [ ]
+    go (Write _ _) j q = elim q [ ]
+    go (Unlock _) j q = elim q [ ]
+    go (PrescientStore _ _) j q = elim q [ ]
+    go (PrescientAssign _ _) j q = elim q [ ]
+    go (Wait _) j q = elim q [ ]
+    go (Notify _ _) j q = elim q [ ]
     go (Lock i) j q = rw (eqb_yes u u refl, eqb_yes i i refl) (lt-ltb 0 (suc (grip u i es).held) (omega arith))
     go (Resume i) j q = rw (eqb_yes u u refl, eqb_yes i i refl, waited, waited)
       where

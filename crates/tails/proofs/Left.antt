@@ -9,7 +9,7 @@ use lib.IntN.{ℤ}
 use lib.ListN.{length, length-append, length-map, length-replicate}
 use borrow.Author.Tests.{not-true, not-false, ltb-false, eq-eqb}
 use Rattle.rules.specs.declared.Kind.{Kind}
-use Rattle.rules.specs.declared.Kind.TheVariants.{Assign, Load, Store, Read, Write, Unlock, PrescientStore, PrescientAssign}
+use Rattle.rules.specs.declared.Kind.TheVariants.{Assign, Load, Store, Read, Write, Unlock, PrescientStore, PrescientAssign, Lock, Resume, Wait, Notify, Use}
 use Rattle.rules.specs.declared.Event.{Event}
 use Rattle.rules.specs.declared.Slot.{Slot}
 use Rattle.rules.specs.declared.Counts.{Counts}
@@ -57,6 +57,12 @@ due_spoiled x c a b y = go c.pending c.fresh a b
 due_own : (h : Counts) (w : Words) (t n : ℕ) (k : Kind) → T (is changing (event_by t n k)) → Kept h w t k
     → due_of (part_of w t (place k)) ≤ 1 + due_of (part_with (changed (suc w.events) k (cell_of w t (place k))) ((next w (event_by t n k)).usable t (place k)) ((next w (event_by t n k)).copy t (place k)))
 unfolding due_of cell_of next by is of on locks_by locks
+due_own h w t n (Use _ _) o r = elim o [ ]
+due_own h w t n (Lock _) o r = elim o [ ]
+due_own h w t n (Unlock _) o r = elim o [ ]
+due_own h w t n (Wait _) o r = elim o [ ]
+due_own h w t n (Notify _ _) o r = elim o [ ]
+due_own h w t n (Resume _) o r = elim o [ ]
 due_own h w t n (Assign v x) o r = rw (eq-eqb t t refl, eq-eqb v v refl) (go (length (w.reads t v) + length (w.stores t v)) (w.pending t v) (w.fresh t v) (w.usable t v))
   where
     go : (n : ℕ) (p f u : Bool) → n + assigns p f u ≤ 1 + (n + assigns p true true)

@@ -8,7 +8,7 @@ use lib.Dec.{T, eqb}
 use lib.IntN.{ℤ}
 use borrow.Author.Tests.{eq-eqb}
 use Rattle.rules.specs.declared.Kind.{Kind}
-use Rattle.rules.specs.declared.Kind.TheVariants.{Assign, Store, Write, Lock, Unlock, PrescientAssign}
+use Rattle.rules.specs.declared.Kind.TheVariants.{Assign, Store, Write, Lock, Unlock, PrescientAssign, Read, Notify, Resume, Wait, PrescientStore, Load, Use}
 use Rattle.rules.specs.declared.Event.{Event}
 use Rattle.rules.specs.declared.Slot.{Slot}
 use Rattle.rules.specs.Events.{A, B, L, lock_letters, place, is, of, on, on_lock}
@@ -81,6 +81,17 @@ depth_off w e t l q = ap (λ g. g.held) (grip_kept t l e (grip_in w t l) q)
 depth_own : (w : Words) (t n : ℕ) (k : Kind) → T (is_ten (event_by t n k)) → T (is gripping (event_by t n k))
     → (w.depth t (place k) ≤ 1 + (next w (event_by t n k)).depth t (place k)) × ((next w (event_by t n k)).depth t (place k) ≤ 1 + w.depth t (place k))
 unfolding next grip_after by is of on
+depth_own w t n (Use _ _) o g = elim g [ ]
+depth_own w t n (Assign _ _) o g = elim g [ ]
+depth_own w t n (Load _ _) o g = elim g [ ]
+depth_own w t n (Store _ _) o g = elim g [ ]
+depth_own w t n (Read _ _) o g = elim g [ ]
+depth_own w t n (Write _ _) o g = elim g [ ]
+depth_own w t n (PrescientStore _ _) o g = elim g [ ]
+depth_own w t n (PrescientAssign _ _) o g = elim g [ ]
+depth_own w t n (Wait _) o g = elim o [ ]
+depth_own w t n (Notify _ _) o g = elim o [ ]
+depth_own w t n (Resume _) o g = elim o [ ]
 depth_own w t n (Lock l) o g = rw (eq-eqb t t refl, eq-eqb l l refl) (omega arith, omega arith)
 depth_own w t n (Unlock l) o g = rw (eq-eqb t t refl, eq-eqb l l refl) (less (w.depth t l))
   where

@@ -9,7 +9,7 @@ use mathlib.Core.Option.{some as found}
 use lib.Dec.{T}
 use lib.ListN.{length, length-append}
 use Rattle.rules.specs.declared.Kind.{Kind}
-use Rattle.rules.specs.declared.Kind.TheVariants.{Assign, Load, Store, Read, Write, PrescientStore, PrescientAssign}
+use Rattle.rules.specs.declared.Kind.TheVariants.{Assign, Load, Store, Read, Write, PrescientStore, PrescientAssign, Lock, Unlock, Resume, Wait, Notify, Use}
 use Rattle.rules.specs.declared.Event.{Event}
 use Rattle.rules.specs.declared.Slot.{Slot}
 use Rattle.rules.specs.declared.Counts.{Counts}
@@ -43,6 +43,12 @@ others_fewer (s ∷ ss) = omega arith
 base_own : (h : Counts) (w : Words) (t n : ℕ) (k : Kind) → T (is changing (event_by t n k)) → Kept h w t k
     → base_of (part_with (changed (suc w.events) k (cell_of w t (place k))) ((next w (event_by t n k)).usable t (place k)) ((next w (event_by t n k)).copy t (place k))) ≤ 1 + base_of (part_of w t (place k))
 unfolding base_of cell_of is
+base_own h w t n (Use _ _) o r = elim o [ ]
+base_own h w t n (Lock _) o r = elim o [ ]
+base_own h w t n (Unlock _) o r = elim o [ ]
+base_own h w t n (Wait _) o r = elim o [ ]
+base_own h w t n (Notify _ _) o r = elim o [ ]
+base_own h w t n (Resume _) o r = elim o [ ]
 base_own h w t n (Assign v x) o r = go (length (w.reads t v) + length (w.stores t v)) (w.pending t v) (w.fresh t v)
   where
     go : (n : ℕ) (p f : Bool) → n + cond p 0 1 ≤ 1 + (n + cond p 0 (cond f 1 0))
