@@ -18,15 +18,15 @@ returns-then-s-gt65536 c =
 pub slice_bounds-find_first-end : goal.slice_bounds-find_first-end
 slice_bounds-find_first-end c =
     let a = c.args in
-    let e = c.e-1.given in
-    let w = trailer_le a.s.now e.0.0 (sym c.find_trailer.ensures ∙ e.1) in
-    sym (length-take-le e.0.0 a.s.now w)
+    let e = c.in-At in
+    let w = trailer_le a.s.now e.e (sym c.find_trailer.ensures ∙ e.is) in
+    sym (length-take-le e.e a.s.now w)
 
 pub find_first-requires : goal.find_first-requires
 find_first-requires c =
     let a = c.args in
-    let e = c.e-1.given in
-    omega (arith, length-take e.0.0 a.s.now)
+    let e = c.in-At in
+    omega (arith, length-take e.e a.s.now)
 
 pub returns-in-Wrong : goal.returns-in-Wrong
 returns-in-Wrong c =
@@ -38,7 +38,7 @@ returns-in-Wrong c =
 pub returns-in-At : goal.returns-in-At
 returns-in-At c =
     let a = c.args in
-    let e = c.e-1.given in
+    let e = c.in-At in
     c.find_first.ensures
-    ∙ ap (λ (t : Trailer). behind_trailer (limits_of a.course) a.s.now t) (sym (sym c.find_trailer.ensures ∙ e.1))
+    ∙ ap (λ (t : Trailer). behind_trailer (limits_of a.course) a.s.now t) (sym (sym c.find_trailer.ensures ∙ e.is))
     ∙ trace_short (limits_of a.course) a.s.now (omega arith)

@@ -22,15 +22,14 @@ returns-then-s-last-ne10 c =
     let l = c.last_end-at in
     rw (l.ensures, ne_eqb (get_or s (length s - 1) 0) 10 c.if-s-last-ne10.true)
 
-starts : tie.Need-overflow-sub-trailer-number
+pub slice_bounds-trailer_number-start : goal.slice_bounds-trailer_number-start
 unfolding last_line
-starts c = omega (arith, c.before.before.last-end.ensures, last_le c.before.before.before.before.before.before.args.s.now)
+slice_bounds-trailer_number-start c = omega (arith, c.last_end-at.ensures, last_le c.args.s.now)
 
 pub slice_bounds-trailer_number-count : goal.slice_bounds-trailer_number-count
-slice_bounds-trailer_number-count c = starts c
+unfolding last_line
+slice_bounds-trailer_number-count c = omega (arith, c.last_end-at.ensures, last_le c.args.s.now)
 
-pub slice_bounds-trailer_number-start : goal.slice_bounds-trailer_number-start
-slice_bounds-trailer_number-start c = starts c
 
 pub returns : goal.returns
 unfolding last_line last_number

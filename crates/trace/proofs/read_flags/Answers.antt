@@ -50,8 +50,8 @@ bounds-g-n c =
     let a = c.args in
     let l = c.loop-e in
     let f = c.space_from-e-in-loop-e.result in
-    let n = c.n-1.given in
-    let k = rising_below a.v l.low (natural_of (take (f - (l.e + 1)) (drop (l.e + 1) a.s.now))) n.0.0 (sym c.read_rising.ensures ∙ n.1) in
+    let n = c.in-Of in
+    let k = rising_below a.v l.low (natural_of (take (f - (l.e + 1)) (drop (l.e + 1) a.s.now))) n.n (sym c.read_rising.ensures ∙ n.is) in
     omega (arith, k)
 
 pub overflow_add-low : goal.overflow_add-low
@@ -59,8 +59,8 @@ overflow_add-low c =
     let a = c.args in
     let l = c.loop-e in
     let f = c.space_from-e-in-loop-e.result in
-    let n = c.n-1.given in
-    let k = rising_below a.v l.low (natural_of (take (f - (l.e + 1)) (drop (l.e + 1) a.s.now))) n.0.0 (sym c.read_rising.ensures ∙ n.1) in
+    let n = c.in-Of in
+    let k = rising_below a.v l.low (natural_of (take (f - (l.e + 1)) (drop (l.e + 1) a.s.now))) n.n (sym c.read_rising.ensures ∙ n.is) in
     omega (arith, k)
 
 pub loop-e-smaller : goal.loop-e-smaller
@@ -76,9 +76,9 @@ loop-e-preserved c =
     let i = l.invariant.0 in
     let k = along_field s i l.e l.invariant.1 more f.result f.ensures in
     let w = along_next s i l.e l.invariant.1 more f.result f.ensures in
-    let n = c.n-1.given in
-    let e = sym (c.read_rising.ensures ∙ ap (λ (t : List ℕ). rising_of a.v l.low (natural_of t)) (sym k)) ∙ n.1 in
-    (i + 1, w, l.invariant.2 ∙ flags_step a.v l.low l.g i (split_on 32 s) n.0.0 (along_at s (i + 1) f.result w) e)
+    let n = c.in-Of in
+    let e = sym (c.read_rising.ensures ∙ ap (λ (t : List ℕ). rising_of a.v l.low (natural_of t)) (sym k)) ∙ n.is in
+    (i + 1, w, l.invariant.2 ∙ flags_step a.v l.low l.g i (split_on 32 s) n.n (along_at s (i + 1) f.result w) e)
 
 pub returns : goal.returns
 returns c =

@@ -96,9 +96,9 @@ loop-i-preserved c =
     let more : l.e < length s = along_more s l.i l.e l.invariant.1 (omega arith) in
     let q = c.space_from-e-in-loop-i.ensures in
     let k = along_field s l.i l.e l.invariant.1 more c.space_from-e-in-loop-i.result q in
-    let n = c.n-1.given in
-    let e = sym (c.read_lock.ensures ∙ ap (λ (f : List ℕ). lock_of a.l (natural_of f)) (sym k)) ∙ n.1 in
-    (omega arith, along_next s l.i l.e l.invariant.1 more c.space_from-e-in-loop-i.result q, l.invariant.2 ∙ locks_step l.i l.g a.l (split_on 32 s) n.0.0 (omega arith) e)
+    let n = c.in-Of in
+    let e = sym (c.read_lock.ensures ∙ ap (λ (f : List ℕ). lock_of a.l (natural_of f)) (sym k)) ∙ n.is in
+    (omega arith, along_next s l.i l.e l.invariant.1 more c.space_from-e-in-loop-i.result q, l.invariant.2 ∙ locks_step l.i l.g a.l (split_on 32 s) n.n (omega arith) e)
 
 pub returns : goal.returns
 returns c =
