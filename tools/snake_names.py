@@ -122,7 +122,8 @@ def turned(text, names):
 
 
 def code_turned(text, names):
-    """Strings stay."""
+    """Strings stay, and so does every name that code can have: those of definitions in clauses have a capital or a hyphen."""
+    names = {old: new for old, new in names.items() if re.search("[A-Z-]", old)}
     parts = re.split(r'("(?:[^"\\\n]|\\.)*")', text)
     return "".join(part if i % 2 else turned(part, names) for i, part in enumerate(parts))
 
@@ -138,16 +139,22 @@ def edit_turned(text, names):
     return "\n".join(out)
 
 
-def page_turned(text, names):
-    """Between backquotes, and in indented and fenced blocks; a name that the port's own script turned too."""
+def names_turned(text, names, known):
+    """The names turned, those too that the port's own script turned; projections are tight, as in definitions."""
+    text = WORD.sub(lambda m: m.group(0) if m.group(0) in names else wanted(m.group(0)) if wanted(m.group(0)) in known else m.group(0), text)
+    return turned(re.sub(r"(?<=[\w')]) \.(?=[a-z])", ".", text), names)
+
+
+def page_turned(text, names, known):
+    """Between backquotes, and in indented and fenced blocks."""
     lines, fenced = [], False
     for line in text.split("\n"):
         if line.startswith("```"):
             fenced = not fenced
         if fenced or line.startswith("    "):
-            line = turned(line, names)
+            line = names_turned(line, names, known)
         else:
-            line = re.sub(r"`[^`]+`", lambda m: turned(m.group(0), names), line)
+            line = re.sub(r"`[^`]+`", lambda m: names_turned(m.group(0), names, known), line)
         lines.append(line)
     return "\n".join(lines)
 
@@ -180,5 +187,6 @@ if __name__ == "__main__":
         put(path, code_turned(open(path, encoding="utf-8").read(), names))
     for path in files("crates/*/must-fail/*.edit"):
         put(path, edit_turned(open(path, encoding="utf-8").read(), names))
+    known = set(of_specs) | set(of_lemmas)
     for path in files("docs/*.md") + ["README.md", "tests/README.md"]:
-        put(path, page_turned(open(path, encoding="utf-8").read(), names))
+        put(path, page_turned(open(path, encoding="utf-8").read(), names, known))

@@ -27,7 +27,7 @@ pub struct Read {
     pub verdict: Verdict,
 }
 
-fn no_line_law() -> Line
+fn no_line() -> Line
     ensures { result ≡ no_line }
 {
     Line {
@@ -46,7 +46,7 @@ fn lock_end(s: &[u8], at: usize, k: u8, t: usize) -> Line
     let r = decimal::number_until(s, at, 10);
     let n = r.number;
     match n {
-        Natural::Bad => no_line_law(),
+        Natural::Bad => no_line(),
         Natural::Of(l) => Line {
             letter: k,
             thread: t,
@@ -64,7 +64,7 @@ fn notify_end(s: &[u8], at: usize, k: u8, t: usize, l: usize) -> Line
     let r = decimal::number_until(s, at, 10);
     let n = r.number;
     match n {
-        Natural::Bad => no_line_law(),
+        Natural::Bad => no_line(),
         Natural::Of(u) => Line {
             letter: k,
             thread: t,
@@ -85,7 +85,7 @@ fn lock_fields(s: &[u8], at: usize, k: u8, t: usize) -> Line
     let r = decimal::number_until(s, at, 32);
     let n = r.number;
     match n {
-        Natural::Bad => no_line_law(),
+        Natural::Bad => no_line(),
         Natural::Of(l) => notify_end(s, r.next, k, t, l),
     }
 }
@@ -94,8 +94,8 @@ fn made(k: u8, t: usize, v: usize, x: Integer, e: usize) -> Line
     ensures { result ≡ placed e (on_integer x (λ z. right k t v z)) }
 {
     match x {
-        Integer::Bad => no_line_law(),
-        Integer::Outside => no_line_law(),
+        Integer::Bad => no_line(),
+        Integer::Outside => no_line(),
         Integer::Of(z) => Line {
             letter: k,
             thread: t,
@@ -111,7 +111,7 @@ fn value_end(s: &[u8], at: usize, k: u8, t: usize, v: usize) -> Line
     ensures { result ≡ stage (last (value_end value_width k t v)) at (drop at s.now) }
 {
     if s.len() <= at {
-        return no_line_law();
+        return no_line();
     }
     if s[at] == b'-' {
         let r = decimal::number_until(s, at + 1, 10);
@@ -133,7 +133,7 @@ fn after_thread(s: &[u8], at: usize, k: u8, t: usize) -> Line
     let r = decimal::number_until(s, at, 32);
     let n = r.number;
     match n {
-        Natural::Bad => no_line_law(),
+        Natural::Bad => no_line(),
         Natural::Of(v) => value_end(s, r.next, k, t, v),
     }
 }
@@ -145,7 +145,7 @@ fn after_letter(s: &[u8], at: usize, k: u8) -> Line
     let r = decimal::number_until(s, at, 32);
     let n = r.number;
     match n {
-        Natural::Bad => no_line_law(),
+        Natural::Bad => no_line(),
         Natural::Of(t) => after_thread(s, r.next, k, t),
     }
 }
@@ -155,20 +155,20 @@ fn line_at(s: &[u8], at: usize) -> Line
     ensures { result ≡ line_at s.now at }
 {
     if s.len() <= at {
-        return no_line_law();
+        return no_line();
     }
     let k = s[at];
     if !rules::is_letter(k) {
-        return no_line_law();
+        return no_line();
     }
     let a = at + 1;
     if s.len() <= a {
-        return no_line_law();
+        return no_line();
     }
     if s[a] == 32 {
         after_letter(s, a + 1, k)
     } else {
-        no_line_law()
+        no_line()
     }
 }
 

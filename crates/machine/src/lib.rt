@@ -86,7 +86,7 @@ fn tally_after(a: Tally, c: Cell, d: Cell) -> Tally
 }
 
 // What some variable has.
-fn some_in_law(a: Tally) -> OnSome
+fn some_in(a: Tally) -> OnSome
     ensures { result ≡ some_in a }
 {
     OnSome {
@@ -294,7 +294,7 @@ fn run(start: State, counted: [Tally; THREADS], what: &[u32], value: &[Value]) -
             let hold = s.holds[v];
             let last = s.locked[t];
             let tally = tallies[t];
-            let any = some_in_law(tally);
+            let any = some_in(tally);
             let own = s.waits[t];
             if (k == b'K') | (k == b'N') {
                 // K, N: a lock, and what the variables of the thread have.
@@ -534,7 +534,7 @@ fn take_turn(s: State, e: Event) -> Judged
     let events = s.events + 1;
     let p = events as usize;
     let parts = parts_of(s, t, v, l, u);
-    let any = some_in_law(tally_of(s, t));
+    let any = some_in(tally_of(s, t));
     let turn = judging::any_turn(parts, h.threads, any, t, l, k, x, p);
     let own = s.waits[t];
     let ahead = judging::ahead_rule(own, parts.wait, h.locks, l, k);
