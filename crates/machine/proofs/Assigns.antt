@@ -6,7 +6,7 @@ use mathlib.Core.Bool.{true, false≢true}
 use mathlib.Core.List.{List, [], ◌∷◌}
 use lib.Dec.{T}
 use Rattle.rules.specs.declared.Kind.{Kind}
-use Rattle.rules.specs.declared.Kind.TheVariants.{Assign, Load, Store, Read, Write, PrescientStore, PrescientAssign}
+use Rattle.rules.specs.declared.Kind.TheVariants.{Assign, Load, Store, Read, Write, PrescientStore, PrescientAssign, Lock, Wait, Notify, Unlock, Resume, Use}
 use Rattle.rules.specs.declared.Event.{Event}
 use Rattle.rules.specs.declared.Counts.{Counts}
 use Rattle.rules.specs.Events.{place, is}
@@ -30,6 +30,12 @@ assigned_later c n a = record { fresh = a.fresh; last = omega (arith, a.last); s
 
 assigned_change : (h : Counts) (w : Words) (t n : ℕ) (k : Kind) → T (is changing (event_by t n k)) → Kept h w t k → Assigned (cell_of w t (place k)) w.events → Assigned (changed (suc w.events) k (cell_of w t (place k))) (suc w.events)
 unfolding cell_of is
+assigned_change h w t n (Use _ _) o r a = elim o [ ]
+assigned_change h w t n (Lock _) o r a = elim o [ ]
+assigned_change h w t n (Unlock _) o r a = elim o [ ]
+assigned_change h w t n (Wait _) o r a = elim o [ ]
+assigned_change h w t n (Notify _ _) o r a = elim o [ ]
+assigned_change h w t n (Resume _) o r a = elim o [ ]
 assigned_change h w t n (Assign v x) o r a = record { fresh = λ q. omega arith; last = omega arith; stores = placed_later 1 w.events (w.stores t v) a.stores }
 assigned_change h w t n (Load v x) o r a = record { fresh = a.fresh; last = omega (arith, a.last); stores = placed_later 1 w.events (w.stores t v) a.stores }
 assigned_change h w t n (Store v x) o r a = record {

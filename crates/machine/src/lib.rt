@@ -98,8 +98,8 @@ fn some_in(a: Tally) -> OnSome
 
 // The tally of thread t.
 fn tally_of(s: State, t: usize) -> Tally
-    requires fact_1 { t < 8 }
-    requires fact_2 { s.counts.variables ≤ 16 }
+    requires thread { t < 8 }
+    requires variables { s.counts.variables ≤ 16 }
     ensures { result ≡ tally_of s t }
 {
     let h = s.counts;
@@ -259,8 +259,8 @@ fn accept(main: [Main; VARIABLES], copies: [Cached; CELLS]) -> Outcome
 
 // The records of two rows, one after the other, from a state in range: line by line 4, 9, 5 and the row of its letter.
 fn run(start: State, counted: [Tally; THREADS], what: &[u32], value: &[Value]) -> Outcome
-    requires fact_1 { Ready start counted }
-    requires fact_2 { length value.now ≡ length what.now }
+    requires ready { Ready start counted }
+    requires as_many { length value.now ≡ length what.now }
     ensures { result ≡ outcome_of (walk full start (row_lines start.counts what.now value.now)) }
 {
     // The declared counts, copied once: read from the state they would be copied at each event.
@@ -472,10 +472,10 @@ fn asked(b: bool, n: usize) -> usize
 
 // The parts of a state that an event of thread t on variable v or lock l, with subject u, looks at.
 fn parts_of(s: State, t: usize, v: usize, l: usize, u: usize) -> Parts
-    requires fact_1 { t < 8 }
-    requires fact_2 { v < 16 }
-    requires fact_3 { l < 8 }
-    requires fact_4 { u < 8 }
+    requires thread { t < 8 }
+    requires variable { v < 16 }
+    requires lock { l < 8 }
+    requires subject { u < 8 }
     ensures { result ≡ parts_at s t v l u }
 {
     let at = state::cell_place(t, v);
