@@ -5,64 +5,69 @@
 ghost use Rattle.std.specs.Prelude.{◌≤◌};
 
 use finishing::Tail;
-use libc::STDOUT_FILENO;
 use machine::Answer;
 use ordering::Ordering;
 use report::Report;
 use rules::{Counts, Course, Event, Kind, Value};
 use state::State;
+use std::io::Print;
 
 // ---- What is written.
 
+// Bytes to standard output. Whether they can be written is not looked at: who runs this compares what came.
+fn put(rt: &impl Print, bytes: &[u8]) {
+    let _ = rt.write_all(bytes);
+}
+
 // The first k bytes of an output.
-fn show(out: &[u8], k: usize) {
+fn show(rt: &impl Print, out: &[u8], k: usize) {
     if k <= out.len() {
-        io::write_all(STDOUT_FILENO, &out[..k]);
+        put(rt, &out[..k]);
     }
 }
 
 // `=` and the numbers.
-fn row(ns: &[usize]) {
+fn row(rt: &impl Print, ns: &[usize]) {
     let mut out = [0u8; 256];
     let k = decimal::write_row_line(&mut out, b"=", ns);
-    show(&out, k);
+    show(rt, &out, k);
 }
 
 // `v 0 0` and the value.
-fn value(x: Value) {
+fn value(rt: &impl Print, x: Value) {
     let mut out = [0u8; 256];
     let ns: [usize; 2] = [0, 0];
     let k = decimal::write_value_line(&mut out, b"v", &ns, x);
-    show(&out, k);
+    show(rt, &out, k);
 }
 
 // `=` and a number.
-fn small(x: u8) {
+fn small(rt: &impl Print, x: u8) {
     let ns = [x as usize];
-    row(&ns);
+    row(rt, &ns);
 }
 
-fn large(x: u32) {
+fn large(rt: &impl Print, x: u32) {
     let ns = [x as usize];
-    row(&ns);
+    row(rt, &ns);
 }
 
 // One place of what is lent.
-fn byte(out: &[u8], i: usize) {
+fn byte(rt: &impl Print, out: &[u8], i: usize) {
     if i < out.len() {
-        small(out[i]);
+        small(rt, out[i]);
     }
 }
 
-fn word(what: &[u32], i: usize) {
+fn word(rt: &impl Print, what: &[u32], i: usize) {
     if i < what.len() {
-        large(what[i]);
+        large(rt, what[i]);
     }
 }
 
-fn value_at(values: &[Value], i: usize) {
+fn value_at(rt: &impl Print, values: &[Value], i: usize) {
     if i < values.len() {
-        value(values[i]);
+        value(rt, values[i]);
     }
 }
 
@@ -87,7 +92,7 @@ fn about_order(o: Ordering) -> usize {
 }
 
 // Number, line, events, written, whether there is an order, and what is said of it.
-fn reported(r: Report) {
+fn reported(rt: &impl Print, r: Report) {
     let v = r.verdict;
     let o = r.ordering;
     let number = rules::number_of(v);
@@ -95,34 +100,42 @@ fn reported(r: Report) {
     let given = ordered(o);
     let order = about_order(o);
     let ns = [number as usize, line, r.events, r.written, given, order];
-    row(&ns);
+    row(rt, &ns);
 }
 
 // What is said, the listing, and what the lent memory then holds.
-fn unordered(course: Course, paper: &[u8], what: &mut [u32], values: &mut [Value], out: &mut [u8]) {
+fn unordered(
+    rt: &impl Print,
+    course: Course,
+    paper: &[u8],
+    what: &mut [u32],
+    values: &mut [Value],
+    out: &mut [u8],
+) {
     let r = report::mark_unordered(course, paper, what, values, out);
-    reported(r);
-    show(out, r.written);
-    word(what, 0);
-    word(what, 10);
-    value_at(values, 1);
-    value_at(values, 10);
-    byte(out, 43);
+    reported(rt, r);
+    show(rt, out, r.written);
+    word(rt, what, 0);
+    word(rt, what, 10);
+    value_at(rt, values, 1);
+    value_at(rt, values, 10);
+    byte(rt, out, 43);
 }
 
 // With one place too few of each, then with enough; and three locks in the short course.
-fn orderless(paper: &[u8]) {
+fn orderless(rt: &impl Print, paper: &[u8]) {
     let mut what = [77u32; 2000];
     let mut few = [77u32; 1999];
     let mut values: [Value; 2000] = [77; 2000];
     let mut fewer: [Value; 1999] = [77; 1999];
     let mut out = [35u8; 32768];
     let mut narrow = [35u8; 32767];
-    unordered(Course::Full, paper, &mut few, &mut values, &mut out);
-    unordered(Course::Full, paper, &mut what, &mut fewer, &mut out);
-    unordered(Course::Full, paper, &mut what, &mut values, &mut narrow);
-    unordered(Course::Full, paper, &mut what, &mut values, &mut out);
+    unordered(rt, Course::Full, paper, &mut few, &mut values, &mut out);
+    unordered(rt, Course::Full, paper, &mut what, &mut fewer, &mut out);
+    unordered(rt, Course::Full, paper, &mut what, &mut values, &mut narrow);
+    unordered(rt, Course::Full, paper, &mut what, &mut values, &mut out);
     unordered(
+        rt,
         Course::Short,
         b"H 2 1 3\nG -\nZ 12\n",
         &mut what,
@@ -133,7 +146,7 @@ fn orderless(paper: &[u8]) {
 
 // ---- The writers of a trace.
 
-fn event(thread: usize, kind: Kind) {
+fn event(rt: &impl Print, thread: usize, kind: Kind) {
     let mut out = [35u8; 128];
     let e = Event {
         thread: thread,
@@ -141,7 +154,7 @@ fn event(thread: usize, kind: Kind) {
         kind: kind,
     };
     let k = writer::write_event(&mut out, e);
-    show(&out, k);
+    show(rt, &out, k);
 }
 
 fn counts(threads: usize, variables: usize, locks: usize) -> Counts {
@@ -153,70 +166,70 @@ fn counts(threads: usize, variables: usize, locks: usize) -> Counts {
     }
 }
 
-fn head(h: Counts) {
+fn head(rt: &impl Print, h: Counts) {
     let mut out = [35u8; 128];
     let k = writer::write_head(&mut out, h);
-    show(&out, k);
+    show(rt, &out, k);
 }
 
-fn guards(given: bool, ns: &[usize]) {
+fn guards(rt: &impl Print, given: bool, ns: &[usize]) {
     let mut out = [35u8; 128];
     let k = writer::write_guards(&mut out, given, ns);
-    show(&out, k);
+    show(rt, &out, k);
 }
 
-fn volatiles(ns: &[usize]) {
+fn volatiles(rt: &impl Print, ns: &[usize]) {
     let mut out = [35u8; 514];
     let k = writer::write_volatiles(&mut out, ns);
-    show(&out, k);
+    show(rt, &out, k);
 }
 
-fn trailer(n: usize) {
+fn trailer(rt: &impl Print, n: usize) {
     let mut out = [35u8; 128];
     let k = writer::write_trailer(&mut out, n);
-    show(&out, k);
+    show(rt, &out, k);
 }
 
 // The paper of document 01.
-fn canonical() {
+fn canonical(rt: &impl Print) {
     let h = counts(2, 1, 1);
     let locks: [usize; 1] = [0];
-    head(h);
-    guards(true, &locks);
-    event(0, Kind::Lock(0));
-    event(0, Kind::Assign(0, 5));
-    event(0, Kind::Store(0, 5));
-    event(0, Kind::Write(0, 5));
-    event(0, Kind::Unlock(0));
-    event(1, Kind::Lock(0));
-    event(1, Kind::Read(0, 5));
-    event(1, Kind::Load(0, 5));
-    event(1, Kind::Use(0, 5));
-    event(1, Kind::Unlock(0));
-    trailer(84);
+    head(rt, h);
+    guards(rt, true, &locks);
+    event(rt, 0, Kind::Lock(0));
+    event(rt, 0, Kind::Assign(0, 5));
+    event(rt, 0, Kind::Store(0, 5));
+    event(rt, 0, Kind::Write(0, 5));
+    event(rt, 0, Kind::Unlock(0));
+    event(rt, 1, Kind::Lock(0));
+    event(rt, 1, Kind::Read(0, 5));
+    event(rt, 1, Kind::Load(0, 5));
+    event(rt, 1, Kind::Use(0, 5));
+    event(rt, 1, Kind::Unlock(0));
+    trailer(rt, 84);
 }
 
-fn limits() {
+fn limits(rt: &impl Print) {
     let locks: [usize; 1] = [0];
-    guards(false, &locks);
+    guards(rt, false, &locks);
     let first: [usize; 1] = [0];
     let all: [usize; 16] = [0, 1, 2, 3, 4, 5, 6, 7, 8, 9, 10, 11, 12, 13, 14, 15];
-    volatiles(&first);
-    volatiles(&all);
-    event(7, Kind::Assign(15, -9223372036854775808));
-    event(7, Kind::Load(15, 9223372036854775807));
-    event(0, Kind::PrescientStore(15, -1));
-    event(7, Kind::PrescientAssign(0, 100));
-    event(18446744073709551615, Kind::Lock(18446744073709551615));
-    event(7, Kind::Wait(7));
-    event(0, Kind::Notify(7, 7));
+    volatiles(rt, &first);
+    volatiles(rt, &all);
+    event(rt, 7, Kind::Assign(15, -9223372036854775808));
+    event(rt, 7, Kind::Load(15, 9223372036854775807));
+    event(rt, 0, Kind::PrescientStore(15, -1));
+    event(rt, 7, Kind::PrescientAssign(0, 100));
+    event(rt, 18446744073709551615, Kind::Lock(18446744073709551615));
+    event(rt, 7, Kind::Wait(7));
+    event(rt, 0, Kind::Notify(7, 7));
     // A thread that is notified is held at 255.
-    event(0, Kind::Notify(0, 18446744073709551615));
-    event(7, Kind::Resume(0));
+    event(rt, 0, Kind::Notify(0, 18446744073709551615));
+    event(rt, 7, Kind::Resume(0));
 }
 
 // One byte less than each writer asks for: nothing is written.
-fn little_room() {
+fn little_room(rt: &impl Print) {
     let mut out = [35u8; 97];
     let mut narrow = [35u8; 35];
     let mut last = [35u8; 33];
@@ -233,28 +246,28 @@ fn little_room() {
     let d = writer::write_trailer(&mut last, 84);
     let f = writer::write_volatiles(&mut last, &locks);
     let ns = [a, b, c, d, f];
-    row(&ns);
-    byte(&out, 0);
-    byte(&narrow, 0);
-    byte(&last, 0);
+    row(rt, &ns);
+    byte(rt, &out, 0);
+    byte(rt, &narrow, 0);
+    byte(rt, &last, 0);
 }
 
 // ---- Rows of records.
 
 // Number and line, and variable 0 in main memory.
-fn marked(h: Counts, what: &[u32], values: &[Value]) {
+fn marked(rt: &impl Print, h: Counts, what: &[u32], values: &[Value]) {
     let r = machine::mark_row(h, what, values);
     let v = r.verdict;
     let m = r.memories;
     let number = rules::number_of(v);
     let line = rules::line_of(v);
     let ns = [number as usize, line];
-    row(&ns);
+    row(rt, &ns);
     let first = m.main[0];
-    value(first.value);
+    value(rt, first.value);
 }
 
-fn rows() {
+fn rows(rt: &impl Print) {
     let h = counts(2, 2, 2);
     let none = counts(0, 2, 2);
     // A 0 0, S 0 0, W 0 0, with the greatest value
@@ -268,51 +281,51 @@ fn rows() {
     let differ: [Value; 3] = [0, 5, 0];
     let long = [4259840u32; 2001];
     let fives: [Value; 2001] = [5; 2001];
-    marked(h, &stored, &most);
-    marked(h, &letter, &one);
-    marked(h, &stored, &one);
-    marked(none, &stored, &most);
-    marked(h, &loaded, &differ);
-    marked(h, &long, &fives);
+    marked(rt, h, &stored, &most);
+    marked(rt, h, &letter, &one);
+    marked(rt, h, &stored, &one);
+    marked(rt, none, &stored, &most);
+    marked(rt, h, &loaded, &differ);
+    marked(rt, h, &long, &fives);
 }
 
 // Variable 1 is volatile: its second assign is 26, at line 5. A volatile variable that is not declared: 3.
-fn volatile_rows() {
+fn volatile_rows(rt: &impl Print) {
     let mut h = counts(1, 2, 1);
     h.volatiles[1] = true;
     let fives: [Value; 2] = [5; 2];
     // A 0 0 twice; A 0 1 twice
     let other = [4259840u32; 2];
     let again = [4259841u32; 2];
-    marked(h, &other, &fives);
-    marked(h, &again, &fives);
+    marked(rt, h, &other, &fives);
+    marked(rt, h, &again, &fives);
     h.volatiles[2] = true;
-    marked(h, &other, &fives);
+    marked(rt, h, &other, &fives);
 }
 
 // Thread 0 waits, is notified by thread 1 and comes back. Before that F for -1, which is no thread, is 5, and for thread 1, which does not wait, 30, both
 // at line 6. The values of K, N, Y and C are not looked at.
-fn waiting_rows() {
+fn waiting_rows(rt: &impl Print) {
     let h = counts(2, 1, 1);
     // K 0 0, Y 0 0, K 1 0, F 1 0, N 1 0, C 0 0, N 0 0
     let what: [u32; 7] = [
         4915200, 5832704, 4915456, 4587776, 5112064, 4390912, 5111808,
     ];
     let mut values: [Value; 7] = [-1; 7];
-    marked(h, &what, &values);
+    marked(rt, h, &what, &values);
     values[3] = 1;
-    marked(h, &what, &values);
+    marked(rt, h, &what, &values);
     values[3] = 0;
-    marked(h, &what, &values);
+    marked(rt, h, &what, &values);
 }
 
 // ---- The part of a trace that holds its events.
 
-fn part(course: Course, paper: &[u8]) {
+fn part(rt: &impl Print, course: Course, paper: &[u8]) {
     let found = trace::find_events(course, paper);
-    io::write_all(STDOUT_FILENO, found);
+    put(rt, found);
     let ns = [found.len()];
-    row(&ns);
+    row(rt, &ns);
 }
 
 // ---- Steps over a lent state.
@@ -327,7 +340,7 @@ fn stepped(course: Course, mut s: State, e: Event) -> Answer {
 }
 
 // Number, line, and the events so far.
-fn step_in(course: Course, s: State, thread: usize, kind: Kind) -> State {
+fn step_in(rt: &impl Print, course: Course, s: State, thread: usize, kind: Kind) -> State {
     let e = Event {
         thread: thread,
         line: 0,
@@ -339,132 +352,132 @@ fn step_in(course: Course, s: State, thread: usize, kind: Kind) -> State {
     let number = rules::number_of(v);
     let line = rules::line_of(v);
     let ns = [number as usize, line, t.events as usize];
-    row(&ns);
+    row(rt, &ns);
     t
 }
 
-fn step(s: State, thread: usize, kind: Kind) -> State {
-    step_in(Course::Full, s, thread, kind)
+fn step(rt: &impl Print, s: State, thread: usize, kind: Kind) -> State {
+    step_in(rt, Course::Full, s, thread, kind)
 }
 
 // Holder and depth of lock 0, and variable 0 in main memory.
-fn held(s: State) {
+fn held(rt: &impl Print, s: State) {
     let lock = s.holds[0];
     let main = s.memory[0];
     let ns = [lock.holder as usize, lock.depth as usize];
-    row(&ns);
-    value(main.value);
+    row(rt, &ns);
+    value(rt, main.value);
 }
 
 // A lock that another thread holds.
-fn locks(h: Counts) {
+fn locks(rt: &impl Print, h: Counts) {
     let mut s = state::initial(h);
-    s = step(s, 0, Kind::Lock(0));
-    s = step(s, 0, Kind::Lock(0));
-    s = step(s, 0, Kind::Unlock(0));
-    s = step(s, 1, Kind::Lock(0));
-    held(s);
+    s = step(rt, s, 0, Kind::Lock(0));
+    s = step(rt, s, 0, Kind::Lock(0));
+    s = step(rt, s, 0, Kind::Unlock(0));
+    s = step(rt, s, 1, Kind::Lock(0));
+    held(rt, s);
 }
 
 // All kinds without a wait; then 5, 9 and 8, which leave the state as it was.
-fn kinds(h: Counts) {
+fn kinds(rt: &impl Print, h: Counts) {
     let mut s = state::initial(h);
-    s = step(s, 0, Kind::Lock(0));
-    s = step(s, 0, Kind::Read(0, 0));
-    s = step(s, 0, Kind::Load(0, 0));
-    s = step(s, 0, Kind::Use(0, 0));
-    s = step(s, 0, Kind::Assign(0, 9223372036854775807));
-    s = step(s, 0, Kind::Store(0, 9223372036854775807));
-    s = step(s, 0, Kind::Write(0, 9223372036854775807));
-    s = step(s, 0, Kind::PrescientStore(0, -9223372036854775808));
-    s = step(s, 0, Kind::Write(0, -9223372036854775808));
-    s = step(s, 0, Kind::PrescientAssign(0, -9223372036854775808));
-    s = step(s, 0, Kind::Unlock(0));
-    held(s);
-    s = step(s, 2, Kind::Lock(0));
+    s = step(rt, s, 0, Kind::Lock(0));
+    s = step(rt, s, 0, Kind::Read(0, 0));
+    s = step(rt, s, 0, Kind::Load(0, 0));
+    s = step(rt, s, 0, Kind::Use(0, 0));
+    s = step(rt, s, 0, Kind::Assign(0, 9223372036854775807));
+    s = step(rt, s, 0, Kind::Store(0, 9223372036854775807));
+    s = step(rt, s, 0, Kind::Write(0, 9223372036854775807));
+    s = step(rt, s, 0, Kind::PrescientStore(0, -9223372036854775808));
+    s = step(rt, s, 0, Kind::Write(0, -9223372036854775808));
+    s = step(rt, s, 0, Kind::PrescientAssign(0, -9223372036854775808));
+    s = step(rt, s, 0, Kind::Unlock(0));
+    held(rt, s);
+    s = step(rt, s, 2, Kind::Lock(0));
     s.events = 2000;
-    s = step(s, 0, Kind::Lock(0));
+    s = step(rt, s, 0, Kind::Lock(0));
     s.events = 2001;
-    s = step(s, 0, Kind::Lock(0));
-    held(s);
+    s = step(rt, s, 0, Kind::Lock(0));
+    held(rt, s);
 }
 
 // The short course: its event 200, then 25, 8 for 201 events, which the full course takes, and 8 for three threads.
-fn short_steps(h: Counts) {
+fn short_steps(rt: &impl Print, h: Counts) {
     let mut s = state::initial(h);
     s.events = 199;
-    s = step_in(Course::Short, s, 0, Kind::Lock(0));
-    s = step_in(Course::Short, s, 2, Kind::Lock(0));
+    s = step_in(rt, Course::Short, s, 0, Kind::Lock(0));
+    s = step_in(rt, Course::Short, s, 2, Kind::Lock(0));
     s.events = 201;
-    s = step_in(Course::Short, s, 0, Kind::Lock(0));
-    s = step(s, 0, Kind::Lock(0));
-    held(s);
+    s = step_in(rt, Course::Short, s, 0, Kind::Lock(0));
+    s = step(rt, s, 0, Kind::Lock(0));
+    held(rt, s);
     let many = counts(3, 2, 2);
     s = state::initial(many);
-    s = step_in(Course::Short, s, 0, Kind::Lock(0));
-    held(s);
+    s = step_in(rt, Course::Short, s, 0, Kind::Lock(0));
+    held(rt, s);
 }
 
 // A volatile variable: lines are one further down. A use without its load, a second assign, an early store; then 8 for a volatile variable that is not
 // declared.
-fn volatile_steps() {
+fn volatile_steps(rt: &impl Print) {
     let mut h = counts(1, 2, 1);
     h.volatiles[0] = true;
     let mut s = state::initial(h);
-    s = step(s, 0, Kind::Use(0, 0));
-    s = step(s, 0, Kind::Assign(0, 5));
-    s = step(s, 0, Kind::Assign(0, 6));
-    s = step(s, 0, Kind::Store(0, 5));
-    s = step(s, 0, Kind::PrescientStore(0, 5));
-    s = step(s, 0, Kind::Write(0, 5));
+    s = step(rt, s, 0, Kind::Use(0, 0));
+    s = step(rt, s, 0, Kind::Assign(0, 5));
+    s = step(rt, s, 0, Kind::Assign(0, 6));
+    s = step(rt, s, 0, Kind::Store(0, 5));
+    s = step(rt, s, 0, Kind::PrescientStore(0, 5));
+    s = step(rt, s, 0, Kind::Write(0, 5));
     h.volatiles[2] = true;
     s.counts = h;
-    s = step(s, 0, Kind::Lock(0));
-    held(s);
+    s = step(rt, s, 0, Kind::Lock(0));
+    held(rt, s);
 }
 
 // What thread 0 waits for: its lock's number plus 1, the holds that it gave up, and whether it is notified.
-fn awaited(s: State) {
+fn awaited(rt: &impl Print, s: State) {
     let w = s.waits[0];
     let ns = [w.lock, w.depth as usize, w.notified as usize];
-    row(&ns);
+    row(rt, &ns);
 }
 
 // Thread 0 gives up two holds, is notified and takes them again. Refused on the way: F for a thread that does not wait; of the waiting thread an assign, and a
 // C before it is notified; F by a thread without the lock, for an undeclared thread, on another lock and a second time; C while another holds the lock.
-fn waiting_steps(h: Counts) {
+fn waiting_steps(rt: &impl Print, h: Counts) {
     let mut s = state::initial(h);
-    s = step(s, 0, Kind::Lock(0));
-    s = step(s, 0, Kind::Lock(0));
-    s = step(s, 0, Kind::Notify(0, 1));
-    s = step(s, 0, Kind::Wait(0));
-    held(s);
-    awaited(s);
-    s = step(s, 0, Kind::Assign(0, 5));
-    s = step(s, 0, Kind::Read(0, 0));
-    s = step(s, 0, Kind::Resume(0));
-    s = step(s, 1, Kind::Notify(0, 0));
-    s = step(s, 1, Kind::Lock(0));
-    s = step(s, 1, Kind::Notify(0, 2));
-    s = step(s, 1, Kind::Notify(1, 0));
-    s = step(s, 1, Kind::Notify(0, 0));
-    awaited(s);
-    s = step(s, 1, Kind::Notify(0, 0));
-    s = step(s, 0, Kind::Resume(0));
-    s = step(s, 1, Kind::Unlock(0));
-    s = step(s, 0, Kind::Resume(0));
-    held(s);
-    awaited(s);
+    s = step(rt, s, 0, Kind::Lock(0));
+    s = step(rt, s, 0, Kind::Lock(0));
+    s = step(rt, s, 0, Kind::Notify(0, 1));
+    s = step(rt, s, 0, Kind::Wait(0));
+    held(rt, s);
+    awaited(rt, s);
+    s = step(rt, s, 0, Kind::Assign(0, 5));
+    s = step(rt, s, 0, Kind::Read(0, 0));
+    s = step(rt, s, 0, Kind::Resume(0));
+    s = step(rt, s, 1, Kind::Notify(0, 0));
+    s = step(rt, s, 1, Kind::Lock(0));
+    s = step(rt, s, 1, Kind::Notify(0, 2));
+    s = step(rt, s, 1, Kind::Notify(1, 0));
+    s = step(rt, s, 1, Kind::Notify(0, 0));
+    awaited(rt, s);
+    s = step(rt, s, 1, Kind::Notify(0, 0));
+    s = step(rt, s, 0, Kind::Resume(0));
+    s = step(rt, s, 1, Kind::Unlock(0));
+    s = step(rt, s, 0, Kind::Resume(0));
+    held(rt, s);
+    awaited(rt, s);
 }
 
-fn steps() {
-    io::write_all(STDOUT_FILENO, b"steps in place\n");
+fn steps(rt: &impl Print) {
+    put(rt, b"steps in place\n");
     let h = counts(2, 2, 2);
-    volatile_steps();
-    locks(h);
-    kinds(h);
-    waiting_steps(h);
-    short_steps(h);
+    volatile_steps(rt);
+    locks(rt, h);
+    kinds(rt, h);
+    waiting_steps(rt, h);
+    short_steps(rt, h);
 }
 
 // ---- Lent rows of events.
@@ -494,35 +507,35 @@ fn filler() -> Event {
 }
 
 // The line of an event, and the event.
-fn listed(e: Event) {
+fn listed(rt: &impl Print, e: Event) {
     let mut out = [35u8; 128];
     let ns = [e.line];
-    row(&ns);
+    row(rt, &ns);
     let k = writer::write_event(&mut out, e);
-    show(&out, k);
+    show(rt, &out, k);
 }
 
-fn all_listed(rows: [Event; 5]) {
-    listed(rows[0]);
-    listed(rows[1]);
-    listed(rows[2]);
-    listed(rows[3]);
-    listed(rows[4]);
+fn all_listed(rt: &impl Print, rows: [Event; 5]) {
+    listed(rt, rows[0]);
+    listed(rt, rows[1]);
+    listed(rt, rows[2]);
+    listed(rt, rows[3]);
+    listed(rt, rows[4]);
 }
 
-fn fill(places: usize, what: &[u32], values: &[Value], n: usize)
+fn fill(rt: &impl Print, places: usize, what: &[u32], values: &[Value], n: usize)
     requires { places ≤ 5 }
 {
     let h = counts(1, 2, 1);
     let e = filler();
     let rows = filled([e; 5], places, h, what, values, n);
-    all_listed(rows);
+    all_listed(rt, rows);
 }
 
 // As many events as are asked for, as there are records, as are lent, as there are values, as are lent again; then up to a number that packs
 // none, the second and the first.
-fn fills() {
-    io::write_all(STDOUT_FILENO, b"rows of events\n");
+fn fills(rt: &impl Print) {
+    put(rt, b"rows of events\n");
     // K 0 0, A 0 1 and the least value, N 0 0
     let what: [u32; 3] = [4915200, 4259841, 5111808];
     let values: [Value; 3] = [0, -9223372036854775808, 0];
@@ -535,14 +548,14 @@ fn fills() {
     let above: [u32; 3] = [4294967295, 4915200, 5111808];
     let many = [4915200u32; 7];
     let zeros: [Value; 7] = [0; 7];
-    fill(5, &what, &values, 2);
-    fill(5, &what, &values, 9);
-    fill(2, &what, &values, 3);
-    fill(5, &what, &one, 3);
-    fill(5, &waited, &notified, 4);
-    fill(5, &many, &zeros, 7);
-    fill(5, &stray, &values, 3);
-    fill(5, &above, &values, 3);
+    fill(rt, 5, &what, &values, 2);
+    fill(rt, 5, &what, &values, 9);
+    fill(rt, 2, &what, &values, 3);
+    fill(rt, 5, &what, &one, 3);
+    fill(rt, 5, &waited, &notified, 4);
+    fill(rt, 5, &many, &zeros, 7);
+    fill(rt, 5, &stray, &values, 3);
+    fill(rt, 5, &above, &values, 3);
 }
 
 // ---- A trace into lent events.
@@ -573,32 +586,33 @@ fn events_marked(
     }
 }
 
-fn entry(list: &[u64], i: usize) {
+fn entry(rt: &impl Print, list: &[u64], i: usize) {
     if i < list.len() {
         let ns = [list[i] as usize];
-        row(&ns);
+        row(rt, &ns);
     }
 }
 
 // The first event, the tenth, and the place after it.
-fn events_in(rows: [Event; 2000]) {
-    listed(rows[0]);
-    listed(rows[9]);
-    listed(rows[10]);
+fn events_in(rt: &impl Print, rows: [Event; 2000]) {
+    listed(rt, rows[0]);
+    listed(rt, rows[9]);
+    listed(rt, rows[10]);
 }
 
 // The first three places of the order list; of the scratch the first, the last that must be lent and the next, where they are lent.
-fn lists(list: &[u64], scratch: &[u64]) {
-    entry(list, 0);
-    entry(list, 1);
-    entry(list, 2);
-    entry(scratch, 0);
-    entry(scratch, 999);
-    entry(scratch, 1000);
+fn lists(rt: &impl Print, list: &[u64], scratch: &[u64]) {
+    entry(rt, list, 0);
+    entry(rt, list, 1);
+    entry(rt, list, 2);
+    entry(rt, scratch, 0);
+    entry(rt, scratch, 999);
+    entry(rt, scratch, 1000);
 }
 
 // What is said, the listing, and what the lent memory then holds.
 fn eventful(
+    rt: &impl Print,
     course: Course,
     paper: &[u8],
     places: usize,
@@ -612,15 +626,16 @@ fn eventful(
     let o = events_marked(course, paper, [e; 2000], places, out, list, scratch);
     let r = o.report;
     let rows = o.rows;
-    reported(r);
-    show(out, r.written);
-    byte(out, r.written);
-    events_in(rows);
-    lists(list, scratch);
+    reported(rt, r);
+    show(rt, out, r.written);
+    byte(rt, out, r.written);
+    events_in(rt, rows);
+    lists(rt, list, scratch);
 }
 
 // So many places are lent.
 fn eventful_in(
+    rt: &impl Print,
     course: Course,
     paper: &[u8],
     places: usize,
@@ -634,6 +649,7 @@ fn eventful_in(
     let mut list = [77u64; 1000];
     let mut scratch = [77u64; 1001];
     eventful(
+        rt,
         course,
         paper,
         places,
@@ -646,13 +662,14 @@ fn eventful_in(
 // 7, with one place too few of each; then a trace that is refused, one without an order, and one with it, also from a longer
 // scratch and in the short course, one that is over its limits, one in which a thread waits and comes back, and one in which it still waits;
 // an order without sections, and no guards.
-fn traces(paper: &[u8]) {
-    io::write_all(STDOUT_FILENO, b"a trace into events\n");
-    eventful_in(Course::Full, paper, 1999, 32768, 1000, 1000);
-    eventful_in(Course::Full, paper, 2000, 32767, 1000, 1000);
-    eventful_in(Course::Full, paper, 2000, 32768, 999, 1000);
-    eventful_in(Course::Full, paper, 2000, 32768, 1000, 999);
+fn traces(rt: &impl Print, paper: &[u8]) {
+    put(rt, b"a trace into events\n");
+    eventful_in(rt, Course::Full, paper, 1999, 32768, 1000, 1000);
+    eventful_in(rt, Course::Full, paper, 2000, 32767, 1000, 1000);
+    eventful_in(rt, Course::Full, paper, 2000, 32768, 999, 1000);
+    eventful_in(rt, Course::Full, paper, 2000, 32768, 1000, 999);
     eventful_in(
+        rt,
         Course::Full,
         b"H 2 1 1\nG 0\nU 0 0 0\nZ 20\n",
         2000,
@@ -661,6 +678,7 @@ fn traces(paper: &[u8]) {
         1000,
     );
     eventful_in(
+        rt,
         Course::Full,
         b"H 1 1 1\nG 0\nA 0 0 -9223372036854775808\nZ 39\n",
         2000,
@@ -668,10 +686,11 @@ fn traces(paper: &[u8]) {
         1000,
         1000,
     );
-    eventful_in(Course::Full, paper, 2000, 32768, 1000, 1000);
-    eventful_in(Course::Full, paper, 2000, 32768, 1000, 1001);
-    eventful_in(Course::Short, paper, 2000, 32768, 1000, 1000);
+    eventful_in(rt, Course::Full, paper, 2000, 32768, 1000, 1000);
+    eventful_in(rt, Course::Full, paper, 2000, 32768, 1000, 1001);
+    eventful_in(rt, Course::Short, paper, 2000, 32768, 1000, 1000);
     eventful_in(
+        rt,
         Course::Short,
         b"H 3 1 1\nG -\nZ 12\n",
         2000,
@@ -680,6 +699,7 @@ fn traces(paper: &[u8]) {
         1000,
     );
     eventful_in(
+        rt,
         Course::Full,
         b"H 2 1 1\nG 0\nK 0 0\nR 0 0 0\nL 0 0 0\nU 0 0 0\nY 0 0\nK 1 0\nA 1 0 5\nS 1 0 5\nW 1 0 5\nF 1 0 0\nN 1 0\nC 0 0\nR 0 0 5\nL 0 0 5\nU 0 0 5\nN 0 0\nZ 128\n",
         2000,
@@ -688,6 +708,7 @@ fn traces(paper: &[u8]) {
         1000,
     );
     eventful_in(
+        rt,
         Course::Full,
         b"H 1 1 1\nG 0\nK 0 0\nY 0 0\nZ 24\n",
         2000,
@@ -696,6 +717,7 @@ fn traces(paper: &[u8]) {
         1000,
     );
     eventful_in(
+        rt,
         Course::Full,
         b"H 1 1 1\nG 0\nZ 12\n",
         2000,
@@ -704,6 +726,7 @@ fn traces(paper: &[u8]) {
         1000,
     );
     eventful_in(
+        rt,
         Course::Full,
         b"H 1 1 1\nG -\nZ 12\n",
         2000,
@@ -734,67 +757,67 @@ fn events_finished(course: Course, bytes: &[u8], mut rows: [Event; 5], places: u
 }
 
 // Number, line, events, and the line of the first.
-fn told(t: Tail) {
+fn told(rt: &impl Print, t: Tail) {
     match t {
         Tail::Given(n, line) => {
             let ns = [0, 0, n, line];
-            row(&ns);
+            row(rt, &ns);
         }
         Tail::Refused(number, line) => {
             let ns = [number as usize, line, 0, 0];
-            row(&ns);
+            row(rt, &ns);
         }
     }
 }
 
-fn finish(course: Course, paper: &[u8], places: usize)
+fn finish(rt: &impl Print, course: Course, paper: &[u8], places: usize)
     requires { places ≤ 5 }
 {
     let e = filler();
     let o = events_finished(course, paper, [e; 5], places);
     let t = o.tail;
     let rows = o.rows;
-    told(t);
-    all_listed(rows);
+    told(rt, t);
+    all_listed(rt, rows);
 }
 
 // A tail of four events, with one place more, all of them and one too few; none left to do; a trace that is refused; 24 of a volatile variable
 // and of a wait; a trace over the limits of the short course.
-fn tails() {
-    io::write_all(STDOUT_FILENO, b"a tail into events\n");
+fn tails(rt: &impl Print) {
+    put(rt, b"a tail into events\n");
     let open = b"H 2 1 1\nG 0\nK 0 0\nA 0 0 5\nR 1 0 0\nZ 34\n";
-    finish(Course::Full, open, 5);
-    finish(Course::Short, open, 4);
-    finish(Course::Full, open, 3);
-    finish(Course::Full, b"H 1 1 1\nG 0\nZ 12\n", 0);
-    finish(Course::Full, b"H 2 1 1\nG 0\nU 0 0 0\nZ 20\n", 5);
-    finish(Course::Full, b"H 1 1 0\nG -\nV 0\nA 0 0 5\nZ 24\n", 5);
-    finish(Course::Full, b"H 1 1 1\nG 0\nK 0 0\nY 0 0\nZ 24\n", 5);
-    finish(Course::Short, b"H 3 1 1\nG -\nZ 12\n", 5);
+    finish(rt, Course::Full, open, 5);
+    finish(rt, Course::Short, open, 4);
+    finish(rt, Course::Full, open, 3);
+    finish(rt, Course::Full, b"H 1 1 1\nG 0\nZ 12\n", 0);
+    finish(rt, Course::Full, b"H 2 1 1\nG 0\nU 0 0 0\nZ 20\n", 5);
+    finish(rt, Course::Full, b"H 1 1 0\nG -\nV 0\nA 0 0 5\nZ 24\n", 5);
+    finish(rt, Course::Full, b"H 1 1 1\nG 0\nK 0 0\nY 0 0\nZ 24\n", 5);
+    finish(rt, Course::Short, b"H 3 1 1\nG -\nZ 12\n", 5);
 }
 
-fn main() {
+fn main(rt: HostRuntime) {
     let paper =
         b"H 2 1 1\nG 0\nK 0 0\nA 0 0 5\nS 0 0 5\nW 0 0 5\nN 0 0\nK 1 0\nR 1 0 5\nL 1 0 5\nU 1 0 5\nN 1 0\nZ 84\n";
-    io::write_all(STDOUT_FILENO, b"no order wanted\n");
-    orderless(paper);
-    orderless(b"H 1 1 1\nG 0\nK 0 0\nY 0 0\nZ 24\n");
-    io::write_all(STDOUT_FILENO, b"the writers\n");
-    canonical();
-    limits();
-    little_room();
-    io::write_all(STDOUT_FILENO, b"rows of records\n");
-    rows();
-    volatile_rows();
-    waiting_rows();
-    io::write_all(STDOUT_FILENO, b"the events of a trace\n");
-    part(Course::Full, paper);
-    part(Course::Full, b"Z 0\n");
-    part(Course::Full, b"H 1 1 0\nG -\nV 0\nA 0 0 5\nZ 24\n");
-    part(Course::Short, paper);
-    part(Course::Short, b"H 1 5 1\nG -\nK 0 0\nZ 18\n");
-    steps();
-    fills();
-    traces(paper);
-    tails();
+    put(&rt, b"no order wanted\n");
+    orderless(&rt, paper);
+    orderless(&rt, b"H 1 1 1\nG 0\nK 0 0\nY 0 0\nZ 24\n");
+    put(&rt, b"the writers\n");
+    canonical(&rt);
+    limits(&rt);
+    little_room(&rt);
+    put(&rt, b"rows of records\n");
+    rows(&rt);
+    volatile_rows(&rt);
+    waiting_rows(&rt);
+    put(&rt, b"the events of a trace\n");
+    part(&rt, Course::Full, paper);
+    part(&rt, Course::Full, b"Z 0\n");
+    part(&rt, Course::Full, b"H 1 1 0\nG -\nV 0\nA 0 0 5\nZ 24\n");
+    part(&rt, Course::Short, paper);
+    part(&rt, Course::Short, b"H 1 5 1\nG -\nK 0 0\nZ 18\n");
+    steps(&rt);
+    fills(&rt);
+    traces(&rt, paper);
+    tails(&rt);
 }

@@ -5,10 +5,10 @@ use print::INPUT;
 use rules::Course;
 
 // Where the sheet was not read to its end, nothing is counted.
-fn main() {
+fn main(rt: HostRuntime) {
     let mut text = [0u8; INPUT];
-    let input = print::read_input(&mut text);
+    let input = print::read_input(&rt, &mut rt.stdin(), &mut text);
     if input.whole {
-        let _written = print::print_sheet(Course::Full, &text[..input.count]);
+        let _written = print::print_sheet(&rt, Course::Full, &text[..input.count]);
     }
 }
