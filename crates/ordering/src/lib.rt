@@ -207,8 +207,8 @@ fn idle_or(depth: u32, x: u64, y: u64) -> u64
 // many K and C.
 fn fill(h: Counts, what: &[u32], value: &[Value], scratch: &mut [u64]) -> usize
     requires fits { Fits h what.now value.now }
-    requires what_value { unfinished h (past (event_at h what.now value.now) (length what.now)) ≡ false }
-    requires scratch_in_bounds { full.scratch ≤ length scratch.old }
+    requires ended { unfinished h (past (event_at h what.now value.now) (length what.now)) ≡ false }
+    requires places { full.scratch ≤ length scratch.old }
     ensures { Filled h what.now value.now result scratch.new }
 {
     let mut levels: [u32; CELLS] = [0; CELLS];
@@ -301,7 +301,7 @@ fn order_rows(
     scratch: &mut [u64],
 ) -> Ordering
     requires fits { Fits h what.now value.now }
-    requires scratch_value { order_short full (length list.old) (length scratch.old) ≡ false }
+    requires room { order_short full (length list.old) (length scratch.old) ≡ false }
     ensures { Given (answer_for h g (row_events h what.now value.now)) (entries_for h (row_events h what.now value.now)) list.old scratch.old result list.new scratch.new }
 {
     if !g.given {
@@ -326,9 +326,9 @@ fn order_front(
     list: &mut [u64],
     scratch: &mut [u64],
 ) -> Ordering
-    requires n_in_bounds { (n ≤ length what.now) × (n ≤ length value.now) }
+    requires within { (n ≤ length what.now) × (n ≤ length value.now) }
     requires fits { Fits h (take n what.now) (take n value.now) }
-    requires scratch_value { order_short full (length list.old) (length scratch.old) ≡ false }
+    requires room { order_short full (length list.old) (length scratch.old) ≡ false }
     ensures { Given (answer_for h g (row_events h (take n what.now) (take n value.now))) (entries_for h (row_events h (take n what.now) (take n value.now))) list.old scratch.old result list.new scratch.new }
 {
     order_rows(h, g, &what[..n], &value[..n], list, scratch)

@@ -4,11 +4,9 @@ use native.Mathlib.Decide.{dec_lt}
 use native.Mathlib.Omega.{arith}
 use mathlib.Core.Path.{◌≡◌, ◌∙◌, ap}
 use mathlib.Core.Bool.{cond}
-use borrow.Author.Rules.{rules}
 use borrow.Author.Tests.{lt-ltb, le-ltb}
 use Rattle.ordering.specs.Computed.Parts.{guard_cell, under_in}
-use Rattle.ordering.proofs.is_under.Statement.{statement}
-use Rattle.ordering.proofs.is_under.Tie as tie
+use Rattle.ordering.proofs.is_under.Goals as goal
 
 -- the place of a guard's level lies in the array
 guard_in : (t g : ℕ) {i : ℕ} → t < 8 → i ≡ guard_cell t g → i < 128
@@ -19,18 +17,12 @@ guard_in t g {i} h e = go (dec_lt g 16)
     go (yes q) = let z : i ≡ t * 16 + g = e ∙ ap (λ b. cond b (t * 16 + g) 0) (lt-ltb g 16 q) in omega (arith, z, h, q)
     go (no q) = let z : i ≡ 0 = e ∙ ap (λ b. cond b (t * 16 + g) 0) (le-ltb g 16 (omega (arith, q))) in omega (arith, z)
 
-guard-cell-requires : tie.Need-guard-cell-requires
-guard-cell-requires c κs = search rules
+pub offset_bounds-levels-c : goal.offset_bounds-levels-c
+offset_bounds-levels-c c = omega (arith, guard_in _ _ c.requires c.guard_cell-c.ensures)
 
-mul-result : tie.Need-overflow-mul-result
-mul-result c = omega (arith, guard_in _ _ c.before.requires c.guard-cell.ensures)
+pub bounds-levels-c : goal.bounds-levels-c
+bounds-levels-c c = omega (arith, guard_in _ _ c.requires c.guard_cell-c.ensures)
 
-element-copy-out-result : tie.Need-element-copy-out-result
-element-copy-out-result c = omega (arith, guard_in _ _ c.before.requires c.guard-cell.ensures)
-
-returns : tie.Need-returns
+pub returns : goal.returns
 unfolding under_in
-returns c = rw c.before.guard-cell.ensures
-
-pub is_under_spec : {M : Type 1} → statement M
-is_under_spec = tie.close (tie.spec guard-cell-requires mul-result element-copy-out-result returns)
+returns c = rw c.guard_cell-c.ensures
