@@ -22,7 +22,7 @@ slice_bounds-what-end c =
     let t = c.make_tail-made in
     let k = limits_of a.course in
     let u = up_to_full a.course in
-    whats_low k u a.s.now _ _ t.result t.new.values.1.0 t.new.values.1.1.0 (length-replicate {A = ℕ} 2256 0) (length-replicate 2256 (pos 0)) t.ensures c.in-Given.n c.in-Given.field-1 c.in-Given.is
+    whats_low k u a.s.now _ _ t.result t.new.whats t.new.values (length-replicate {A = ℕ} 2256 0) (length-replicate 2256 (pos 0)) t.ensures c.in-Given.n c.in-Given.field-1 c.in-Given.is
 
 pub slice_bounds-write_records-end : goal.slice_bounds-write_records-end
 slice_bounds-write_records-end c =
@@ -30,7 +30,7 @@ slice_bounds-write_records-end c =
     let t = c.make_tail-made in
     let k = limits_of a.course in
     let u = up_to_full a.course in
-    sym (length-take-le c.in-Given.n t.new.values.1.0 (whats_low k u a.s.now _ _ t.result t.new.values.1.0 t.new.values.1.1.0 (length-replicate {A = ℕ} 2256 0) (length-replicate 2256 (pos 0)) t.ensures c.in-Given.n c.in-Given.field-1 c.in-Given.is))
+    sym (length-take-le c.in-Given.n t.new.whats (whats_low k u a.s.now _ _ t.result t.new.whats t.new.values (length-replicate {A = ℕ} 2256 0) (length-replicate 2256 (pos 0)) t.ensures c.in-Given.n c.in-Given.field-1 c.in-Given.is))
 
 pub slice_bounds-value-end : goal.slice_bounds-value-end
 slice_bounds-value-end c =
@@ -38,7 +38,7 @@ slice_bounds-value-end c =
     let t = c.make_tail-made in
     let k = limits_of a.course in
     let u = up_to_full a.course in
-    values_low k u a.s.now _ _ t.result t.new.values.1.0 t.new.values.1.1.0 (length-replicate {A = ℕ} 2256 0) (length-replicate 2256 (pos 0)) t.ensures c.in-Given.n c.in-Given.field-1 c.in-Given.is
+    values_low k u a.s.now _ _ t.result t.new.whats t.new.values (length-replicate {A = ℕ} 2256 0) (length-replicate 2256 (pos 0)) t.ensures c.in-Given.n c.in-Given.field-1 c.in-Given.is
 
 pub slice_bounds-write_records-end-in-Given : goal.slice_bounds-write_records-end-in-Given
 slice_bounds-write_records-end-in-Given c =
@@ -46,7 +46,7 @@ slice_bounds-write_records-end-in-Given c =
     let t = c.make_tail-made in
     let k = limits_of a.course in
     let u = up_to_full a.course in
-    sym (length-take-le c.in-Given.n t.new.values.1.1.0 (values_low k u a.s.now _ _ t.result t.new.values.1.0 t.new.values.1.1.0 (length-replicate {A = ℕ} 2256 0) (length-replicate 2256 (pos 0)) t.ensures c.in-Given.n c.in-Given.field-1 c.in-Given.is))
+    sym (length-take-le c.in-Given.n t.new.values (values_low k u a.s.now _ _ t.result t.new.whats t.new.values (length-replicate {A = ℕ} 2256 0) (length-replicate 2256 (pos 0)) t.ensures c.in-Given.n c.in-Given.field-1 c.in-Given.is))
 
 pub write_records-requires : goal.write_records-requires
 write_records-requires c =
@@ -54,7 +54,7 @@ write_records-requires c =
     let t = c.make_tail-made in
     let k = limits_of a.course in
     let u = up_to_full a.course in
-    given_asked k u a.s.now _ _ t.result t.new.values.1.0 t.new.values.1.1.0 (length-replicate {A = ℕ} 2256 0) (length-replicate 2256 (pos 0)) t.ensures a.out.now (omega arith) c.in-Given.n c.in-Given.field-1 c.in-Given.is
+    given_asked k u a.s.now _ _ t.result t.new.whats t.new.values (length-replicate {A = ℕ} 2256 0) (length-replicate 2256 (pos 0)) t.ensures a.out.now (omega arith) c.in-Given.n c.in-Given.field-1 c.in-Given.is
 
 pub returns-in-Refused : goal.returns-in-Refused
 returns-in-Refused c =
@@ -62,7 +62,7 @@ returns-in-Refused c =
     let t = c.make_tail-made in
     let k = limits_of a.course in
     let u = up_to_full a.course in
-    refused_text k u a.s.now _ _ t.result t.new.values.1.0 t.new.values.1.1.0 (length-replicate {A = ℕ} 2256 0) (length-replicate 2256 (pos 0)) t.ensures a.out.now (omega arith) c.in-Refused.number c.in-Refused.line c.in-Refused.is _ _ c.write_refused.ensures
+    refused_text k u a.s.now _ _ t.result t.new.whats t.new.values (length-replicate {A = ℕ} 2256 0) (length-replicate 2256 (pos 0)) t.ensures a.out.now (omega arith) c.in-Refused.number c.in-Refused.line c.in-Refused.is _ _ c.write_refused.ensures
 
 pub returns-in-Given : goal.returns-in-Given
 returns-in-Given c =
@@ -70,4 +70,4 @@ returns-in-Given c =
     let t = c.make_tail-made in
     let k = limits_of a.course in
     let u = up_to_full a.course in
-    given_text k u a.s.now _ _ t.result t.new.values.1.0 t.new.values.1.1.0 (length-replicate {A = ℕ} 2256 0) (length-replicate 2256 (pos 0)) t.ensures a.out.now (omega arith) c.in-Given.n c.in-Given.field-1 c.in-Given.is _ _ c.write_records.ensures
+    given_text k u a.s.now _ _ t.result t.new.whats t.new.values (length-replicate {A = ℕ} 2256 0) (length-replicate 2256 (pos 0)) t.ensures a.out.now (omega arith) c.in-Given.n c.in-Given.field-1 c.in-Given.is _ _ c.write_records.ensures
