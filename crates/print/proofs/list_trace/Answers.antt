@@ -10,9 +10,7 @@ use Rattle.rules.specs.declared.Course.{Course}
 use Rattle.decimal.specs.Text.{over}
 use Rattle.report.specs.Report.{listing_of, too_little}
 use Rattle.report.proofs.Reported.{written_by}
-use borrow.Author.Rules.{rules}
-use Rattle.print.proofs.list_trace.Statement.{statement}
-use Rattle.print.proofs.list_trace.Tie as tie
+use Rattle.print.proofs.list_trace.Goals as goal
 
 -- 7 asks the output alone
 asked : (m : Course) (out : List ℕ) → too_little (limits_of m) 2000 out (replicate 1000 0) (replicate 1000 0) ≡ ltb (length out) full.output
@@ -23,32 +21,10 @@ asked m out = or_false (ltb (length out) 32768)
     or_false true = refl
     or_false false = refl
 
-slice-aggregate-mark-lent : tie.Need-slice-aggregate-mark-lent
-slice-aggregate-mark-lent c = search rules
-
-slice-aggregate-mark-lent-2 : tie.Need-slice-aggregate-mark-lent-2
-slice-aggregate-mark-lent-2 c = search rules
-
-mark-lent-requires : tie.Need-mark-lent-requires
-mark-lent-requires c κs = search rules
-
-same_length : tie.Need-same-length
-same_length c = search rules
-
-returns : tie.Need-returns
+pub returns : goal.returns
 returns c =
-    let a = c.before.before.before.before.before.before.before.before.before.before.before.before.args in
-    let m = c.before.before.before.before.mark-lent in
+    let a = c.args in
+    let m = c.mark_lent-r in
     let e = asked a.course a.out.now in
     let text = listing_of (limits_of a.course) a.s.now in
     (written_by a.course _ _ _ _ _ m.result _ _ _ m.ensures.reports ∙ ap (λ (b : Bool). cond b 0 (length text)) e, m.ensures.reports.prints ∙ ap (λ (b : Bool). cond b a.out.now (over text a.out.now)) e)
-
-pub list_trace_spec : {M : Type 1} → statement M
-list_trace_spec =
-    tie.close
-    (tie.spec
-    slice-aggregate-mark-lent
-    slice-aggregate-mark-lent-2
-    mark-lent-requires
-    same_length
-    returns)

@@ -15,8 +15,7 @@ use Rattle.decimal.proofs.TextLaws.{over_length}
 use Rattle.report.specs.Report.{listing_of}
 use Rattle.report.proofs.Theorems.{listing_room}
 use borrow.Author.Rules.{rules}
-use Rattle.print.proofs.print_listing.Statement.{statement}
-use Rattle.print.proofs.print_listing.Tie as tie
+use Rattle.print.proofs.print_listing.Goals as goal
 
 module _ (m : Course) (s : List ℕ) (r : ℕ) (out' : List ℕ) where
   abbrev text : List ℕ
@@ -38,35 +37,11 @@ module _ (m : Course) (s : List ℕ) (r : ℕ) (out' : List ℕ) where
       size : length out' ≡ 32768
       size = ap length e.1 ∙ over_length text lent fits
 
-slice-aggregate-list-trace : tie.Need-slice-aggregate-list-trace
-slice-aggregate-list-trace c = search rules
+pub slice_bounds-out-end : goal.slice_bounds-out-end
+slice_bounds-out-end g c = let a = c.args in (whole a.course a.s.now _ _ c.list_trace-n.ensures).1
 
-list-trace-requires : tie.Need-list-trace-requires
-list-trace-requires c κs = search rules
+pub slice_bounds-hand_on-end : goal.slice_bounds-hand_on-end
+slice_bounds-hand_on-end g c = let a = c.args in sym (length-take-le _ _ (whole a.course a.s.now _ _ c.list_trace-n.ensures).1)
 
-array-share-prefix-out : tie.Need-array-share-prefix-out
-array-share-prefix-out c = let a = c.before.before.before.before.args in (whole a.course a.s.now _ _ c.before.list-trace.ensures).1
-
-slice-aggregate-hand-on : tie.Need-slice-aggregate-hand-on
-slice-aggregate-hand-on c = let a = c.before.before.before.before.before.args in sym (length-take-le _ _ (whole a.course a.s.now _ _ c.before.before.list-trace.ensures).1)
-
-slice-aggregate-hand-on-2 : tie.Need-slice-aggregate-hand-on-2
-slice-aggregate-hand-on-2 c = search rules
-
-hand-on-requires : tie.Need-hand-on-requires
-hand-on-requires c κs = search rules
-
-returns : tie.Need-returns
-returns c = let a = c.before.before.before.before.before.before.before.args in (whole a.course a.s.now _ _ c.before.before.before.before.list-trace.ensures).0
-
-pub print_listing_spec : {M : Type 1} → statement M
-print_listing_spec =
-    tie.close
-    (tie.spec
-    slice-aggregate-list-trace
-    list-trace-requires
-    array-share-prefix-out
-    slice-aggregate-hand-on
-    slice-aggregate-hand-on-2
-    hand-on-requires
-    returns)
+pub returns : goal.returns
+returns g c = let a = c.args in (whole a.course a.s.now _ _ c.list_trace-n.ensures).0
