@@ -12,8 +12,7 @@ use Rattle.rules.specs.declared.Named.TheVariants as named
 use Rattle.rules.specs.Events.{kind_of}
 use Rattle.rules.specs.Limits.{value_width}
 use Rattle.records.specs.Records.{letter_in, thread_in, place_in, or_read, unpacked}
-use Rattle.event_rows.proofs.unpack.Statement.{statement}
-use Rattle.event_rows.proofs.unpack.Tie as tie
+use Rattle.event_rows.proofs.unpack.Goals as goal
 
 module _ (line w : ℕ) (x x' : ℤ) (t p k : ℕ) (n : Named) (v : x' ≡ x) (a : t ≡ thread_in w) (b : p ≡ place_in w) (c : k ≡ letter_in w) (d : n ≡ kind_of k p x') where
   -- the kind, from what it is named
@@ -29,45 +28,14 @@ module _ (line w : ℕ) (x x' : ℤ) (t p k : ℕ) (n : Named) (v : x' ≡ x) (a
   a_letter : (r : Kind) → n ≡ named.Of r → ◌≡◌ {A = Event} (record { thread = t; line = line; kind = r }) (unpacked line w x)
   a_letter r e = event_is r (sym (ap (λ (m : Named). or_read m p x) e))
 
-thread-in-requires : tie.Need-thread-in-requires
-thread-in-requires c κs = search rules
+pub returns-in-Nothing : goal.returns-in-Nothing
+returns-in-Nothing c =
+    let a = c.args in
+    a_read a.line a.w a.value (to_z value_width (of_z value_width a.value)) _ _ _ _ (search rules) c.thread_in-thread.ensures
+    c.place_in-place.ensures c.letter_in.ensures c.kind_of-named.ensures c.in-Nothing.is
 
-place-in-requires : tie.Need-place-in-requires
-place-in-requires c κs = search rules
-
-letter-in-requires : tie.Need-letter-in-requires
-letter-in-requires c κs = search rules
-
-kind-of-requires : tie.Need-kind-of-requires
-kind-of-requires c κs = search rules
-
-enum_told : tie.Need-enum-told
-enum_told c = search rules
-
-enum-known-named : tie.Need-enum-known-named
-enum-known-named c = search rules
-
-returns : tie.Need-returns
-returns c =
-    let a = c.before.before.before.before.before.before.args in
-    a_read a.line a.w a.value (to_z value_width (of_z value_width a.value)) _ _ _ _ (search rules) c.before.before.before.before.before.thread_in.ensures
-    c.before.before.before.before.place_in.ensures c.before.before.before.letter-in.ensures c.before.before.kind-of.ensures c.enum_told.given.1
-
-returns-2 : tie.Need-returns-2
-returns-2 c =
-    let a = c.before.before.before.before.before.before.before.args in
-    a_letter a.line a.w a.value (to_z value_width (of_z value_width a.value)) _ _ _ _ (search rules) c.before.before.before.before.before.before.thread_in.ensures
-    c.before.before.before.before.before.place_in.ensures c.before.before.before.before.letter-in.ensures c.before.before.before.kind-of.ensures _ c.before.named.given.1
-
-pub unpack_spec : {M : Type 1} → statement M
-unpack_spec =
-    tie.close
-    (tie.spec
-    thread-in-requires
-    place-in-requires
-    letter-in-requires
-    kind-of-requires
-    enum_told
-    enum-known-named
-    returns
-    returns-2)
+pub returns-in-Of : goal.returns-in-Of
+returns-in-Of c =
+    let a = c.args in
+    a_letter a.line a.w a.value (to_z value_width (of_z value_width a.value)) _ _ _ _ (search rules) c.thread_in-thread.ensures
+    c.place_in-place.ensures c.letter_in.ensures c.kind_of-named.ensures _ c.in-Of.is
