@@ -1,6 +1,5 @@
 -- `event_rows::count_of` meets its contract: the records that were passed, and those that are left of the count.
 use mathlib.Core.Path.{◌≡◌, sym, ◌∙◌, ap}
-use Prim.Native.Nat.{◌-◌}
 use native.Mathlib.Omega.{arith}
 use borrow.Author.Rules.{rules}
 use Rattle.rules.specs.Events.{is_letter}

@@ -2,7 +2,7 @@
 use native.Mathlib.Omega.{arith}
 use mathlib.Core.Path.{◌≡◌, sym, ◌∙◌, ap}
 use mathlib.Core.List.{List}
-use Prim.Native.Nat.{ℕ, suc, ◌+◌}
+use Prim.Native.Nat.{suc, ◌+◌}
 use lib.ListN.{set}
 use Rattle.rules.specs.declared.Event.{Event}
 use Rattle.event_rows.specs.Computed.Lines.{front}
@@ -20,8 +20,8 @@ loop-i-preserved c =
     let next : suc l.i ≡ l.i + 1 = omega arith in (
       omega arith,
       ap (λ (ys : List Event). set ys l.i e.result) l.invariant.1
-      ∙ front_next a.line a.what.now a.value.now a.records.now l.i e.result (omega (arith, c.requires.1.0, c.loop-i-test.true)) e.ensures
-      ∙ ap (front a.line a.what.now a.value.now a.records.now) next,
+          ∙ front_next a.line a.what.now a.value.now a.records.now l.i e.result (omega (arith, c.requires.1.0, c.loop-i-test.true)) e.ensures
+          ∙ ap (front a.line a.what.now a.value.now a.records.now) next,
     )
 
 pub returns : goal.returns

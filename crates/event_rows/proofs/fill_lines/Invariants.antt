@@ -1,7 +1,6 @@
 -- `event_rows::fill_lines` meets its contract: the places up to i are written.
 use Prim.Native.Nat.{◌-◌, ◌≤◌}
 use mathlib.Core.Path.{◌≡◌}
-use lib.ListN.{length}
 use Rattle.event_rows.specs.Computed.Lines.{front}
 use Rattle.event_rows.proofs.fill_lines.Given as goal
 

@@ -1,6 +1,6 @@
 -- `event_rows::fill_records` meets its contract: the records that are counted have places in all rows. Assumes nothing.
 use native.Mathlib.Omega.{arith}
-use mathlib.Core.Path.{◌≡◌, ap, ◌∙◌}
+use mathlib.Core.Path.{ap, ◌∙◌}
 use Prim.Native.Nat.{ℕ, ◌≤◌, min}
 use lib.ListN.{length}
 use Rattle.rules.proofs.Bounds.{first_line_high}

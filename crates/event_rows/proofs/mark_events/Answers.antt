@@ -1,5 +1,4 @@
 -- `event_rows::mark_events` meets its contract. Assumes nothing.
-use Rattle.rules.specs.Limits.{limits_of}
 use Rattle.event_rows.proofs.EventLaws.{fills_events}
 use Rattle.event_rows.proofs.mark_events.Goals as goal
 

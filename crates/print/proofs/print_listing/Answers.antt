@@ -14,7 +14,6 @@ use Rattle.decimal.specs.Text.{over}
 use Rattle.decimal.proofs.TextLaws.{over_length}
 use Rattle.report.specs.Report.{listing_of}
 use Rattle.report.proofs.Theorems.{listing_room}
-use borrow.Author.Rules.{rules}
 use Rattle.print.proofs.print_listing.Goals as goal
 
 module _ (m : Course) (s : List ℕ) (r : ℕ) (out' : List ℕ) where

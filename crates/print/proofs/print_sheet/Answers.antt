@@ -3,7 +3,6 @@ use native.Mathlib.Omega.{arith}
 use mathlib.Core.Path.{sym}
 use lib.Seq.{length-take-le}
 use Rattle.session.proofs.Answers.{written_is, written_in}
-use borrow.Author.Rules.{rules}
 use Rattle.print.proofs.print_sheet.Goals as goal
 
 pub slice_bounds-out-end : goal.slice_bounds-out-end

@@ -11,7 +11,6 @@ use Rattle.decimal.specs.Text.{room, Wrote}
 use Rattle.decimal.proofs.TextLaws.{wrote_within}
 use Rattle.tail_text.specs.TailText.{tail_output, tail_text}
 use Rattle.tail_text.proofs.TailLaws.{tail_text_room}
-use borrow.Author.Rules.{rules}
 use Rattle.print.proofs.print_tail.Goals as goal
 
 -- the output has room for the whole text
@@ -23,4 +22,3 @@ slice_bounds-out-end g c = let a = c.args in within a.course a.s.now _ _ c.list_
 
 pub slice_bounds-hand_on-end : goal.slice_bounds-hand_on-end
 slice_bounds-hand_on-end g c = let a = c.args in sym (length-take-le _ _ (within a.course a.s.now _ _ c.list_tail-n.ensures))
-

@@ -1,5 +1,4 @@
 -- `tail_text::write_records` meets its contract: after i turns the first i lines are written. Assumes nothing.
-use Prim.Native.Nat.{◌-◌}
 use native.Mathlib.Omega.{arith}
 use borrow.Author.Rules.{rules}
 use lib.IntN.{ℤ}
