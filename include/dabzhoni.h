@@ -1,5 +1,5 @@
 /* A whole trace marked into lent memory, the tail that finishes it, the counts of a session sheet, and one step over a state that the caller
-   keeps. Link target/staticlib/libc_api.a, which `rt staticlib c_api` writes. Numbers are those of documents 01 and 02: a refusal's number, and
+   keeps. Link target/staticlib/libc_api.a, which `tests/library` writes. Numbers are those of documents 01 and 02: a refusal's number, and
    a line of the trace.
    What every entry asks of its caller, which no contract checks:
    - every buffer and every state handed in is initialised memory, as zeros are, even where it is only written; each bool of a state is 0 or 1.
