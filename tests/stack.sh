@@ -221,7 +221,7 @@ done
 # ---- what each needs
 
 echo "bytes of stack touched at most:"
-sort "$work/needs" | awk '$2 > most[$1] { most[$1] = $2 } END { for (e in most) print "    " e ": " most[e] }' | sort
+sort "$work/needs" | awk '!($1 in most) || $2 > most[$1] { most[$1] = $2 } END { for (e in most) print "    " e ": " most[e] }' | sort
 # least PROGRAM PAPER WANTED: the least stack on which a program answers a paper
 least() {
     local low=16 high=$((2 * KB)) middle
