@@ -1,5 +1,5 @@
 /* A whole trace marked into lent memory, the tail that finishes it, the counts of a session sheet, and one step over a state that the caller
-   keeps. Link target/staticlib/libc_api.a, which `rt staticlib c_api` writes. Numbers are those of documents 01 and 02: a refusal's number, and
+   keeps. Link target/staticlib/libc_api.a, which `tests/library` writes. Numbers are those of documents 01 and 02: a refusal's number, and
    a line of the trace.
    What every entry asks of its caller, which no contract checks:
    - every buffer and every state handed in is initialised memory, as zeros are, even where it is only written; each bool of a state is 0 or 1.
@@ -8,8 +8,8 @@
      4. A length is a number of places, and the buffer has so many. No two of those handed in overlap.
    - during the call nothing else writes to any of them, and nothing else reads any but paper and sheet.
    - the calling thread has the stack that the entry needs. At most so many bytes were touched in the tests, on x86-64: by dabzhoni_mark and
-     dabzhoni_mark_short 115,528, by the two that give no order 112,840, by dabzhoni_finish and dabzhoni_finish_short 141,944, by dabzhoni_sheet
-     and dabzhoni_sheet_short 113,304, by dabzhoni_step and dabzhoni_step_short 323,016, by dabzhoni_initial 11,512. Each of them was run on a
+     dabzhoni_mark_short 118,168, by the two that give no order 114,888, by dabzhoni_finish and dabzhoni_finish_short 143,992, by dabzhoni_sheet
+     and dabzhoni_sheet_short 115,352, by dabzhoni_step and dabzhoni_step_short 364,984, by dabzhoni_initial none. Each of them was run on a
      stack of 512 KiB. */
 #ifndef DABZHONI_H
 #define DABZHONI_H

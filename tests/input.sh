@@ -28,7 +28,7 @@ closed() { "$1" <&-; }
 pieces() { { printf '%s' "${paper:0:9}"; sleep 0.2; printf '%s' "${paper:9}"; } | "$1"; }
 long() { head -c "$2" /dev/zero | "$1"; }
 full() { printf '%s' "$paper" | "$1" > /dev/full; }
-for program in target/bin/mark target/bin/mark_short; do
+for program in crates/mark/out/mark crates/mark_short/out/mark_short; do
     expect "$program, a folder" '0||the paper cannot be read' folder "$program"
     expect "$program, no input" '0||the paper cannot be read' closed "$program"
     expect "$program, in pieces" $'0|accepted 0\nmain 0 0|' pieces "$program"
@@ -38,7 +38,7 @@ for program in target/bin/mark target/bin/mark_short; do
 done
 # a paper with a tail
 paper=$'H 1 1 1\nG -\nK 0 0\nZ 18\n'
-program=target/bin/tail
+program=crates/tail/out/tail
 expect "$program, a folder" '0||the paper cannot be read' folder $program
 expect "$program, no input" '0||the paper cannot be read' closed $program
 expect "$program, in pieces" '0|N 0 0|' pieces $program
@@ -47,7 +47,7 @@ expect "$program, 65,537 bytes" '0|refused 0 1|' long $program 65537
 expect "$program, a full disk" '0||the tail cannot be written' full $program
 # two papers of a sheet
 paper=$'H 1 1 0\nG -\nZ 12\nH\nZ 2\n'
-program=target/bin/sheet
+program=crates/sheet/out/sheet
 expect "$program, a folder" '0||the paper cannot be read' folder $program
 expect "$program, no input" '0||the paper cannot be read' closed $program
 expect "$program, in pieces" $'0|papers 2\naccepted 1\nrefused 3 1\nshare 1/2|' pieces $program

@@ -18,9 +18,10 @@ tests/library &&
     cc -std=c11 -O1 -Wall -Wextra -Werror -Iinclude -o $stack tests/c_program/stack.c target/staticlib/libc_api.a -pthread &&
     cargo build --release --offline --quiet --manifest-path tests/marker_a/Cargo.toml ||
     { echo "tests/stack.sh: the static library, $stack or marker A is not built"; exit 2; }
+built() { echo "crates/$1/out/$1"; }
 # a program that is not built fails below
 for program in mark mark_short tail sheet; do
-    [ -x target/bin/$program ] || rt check $program > target/mark.log 2>&1 || cat target/mark.log
+    [ -x "$(built $program)" ] || (cd crates/$program && rt run < /dev/null) > target/mark.log 2>&1 || cat target/mark.log
 done
 
 # ---- the papers
@@ -164,7 +165,7 @@ papers() {
     for p in "$work"/*.paper; do
         $A ${2:+"$2"} < "$p" > "$work/a"
         sed '/^section /d;/^unordered /d' "$work/a" > "$work/a-unordered"
-        on "$KB" "target/bin/$1" < "$p" > "$work/got" 2> /dev/null
+        on "$KB" "$(built "$1")" < "$p" > "$work/got" 2> /dev/null
         status=$?
         check "$1" "$(basename "$p" .paper)" "$work/a"
         entry "$1" "$p" "$work/a"
@@ -175,7 +176,7 @@ papers mark
 papers mark_short --short
 # Every paper's tail: as many lines as marker A counts, and the same by the entry; in the short course where the paper is not over its limits.
 for p in "$work"/*.paper; do
-    on "$KB" target/bin/tail < "$p" > "$work/tail" 2> /dev/null
+    on "$KB" "$(built tail)" < "$p" > "$work/tail" 2> /dev/null
     status=$?
     if grep -q '^refused' "$work/tail"; then cat "$work/tail"; else echo "tail $(wc -l < "$work/tail")"; fi > "$work/got"
     $A --tail < "$p" > "$work/a"
@@ -187,7 +188,7 @@ done
 # every paper as a sheet, and every sheet
 for p in "$work"/*.paper "$work"/*.sheet; do
     $A --sheet < "$p" > "$work/a"
-    on "$KB" target/bin/sheet < "$p" > "$work/got" 2> /dev/null
+    on "$KB" "$(built sheet)" < "$p" > "$work/got" 2> /dev/null
     status=$?
     check sheet "$(basename "$p" .paper)" "$work/a"
     entry sheet "$p" "$work/a"
@@ -212,7 +213,7 @@ its_input() { if [ -f "crates/$1/stdin" ]; then echo "crates/$1/stdin"; else ech
 # every program that has one; one that is not built fails
 for stdout in crates/*/stdout; do
     program=$(basename "$(dirname "$stdout")")
-    on "$KB" "target/bin/$program" < "$(its_input "$program")" > "$work/got" 2> /dev/null
+    on "$KB" "$(built "$program")" < "$(its_input "$program")" > "$work/got" 2> /dev/null
     status=$?
     check "$program" "its own input" "$stdout"
 done
@@ -220,23 +221,23 @@ done
 # ---- what each needs
 
 echo "bytes of stack touched at most:"
-sort "$work/needs" | awk '$2 > most[$1] { most[$1] = $2 } END { for (e in most) print "    " e ": " most[e] }' | sort
+sort "$work/needs" | awk '!($1 in most) || $2 > most[$1] { most[$1] = $2 } END { for (e in most) print "    " e ": " most[e] }' | sort
 # least PROGRAM PAPER WANTED: the least stack on which a program answers a paper
 least() {
     local low=16 high=$((2 * KB)) middle
     while [ $((high - low)) -gt 4 ]; do
         middle=$(((low + high) / 2))
-        if on "$middle" "target/bin/$1" < "$2" 2> /dev/null | cmp -s - "$3"; then high=$middle; else low=$middle; fi
+        if on "$middle" "$(built "$1")" < "$2" 2> /dev/null | cmp -s - "$3"; then high=$middle; else low=$middle; fi
     done
     echo $high
 }
 # whole PROGRAM PAPER WANTED
-whole() { [ ! -x "target/bin/$1" ] || echo "    $1, the whole program: $(least "$1" "$2" "$3") KB (ulimit -s)"; }
+whole() { [ ! -x "$(built "$1")" ] || echo "    $1, the whole program: $(least "$1" "$2" "$3") KB (ulimit -s)"; }
 $A < "$work/long-listing.paper" > "$work/a"
 $A --short < "$work/short-long-listing.paper" > "$work/a-short"
 whole mark "$work/long-listing.paper" "$work/a"
 whole mark_short "$work/short-long-listing.paper" "$work/a-short"
-target/bin/tail < "$work/longest-tail.paper" > "$work/tail"
+"$(built tail)" < "$work/longest-tail.paper" > "$work/tail"
 whole tail "$work/longest-tail.paper" "$work/tail"
 $A --sheet < "$work/papers-with-events.sheet" > "$work/a"
 whole sheet "$work/papers-with-events.sheet" "$work/a"

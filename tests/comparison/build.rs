@@ -1,4 +1,4 @@
-//! Links the static library that `rt staticlib c_api` writes.
+//! Links the static library that `tests/library` writes.
 
 use std::path::Path;
 

@@ -1,5 +1,5 @@
 #!/bin/sh
-# Compares the definitions of a repository's crate `rules` with marker A, in a copy of its crates:
+# Compares the definitions of a repository's crate `rules` with marker A, in a copy of that crate outside the repository:
 #   agree.sh REPOSITORY random EACH MOST SEED..   random traces of up to MOST events, EACH for every aim
 #   agree.sh REPOSITORY every MOST PART           every trace of up to MOST events, PART accepted traces to a file
 # One line for each file; the last line is `N passed, M failed`, in files.
@@ -8,20 +8,24 @@ repo=$1; mode=$2; shift 2
 programs=$(cd "$(dirname "$0")" && pwd)/target/release
 work=$(mktemp -d)
 trap 'rm -rf "$work"' EXIT
-cp -r "$repo/crates" "$repo/crates.txt" "$work"
-echo 'pub mod Traces_of_A' >> "$work/crates/rules/proofs/Lib.antt"
+crate=$work/crates/rules
+mkdir -p "$crate"
+for part in src specs proofs; do cp -r "$repo/crates/rules/$part" "$crate"; done
+grep '^rules\>' "$repo/crates.txt" > "$work/crates.txt"
+echo 'pub mod TracesOfA' >> "$crate/proofs/Lib.antt"
 passed=0; failed=0
 
 # The file is written by the command after the name.
 compare() {
     name=$1; shift
-    "$@" > "$work/crates/rules/proofs/Traces_of_A.antt" 2> "$work/said"
+    "$@" > "$crate/proofs/TracesOfA.antt" 2> "$work/said"
     start=$(date +%s)
-    (cd "$work" && nice rt dev rules > log 2>&1) || true
-    if grep -q '^logic=proved' "$work/log"; then
+    (cd "$crate" && nice rt check > "$work/log" 2>&1) || true
+    if grep -q '^logic=proved ' "$work/log"; then
         verdict=agree; passed=$((passed + 1))
     else
         verdict=DIFFER; failed=$((failed + 1))
+        grep -E '(^|: )error|^rt: ' "$work/log" | head -n 5
     fi
     echo "$name: $verdict, $(($(date +%s) - start)) s, $(cut -d: -f1 "$work/said")"
 }

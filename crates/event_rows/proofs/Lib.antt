@@ -1,4 +1,3 @@
 pub mod FillLaws
 pub mod EventLaws
 pub mod TailLaws
-pub mod LocalRow

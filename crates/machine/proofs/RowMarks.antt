@@ -17,7 +17,7 @@ use Rattle.rules.proofs.Bounds.{up_to_full}
 use Rattle.records.specs.Records.{row_lines}
 use Rattle.state.specs.declared.State.{State}
 use Rattle.state.specs.State.{words_in, start}
-use Rattle.state.proofs.Kept.{in_range_law, range}
+use Rattle.state.proofs.Kept.{in_range_law}
 use Rattle.state.proofs.Stands.{Stands, stands_start, start_shape}
 use Rattle.machine.specs.declared.Answer.{Answer}
 use Rattle.machine.specs.declared.Outcome.{Outcome}

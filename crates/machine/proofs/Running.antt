@@ -12,7 +12,7 @@ use lib.ListN.{length, get_or}
 use borrow.Author.Tests.{lt-ltb, le-ltb, le-leb, lt-leb}
 use Rattle.rules.specs.declared.Course.TheVariants.{Full}
 use Rattle.rules.specs.declared.Event.{Event}
-use Rattle.rules.specs.Events.{A, B, C, F, K, L, N, P, R, S, U, W, Y, letter, place, value, among, lock_letters, is_letter, is_lock_letter, subject_of, subject}
+use Rattle.rules.specs.Events.{A, B, C, F, K, L, N, P, R, S, U, W, Y, value, among, lock_letters, is_letter, is_lock_letter, subject_of, subject}
 use Rattle.rules.specs.Limits.{full, line_after, declared}
 use Rattle.rules.specs.Rules.{judge, answer, accepted, refused}
 use Rattle.rules.specs.Memories.{from}

@@ -16,7 +16,6 @@ use Rattle.rules.specs.Rules.{words_of, judge, verdict, Marked, accepted, refuse
 use Rattle.rules.proofs.Bounds.{allowed_full}
 use Rattle.rules.proofs.Courses.{Same, Over, within_or_over, over_marked, wrong_marked, no_row}
 use Rattle.rules.proofs.Loads.{row_refused}
-use Rattle.lines.specs.Lines.{before}
 use Rattle.trace.specs.declared.Trace.{Trace}
 use Rattle.trace.specs.declared.Trailer.{Trailer}
 use Rattle.trace.specs.declared.Trailer.TheVariants as trailer

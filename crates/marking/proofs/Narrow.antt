@@ -17,7 +17,6 @@ use Rattle.rules.specs.Rules.{Accepted, Marked, accepted, refused, answer, verdi
 use Rattle.rules.specs.Widths.{narrow, fits, narrowed, AllWithin}
 use Rattle.rules.proofs.Readings.{past_accepted}
 use Rattle.rules.proofs.Widths.{all_within, within_at, Same, Wider, narrowed_marked}
-use Rattle.lines.specs.Lines.{before}
 use Rattle.trace.specs.Trace.{trace_of, events_of}
 use Rattle.events.specs.Events.{part_lines}
 use Rattle.events.proofs.WidthLaws.{readings_narrowed}

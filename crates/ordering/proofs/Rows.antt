@@ -13,7 +13,7 @@ use Rattle.rules.specs.declared.Counts.{Counts}
 use Rattle.rules.specs.Limits.{full, line_after, declared}
 use Rattle.rules.specs.Events.{locks}
 use Rattle.rules.specs.Words.{count}
-use Rattle.rules.specs.Rules.{legal, accepted}
+use Rattle.rules.specs.Rules.{legal}
 use Rattle.rules.proofs.Bounds.{allowed_bounds, declared_bounds, subject_bound}
 use Rattle.rules.proofs.Laws.{few, legal_known, legal_before}
 use Rattle.rules.proofs.Marking.{mark_accepts}

@@ -9,7 +9,7 @@ use mathlib.Core.List.{List, [], ◌∷◌, ◌++◌, tail, cons≢nil}
 use lib.Dec.{T, ltb, ltb→lt}
 use Rattle.serial.specs.Events.{Kind, Use, Assign, Load, Store, Read, Write, PrescientStore, PrescientAssign}
 use Rattle.serial.specs.Lists.{All}
-use Rattle.serial.specs.Words.{Slot, Cell, Act, own, other, locks, unlocks, nothing, at, oldest, change, written, assigned, Allowed}
+use Rattle.serial.specs.Words.{Slot, Cell, Act, own, other, locks, unlocks, nothing, oldest, change, written, assigned, Allowed}
 
 pub AllSnoc : {A : Type 0} (P : A → Type 0) (l : List A) (a : A) → All P l → P a → All P (l ++ (a ∷ []))
 AllSnoc P [] a h p = (p, tt)

@@ -70,28 +70,24 @@ fn case(s: &Short) -> String {
     )
 }
 
-const USES: &str = "use Prim.Native.Nat.{ℕ}
-use mathlib.Core.Path.{_≡_, refl}
-use mathlib.Core.Bool.{Bool, true, false}
-use mathlib.Core.List.{List, [], _∷_, _++_, map, reverse}
-use lib.IntN.{ℤ, pos, negsuc}
-use Rattle·rules·specs.specs.declared.Kind.{Kind}
-use Rattle·rules·specs.specs.declared.Kind.the-variants.{Use, Assign, Load, Store, Read, Write, Lock, Unlock, PrescientStore, PrescientAssign, Wait, Notify, Resume}
-use Rattle·rules·specs.specs.declared.Event.{Event}
-use Rattle·rules·specs.specs.declared.Counts.{Counts}
-use Rattle·rules·specs.specs.Events.{capped, is, of, on, subjectOf, onLock, locks, unlocks, eqZ}
-use Rattle·rules·specs.specs.Limits.{full, volatile, anyVolatile, firstLine, declared}
-use Rattle·rules·specs.specs.Words.{latest, valueIn, letterIn, lastAt, count, inOrder, by, locksBy, reads, stores, copy, fresh, pending, announced, lastLock, lastWrite, usable, gripAfter, grip, depth, remembered, tells, notified, main, afterLoad, afterAssign, loadedRead, usedRead, lastAssign}
-use Rattle·rules·specs.specs.Rules.{wordsOf, some, noPartner, lockTaken, notHeld, pendingBars, notFresh, notStored, readBeforeWrite, unwritten, notWritten, notUsable, differs, eightAlready, deadRead, wrongNeighbour, barsUse, barsWrite, useBarred, writeBarred, volatileOrder, prescientVolatile, waits, ofWaiting, notNotified, breaks, rows, rowIn, firstBroken, judge, answer, verdict, Marked, accepted, refused, markFrom, mark}
-use Rattle·rules·specs.specs.Memories.{Copy, below, each, memory, copies}
-use Rattle·rules·specs.specs.Traces.{ev}
+const USES: &str = "use Rattle.std.specs.Prelude.{ℕ, ◌≡◌, refl, Bool, true, false, List, [], ◌∷◌, ◌++◌, map, reverse, ℤ, pos, negsuc}
+use Rattle.rules.specs.declared.Kind.{Kind}
+use Rattle.rules.specs.declared.Kind.TheVariants.{Use, Assign, Load, Store, Read, Write, Lock, Unlock, PrescientStore, PrescientAssign, Wait, Notify, Resume}
+use Rattle.rules.specs.declared.Event.{Event}
+use Rattle.rules.specs.declared.Counts.{Counts}
+use Rattle.rules.specs.Events.{capped, is, of, on, subject_of, on_lock, locks, unlocks, eq_z}
+use Rattle.rules.specs.Limits.{full, volatile, any_volatile, first_line, declared}
+use Rattle.rules.specs.Words.{latest, value_in, letter_in, last_at, count, in_order, by, locks_by, reads, stores, copy, fresh, pending, announced, last_lock, last_write, usable, grip_after, grip, depth, remembered, tells, notified, main, after_load, after_assign, loaded_read, used_read, last_assign}
+use Rattle.rules.specs.Rules.{words_of, some, no_partner, lock_taken, not_held, pending_bars, not_fresh, not_stored, read_before_write, unwritten, not_written, not_usable, differs, eight_already, dead_read, wrong_neighbour, bars_use, bars_write, use_barred, write_barred, volatile_order, prescient_volatile, waits, of_waiting, not_notified, breaks, rows, row_in, first_broken, judge, answer, verdict, Marked, accepted, refused, mark_from, mark}
+use Rattle.rules.specs.Memories.{Copy, below, each, memory, copies}
+use Rattle.rules.specs.Traces.{ev}
 
 unfoldable pub cp : ℕ → ℕ → ℤ → Copy
 cp t v x = record { thread = t; variable = v; value = x }
 
 ";
 
-const UNFOLDING: &str = "ev cp capped is of on subjectOf onLock locks unlocks eqZ volatile anyVolatile firstLine declared latest valueIn letterIn lastAt count inOrder by locksBy reads stores copy fresh pending announced lastLock lastWrite usable gripAfter grip depth remembered tells notified main afterLoad afterAssign loadedRead usedRead lastAssign wordsOf some noPartner lockTaken notHeld pendingBars notFresh notStored readBeforeWrite unwritten notWritten notUsable differs eightAlready deadRead wrongNeighbour barsUse barsWrite useBarred writeBarred volatileOrder prescientVolatile waits ofWaiting notNotified breaks rows rowIn firstBroken judge answer verdict markFrom mark below each memory copies";
+const UNFOLDING: &str = "ev cp capped is of on subject_of on_lock locks unlocks eq_z volatile any_volatile first_line declared latest value_in letter_in last_at count in_order by locks_by reads stores copy fresh pending announced last_lock last_write usable grip_after grip depth remembered tells notified main after_load after_assign loaded_read used_read last_assign words_of some no_partner lock_taken not_held pending_bars not_fresh not_stored read_before_write unwritten not_written not_usable differs eight_already dead_read wrong_neighbour bars_use bars_write use_barred write_barred volatile_order prescient_volatile waits of_waiting not_notified breaks rows row_in first_broken judge answer verdict mark_from mark below each memory copies";
 
 const CASES: &str = "pub record Case : Type 0 where
   pub head : Counts
@@ -106,12 +102,12 @@ case t v l ws es bs m xs cs = record { head = record { threads = t; variables = 
 
 unfoldable pub again : Case → Case
 again r = record {
-  head = r .head;
-  good = r .good;
-  bad = r .bad;
-  marked = mark full (r .head) (r .good ++ r .bad);
-  memory0 = memory (r .head) (wordsOf (reverse (r .good)));
-  copies0 = copies (r .head) (wordsOf (reverse (r .good)));
+  head = r.head;
+  good = r.good;
+  bad = r.bad;
+  marked = mark full r.head (r.good ++ r.bad);
+  memory0 = memory r.head (words_of (reverse r.good));
+  copies0 = copies r.head (words_of (reverse r.good));
 }
 ";
 
@@ -141,9 +137,9 @@ unfoldable pub random{number} : List Case
 random{number} =
     {cases}
 
-pub random{number}-agree : map again random{number} ≡ random{number}
+pub random{number}_agree : map again random{number} ≡ random{number}
 unfolding random{number} case again {UNFOLDING}
-random{number}-agree = refl
+random{number}_agree = refl
 "
         )
     };
@@ -209,19 +205,19 @@ next = {next}
 
 unfoldable pub again : Node → Node
 again r = record {{
-  events = r .events;
-  verdicts = map (verdict full few (reverse (r .events))) next;
-  memory0 = memory few (wordsOf (reverse (r .events)));
-  copies0 = copies few (wordsOf (reverse (r .events)));
+  events = r.events;
+  verdicts = map (verdict full few (reverse r.events)) next;
+  memory0 = memory few (words_of (reverse r.events));
+  copies0 = copies few (words_of (reverse r.events));
 }}
 
 unfoldable pub nodes : List Node
 nodes =
     {nodes}
 
-pub every-agree : map again nodes ≡ nodes
+pub every_agree : map again nodes ≡ nodes
 unfolding nodes node next again {UNFOLDING}
-every-agree = refl
+every_agree = refl
 ",
         volatiles(FEW)
     )

@@ -1,7 +1,7 @@
 -- `decimal::put_bytes` meets its contract: after i turns the first i bytes lie over the buffer.
 use mathlib.Core.Path.{◌≡◌, refl, ap, ◌∙◌}
 use mathlib.Core.List.{List}
-use Prim.Native.Nat.{ℕ, ◌-◌}
+use Prim.Native.Nat.{ℕ}
 use native.Mathlib.Omega.{arith}
 use lib.ListN.{length, take, set, get_or}
 use lib.Seq.{take_all, length-take-le}

@@ -7,7 +7,6 @@ use native.Mathlib.Omega.{arith}
 use Rattle.decimal.specs.Decimal.{natural_of}
 use Rattle.decimal.proofs.read_natural.Goals as goal
 use Rattle.decimal.proofs.read_natural.Goals.{then-f-eq48+else-f-gt1, else-f-eq48}
-use mathlib.Core.Logic.{⊎_elim}
 
 pub returns-then-f-eq0 : goal.returns-then-f-eq0
 unfolding natural_of
@@ -27,6 +26,6 @@ returns c =
     let f = c.args.f.now in
     let full = ne_eqb (length f) 0 (λ e. omega arith) in
     c.digits.ensures ∙ elim c.if-f-eq48.branch [
-      then-f-eq48+else-f-gt1 w ↦ simp (full, eq-eqb _ _ w.if-f-eq48.true, le-ltb _ _ w.if-f-gt1.false)
-    | else-f-eq48 w ↦ simp (full, ne_eqb _ _ w.if-f-eq48.false)
+      | then-f-eq48+else-f-gt1 w ↦ simp (full, eq-eqb _ _ w.if-f-eq48.true, le-ltb _ _ w.if-f-gt1.false)
+      | else-f-eq48 w ↦ simp (full, ne_eqb _ _ w.if-f-eq48.false)
     ]

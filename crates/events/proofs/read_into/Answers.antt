@@ -1,5 +1,4 @@
 -- `events::read_into` meets its contract: one line a turn.
-use Prim.Native.Nat.{◌-◌}
 use native.Mathlib.Omega.{arith}
 use borrow.Author.Rules.{rules}
 use Rattle.rules.proofs.Bounds.{up_to_full}

@@ -4,7 +4,7 @@ use mir.ValLaws.{to_z-of_z}
 use borrow.Author.Rules.{sfits_of}
 use lib.IntN.{ℤ, pos}
 use Rattle.rules.specs.Limits.{value_width}
-use Prim.Native.Nat.{◌+◌, ◌-◌}
+use Prim.Native.Nat.{◌+◌}
 use native.Mathlib.Omega.{arith}
 use lib.ListN.{get_or}
 use Rattle.finishing.specs.declared.Facts.{Facts}

@@ -1,5 +1,4 @@
 -- `finishing::finish_cells` meets its contract. Assumes nothing.
-use Prim.Native.Nat.{◌-◌}
 use native.Mathlib.Omega.{arith}
 use Rattle.finishing.specs.Computed.Parts.{cells_entries}
 use Rattle.finishing.proofs.Adding.{adds_start, adds_next, adds_end, adds_long}

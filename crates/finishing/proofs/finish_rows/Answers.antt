@@ -1,5 +1,4 @@
 -- `finishing::finish_rows` meets its contract. Assumes nothing.
-use Prim.Native.Nat.{◌-◌}
 use native.Mathlib.Omega.{arith}
 use Rattle.rules.specs.Memories.{below, each}
 use Rattle.finishing.specs.Computed.Parts.{cells_entries, lock_entries, thread_entries, tail_entries}

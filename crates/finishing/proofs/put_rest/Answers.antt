@@ -1,5 +1,5 @@
 -- `finishing::put_rest` meets its contract. Assumes nothing.
-use Prim.Native.Nat.{ℕ, ◌-◌}
+use Prim.Native.Nat.{ℕ}
 use native.Mathlib.Omega.{arith}
 use mathlib.Core.Path.{◌∙◌, sym, ap}
 use mathlib.Core.List.{[], ◌∷◌}
@@ -8,7 +8,6 @@ use lib.ListN.{get_or}
 use mir.Val.{to_z, of_z}
 use mir.ValLaws.{to_z-of_z}
 use borrow.Author.Rules.{sfits_of}
-use borrow.Author.Tests.{not-true, not-false}
 use Rattle.rules.specs.Limits.{value_width}
 use Rattle.finishing.specs.Computed.Parts.{entry, entry_of}
 use Rattle.finishing.proofs.Adding.{adds_same, adds_long}

@@ -1,5 +1,5 @@
 -- `finishing::put_unlocks` meets its contract. Assumes nothing.
-use Prim.Native.Nat.{ℕ, ◌-◌}
+use Prim.Native.Nat.{ℕ}
 use mathlib.Core.List.{[], ◌∷◌}
 use Rattle.finishing.specs.Computed.Parts.{entry, entry_of}
 use Rattle.finishing.proofs.Adding.{adds_same, adds_none, adds_again, adds_long}

@@ -1,5 +1,4 @@
 -- `lines::count_fields` meets its contract: one field, and one more for each space passed; those of the rest are still to come.
-use Prim.Native.Nat.{◌-◌}
 use native.Mathlib.Omega.{arith}
 use Rattle.lines.proofs.FieldLaws.{split_length, count_on, count_end}
 use Rattle.lines.proofs.count_fields.Goals as goal

@@ -1,6 +1,5 @@
 -- `lines::field` meets its contract: the field looked for is the k-th from `a` on, and the first from there ends at `e`.
 use mathlib.Core.Path.{refl, sym, ◌∙◌}
-use Prim.Native.Nat.{◌-◌}
 use native.Mathlib.Omega.{arith}
 use Rattle.lines.proofs.FieldLaws.{inside, first_field, no_field, next_field}
 use Rattle.lines.proofs.field.Goals as goal

@@ -1,7 +1,7 @@
 -- `lines::field` meets its contract: the field looked for is the k-th from `a` on, and the first from there ends at `e`.
 use mathlib.Core.Path.{◌≡◌}
 use mathlib.Core.List.{[]}
-use Prim.Native.Nat.{◌≤◌, ◌+◌, ◌-◌}
+use Prim.Native.Nat.{◌≤◌, ◌+◌}
 use lib.ListN.{length, get_or, drop}
 use Rattle.lines.specs.Lines.{before, split_on}
 use Rattle.lines.proofs.field.Given as goal

@@ -1,5 +1,4 @@
 -- `lines::find` meets its contract: what stands before the first b is what was passed and what stands before it in the rest.
-use Prim.Native.Nat.{◌-◌}
 use native.Mathlib.Omega.{arith}
 use Rattle.lines.proofs.FieldLaws.{before_here, before_on, before_end}
 use Rattle.lines.proofs.find.Goals as goal

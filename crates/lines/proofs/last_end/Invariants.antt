@@ -1,6 +1,6 @@
 -- `lines::last_end` meets its contract: no byte 10 was passed on the way from the end.
 use mathlib.Core.Path.{◌≡◌}
-use Prim.Native.Nat.{◌≤◌, ◌-◌}
+use Prim.Native.Nat.{◌≤◌}
 use lib.ListN.{length, drop}
 use Rattle.lines.specs.Lines.{up_to}
 use Rattle.lines.proofs.last_end.Given as goal

@@ -1,5 +1,4 @@
 -- `lines::space_from` meets its contract: what was passed, and what stands before the first space of the rest.
-use Prim.Native.Nat.{◌-◌}
 use native.Mathlib.Omega.{arith}
 use Rattle.lines.proofs.FieldLaws.{before_here, before_on, before_end}
 use Rattle.lines.proofs.space_from.Goals as goal

@@ -4,7 +4,6 @@ use Prim.Native.Nat.{ℕ}
 use native.Mathlib.Omega.{arith}
 use Rattle.decimal.specs.Text.{natural_text}
 use Rattle.decimal.proofs.TextLaws.{text_short, wrote_most, wrote_within, wrote_both}
-use borrow.Author.Rules.{rules}
 use Rattle.listing.proofs.share_front.Goals as goal
 
 -- `share`

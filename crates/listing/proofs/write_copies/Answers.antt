@@ -1,5 +1,4 @@
 -- `listing::write_copies` meets its contract: after t turns the copies of the first t threads are listed. Assumes nothing.
-use Prim.Native.Nat.{◌-◌}
 use native.Mathlib.Omega.{arith}
 use Rattle.listing.proofs.LineLaws.{listed_start, listed_place, listed_length, listed_step, listed_end}
 use Rattle.listing.proofs.ListLaws.{copies_none, copies_more, fit_copies}

@@ -1,5 +1,4 @@
 -- `listing::write_mains` meets its contract: after v turns the first v variables are listed. Assumes nothing.
-use Prim.Native.Nat.{◌-◌}
 use native.Mathlib.Omega.{arith}
 use Rattle.listing.proofs.LineLaws.{listed_start, listed_place, listed_length, listed_step, listed_end, wrote_one}
 use Rattle.listing.proofs.ListLaws.{mains_none, mains_more, fit_mains}

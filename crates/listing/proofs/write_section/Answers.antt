@@ -1,6 +1,5 @@
 -- `listing::write_section` meets its contract: the parts of the number. Assumes nothing.
 use Rattle.sections.specs.Entries.{entry_in}
-use borrow.Author.Rules.{rules}
 use Rattle.listing.proofs.write_section.Goals as goal
 
 pub returns : goal.returns

@@ -1,5 +1,4 @@
 -- `listing::write_sections` meets its contract: after i turns the first i sections are listed. Assumes nothing.
-use Prim.Native.Nat.{◌-◌}
 use native.Mathlib.Omega.{arith}
 use lib.ListN.{length, take}
 use Rattle.listing.specs.Listing.{entry_lines}

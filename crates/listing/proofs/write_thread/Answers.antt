@@ -1,5 +1,4 @@
 -- `listing::write_thread` meets its contract: after v turns the copies of the first v variables are listed. Assumes nothing.
-use Prim.Native.Nat.{◌-◌}
 use native.Mathlib.Omega.{arith}
 use Rattle.listing.proofs.LineLaws.{listed_start, listed_place, listed_length, listed_step, listed_end}
 use Rattle.listing.proofs.ListLaws.{copies_none, copies_more, fit_copies}

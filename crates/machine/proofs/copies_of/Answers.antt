@@ -1,5 +1,4 @@
 -- `machine::copies_of` meets its contract: after i turns the first i copies are stored. Assumes nothing.
-use Prim.Native.Nat.{◌-◌}
 use native.Mathlib.Omega.{arith}
 use native.Mathlib.Nat.{not-suc-le-zero}
 use mathlib.Core.Path.{refl, ◌∙◌}

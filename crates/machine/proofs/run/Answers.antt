@@ -1,8 +1,7 @@
 -- `machine::run` meets its contract: `Running` holds at each record. Assumes nothing.
-use Prim.Native.Nat.{ℕ, ◌-◌, ◌<◌}
+use Prim.Native.Nat.{ℕ, ◌<◌}
 use native.Mathlib.Omega.{arith}
 use mathlib.Core.Path.{◌≡◌, refl, sym, ap, ◌∙◌, subst}
-use mathlib.Core.Logic.{⊎_elim}
 use mathlib.Core.Bool.{true, false}
 use mathlib.Core.List.{[], ◌∷◌}
 use lib.Dec.{T, eqb}
@@ -220,8 +219,8 @@ kept c =
     let h = head (row (variable c)) in
     let s = state h in
     sym (lead_same (variable c)) ∙ sym (elim c.if-declared-v.branch [
-      then-declared-v+else-lead-ne0 w ↦ sym w.if-lead-ne0.false ∙ lead_found (variable c) w.cell_place-place.ensures.0 w.lead_of-lead.ensures
-    | else-declared-v w ↦ lead_none s.counts (get_or s.cells (cell_place (thread h) (place h)) blank) s.cells s.stores (thread h) (place h) (letter h) (flagged (variable c)) w.if-declared-v.false
+      | then-declared-v+else-lead-ne0 w ↦ sym w.if-lead-ne0.false ∙ lead_found (variable c) w.cell_place-place.ensures.0 w.lead_of-lead.ensures
+      | else-declared-v w ↦ lead_none s.counts (get_or s.cells (cell_place (thread h) (place h)) blank) s.cells s.stores (thread h) (place h) (letter h) (flagged (variable c)) w.if-declared-v.false
     ])
 
 -- ---- the answers

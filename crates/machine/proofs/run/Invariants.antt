@@ -1,7 +1,6 @@
 -- `machine::run` meets its contract: `Running` holds at each record. Assumes nothing.
 use Prim.Native.Nat.{◌-◌}
 use lib.ListN.{length}
-use Rattle.rules.specs.Events.{value}
 use Rattle.machine.proofs.Running.{Running}
 use Rattle.machine.proofs.run.Given as goal
 

@@ -1,5 +1,4 @@
 -- `machine::tally_of` meets its contract: after v turns the numbers are those of the first v variables. Assumes nothing.
-use Prim.Native.Nat.{◌-◌}
 use native.Mathlib.Omega.{arith}
 use mathlib.Core.Path.{ap, ◌∙◌}
 use Rattle.state.specs.declared.Cell.{Cell}

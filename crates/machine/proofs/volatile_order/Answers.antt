@@ -1,5 +1,4 @@
 -- `machine::volatile_order` meets its contract: after u turns it is known whether one of the first u variables bars the event. Assumes nothing.
-use Prim.Native.Nat.{◌-◌}
 use native.Mathlib.Omega.{arith}
 use mathlib.Core.Bool.{◌&&◌}
 use Rattle.rules.specs.Limits.{volatile}

@@ -1,5 +1,5 @@
 -- `ordering::clear` meets its contract. Assumes nothing.
-use Prim.Native.Nat.{◌<◌, ◌-◌}
+use Prim.Native.Nat.{◌<◌}
 use mathlib.Core.Path.{◌≡◌, refl, ◌∙◌, ap}
 use mathlib.Core.List.{append-nil}
 use native.Mathlib.Omega.{arith}

@@ -1,5 +1,4 @@
 -- `ordering::deny` meets its contract: the loop asks 20 and 21 of each event, 22 is asked at the end. Assumes nothing.
-use Prim.Native.Nat.{◌-◌}
 use native.Mathlib.Omega.{arith}
 use mathlib.Core.Path.{sym, ◌∙◌}
 use Rattle.rules.proofs.Bounds.{allowed_bounds}
@@ -18,7 +17,6 @@ turn c = record {
   going = c.loop-i.invariant;
   more = c.loop-i-test.true;
   reads = reads_at_law c.args.h c.args.what.now c.args.value.now c.requires c.loop-i.i c.loop-i-test.true c.letter_in-k.result c.thread_in-t.result c.place_in-p.result c.letter_in-k.ensures c.thread_in-t.ensures c.place_in-p.ensures;
-
 }
 
 -- ---- the answers

@@ -1,5 +1,4 @@
 -- `ordering::fill` meets its contract: one turn of the loop is one event more. Assumes nothing.
-use Prim.Native.Nat.{◌-◌}
 use native.Mathlib.Omega.{arith}
 use mathlib.Core.Path.{refl, ◌∙◌, ap}
 use lib.ListN.{length-set}
@@ -27,7 +26,6 @@ turn c = record {
     c.loop-i.invariant.1,
   );
   reads = reads_at_law c.args.h c.args.what.now c.args.value.now c.requires.fits c.loop-i.i c.loop-i-test.true c.letter_in-k.result c.thread_in-t.result c.place_in-p.result c.letter_in-k.ensures c.thread_in-t.ensures c.place_in-p.ensures;
-
 }
 
 -- ---- the answers

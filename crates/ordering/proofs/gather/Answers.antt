@@ -1,5 +1,4 @@
 -- `ordering::gather` meets its contract: the loop puts one number after the other to the list. Assumes nothing.
-use Prim.Native.Nat.{◌-◌}
 use mathlib.Core.Path.{◌≡◌}
 use lib.ListN.{length}
 use borrow.Author.Rules.{rules}

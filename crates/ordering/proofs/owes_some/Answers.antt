@@ -1,5 +1,4 @@
 -- `ordering::owes_some` meets its contract. Assumes nothing.
-use Prim.Native.Nat.{◌-◌}
 use native.Mathlib.Omega.{arith}
 use mathlib.Core.Path.{refl}
 use Rattle.ordering.specs.Computed.Parts.{pending_in}

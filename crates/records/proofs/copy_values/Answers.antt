@@ -1,5 +1,4 @@
 -- `records::copy_values` meets its contract. Assumes nothing.
-use Prim.Native.Nat.{◌-◌}
 use lib.IntN.{pos}
 use lib.ListN.{get_or}
 use mir.ValLaws.{to_z-of_z}

@@ -1,5 +1,4 @@
 -- `records::copy_whats` meets its contract. Assumes nothing.
-use Prim.Native.Nat.{◌-◌}
 use mathlib.Core.Path.{refl}
 use Rattle.records.proofs.Copies.{copy_start, copy_long, copy_more, copy_full, copy_end}
 use Rattle.records.proofs.copy_whats.Goals as goal

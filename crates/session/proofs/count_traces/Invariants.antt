@@ -1,5 +1,4 @@
 -- `session::count_traces` meets its contract: the bytes from `left` on are traces, whose numbers are counted.
-use Prim.Native.Nat.{◌-◌}
 use Rattle.session.proofs.Rounds.{Counting}
 use Rattle.session.proofs.count_traces.Given as goal
 

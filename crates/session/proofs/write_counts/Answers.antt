@@ -1,5 +1,4 @@
 -- `session::write_counts` meets its contract: after k turns the first k numbers are listed.
-use Prim.Native.Nat.{◌-◌}
 use native.Mathlib.Omega.{arith}
 use Rattle.listing.proofs.LineLaws.{listed_start, listed_place, listed_length, listed_step, listed_end}
 use Rattle.session.proofs.SheetLines.{refused_fit, refused_none, refused_more}

@@ -1,5 +1,4 @@
 -- `state::cells_ok` meets its contract. The loop's invariant: the cells passed are in range.
-use Prim.Native.Nat.{◌-◌}
 use Rattle.state.specs.Range.{cells_in, cells_ok}
 use Rattle.state.proofs.LeafLaws.{every_zero, every_more, every_end}
 use borrow.Author.Rules.{rules}

@@ -1,5 +1,4 @@
 -- `state::holds_ok` meets its contract. The loop's invariant: the locks passed are in range.
-use Prim.Native.Nat.{◌-◌}
 use Rattle.state.specs.Range.{holds_in, holds_ok}
 use Rattle.state.proofs.LeafLaws.{every_zero, every_more, every_end}
 use borrow.Author.Rules.{rules}

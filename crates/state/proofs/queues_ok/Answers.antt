@@ -1,6 +1,6 @@
 -- `state::queues_ok` meets its contract. The invariants: the queues passed are in range, and the slots passed of the queue that is looked at.
 use mathlib.Core.Path.{ap, ◌∙◌}
-use Prim.Native.Nat.{ℕ, ◌-◌}
+use Prim.Native.Nat.{ℕ}
 use mathlib.Core.Bool.{Bool, ◌&&◌}
 use lib.Dec.{leb}
 use lib.ListN.{get_or}

@@ -3,7 +3,6 @@ use mathlib.Core.Path.{ap}
 use mathlib.Core.Bool.{Bool, ◌&&◌}
 use lib.Dec.{leb}
 use lib.ListN.{get_or}
-use Prim.Native.Nat.{◌-◌}
 use Rattle.state.specs.Range.{threads_in, threads_ok}
 use Rattle.state.proofs.LeafLaws.{every_zero, every_more, every_end}
 use borrow.Author.Rules.{rules}

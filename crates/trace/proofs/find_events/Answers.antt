@@ -1,7 +1,6 @@
 -- `trace::find_events` meets its contract: the part lies in the bytes.
 use Rattle.rules.specs.Limits.{limits_of}
 use mathlib.Core.Path.{ap}
-use Prim.Native.Nat.{◌-◌}
 use native.Mathlib.Omega.{arith}
 use Rattle.trace.specs.declared.Trace.{Trace}
 use Rattle.trace.specs.Trace.{events_of}

@@ -11,7 +11,6 @@ use Rattle.lines.proofs.PartLaws.{rest}
 use Rattle.decimal.proofs.TextLaws.{rest_length}
 use Rattle.trace.specs.Trace.{unfound, second_of}
 use Rattle.trace.proofs.TraceLaws.{first_none, head_wrong, head_over, head_right}
-use borrow.Author.Tests.{not-true, not-false}
 use Rattle.trace.proofs.find_first.Goals as goal
 
 pub returns-then-s-a : goal.returns-then-s-a

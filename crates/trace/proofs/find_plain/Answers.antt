@@ -1,7 +1,6 @@
 -- `trace::find_plain` meets its contract: 1, 2, 3, over the limits, and 6 in this order.
 use Rattle.rules.specs.Limits.{limits_of}
 use mathlib.Core.Path.{sym, ap, ◌∙◌}
-use Prim.Native.Nat.{◌-◌}
 use native.Mathlib.Omega.{arith}
 use lib.ListN.{length-take}
 use lib.Seq.{length-take-le}

@@ -1,6 +1,6 @@
 -- `trace::find_second` meets its contract: line 2.
 use mathlib.Core.Path.{sym, ap, ◌∙◌}
-use Prim.Native.Nat.{◌+◌, ◌-◌}
+use Prim.Native.Nat.{◌+◌}
 use native.Mathlib.Omega.{arith}
 use lib.Seq.{length-take-le}
 use Rattle.trace.specs.declared.GuardLine.{GuardLine}

@@ -30,7 +30,6 @@ pub slice_bounds-trailer_number-count : goal.slice_bounds-trailer_number-count
 unfolding last_line
 slice_bounds-trailer_number-count c = omega (arith, c.last_end-at.ensures, last_le c.args.s.now)
 
-
 pub returns : goal.returns
 unfolding last_line last_number
 returns c =

@@ -1,7 +1,6 @@
 -- `trace::trailer_number` meets its contract: two fields, a Z and a number.
 use mathlib.Core.Path.{◌≡◌, sym, ap, ◌∙◌}
 use mathlib.Core.List.{[]}
-use Prim.Native.Nat.{◌-◌}
 use borrow.Author.Tests.{eq-eqb, ne_eqb}
 use lib.ListN.{length, get_or}
 use Rattle.lines.specs.Lines.{split_on, letter}

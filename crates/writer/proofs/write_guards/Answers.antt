@@ -8,7 +8,6 @@ use lib.ListN.{length}
 use Rattle.decimal.specs.Text.{word_row, ended}
 use Rattle.decimal.proofs.TextLaws.{wrote_none, wrote_line}
 use Rattle.writer.specs.Text.{guard_row}
-use borrow.Author.Rules.{rules}
 use Rattle.writer.proofs.write_guards.Goals as goal
 
 pub returns-then-out-lt4 : goal.returns-then-out-lt4

@@ -8,7 +8,6 @@ use Rattle.decimal.specs.Text.{word_row, ended, room}
 use Rattle.decimal.proofs.TextLaws.{wrote_same}
 use Rattle.writer.specs.Text.{volatiles_text}
 use Rattle.writer.proofs.WriteLaws.{volatiles_none, volatiles_some}
-use borrow.Author.Rules.{rules}
 use Rattle.writer.proofs.write_volatiles.Goals as goal
 
 pub returns-then-ns-eq0 : goal.returns-then-ns-eq0

@@ -1,2 +1,0 @@
--- a local that a function lends
-mod Lent

@@ -1,0 +1,23 @@
+-- `report::mark_lent` meets its contract: 7, a refusal, or the listing of an accepted trace.
+use Rattle.report.proofs.Reported.{too_little_law, little_lends, refused_lends, accepted_lends}
+use Rattle.report.proofs.mark_lent.Goals as goal
+
+pub returns-then-is_lent_short-is_order_short : goal.returns-then-is_lent_short-is_order_short
+returns-then-is_lent_short-is_order_short c =
+    let a = c.args in
+    let e = too_little_law a.course a.places a.out.now a.list.now a.scratch.now _ _ _ c.is_lent_short.ensures c.is_order_short.ensures c.if-is_lent_short-is_order_short.true in
+    little_lends a.course a.bytes.now a.places a.what.now a.value.now a.out.now a.list.now a.scratch.now c.lent_short.result e c.lent_short.ensures
+
+pub returns-in-Refused : goal.returns-in-Refused
+returns-in-Refused c =
+    let a = c.args in
+    let o = c.order_trace-outcome in
+    let e = too_little_law a.course a.places a.out.now a.list.now a.scratch.now _ _ _ c.is_lent_short.ensures c.is_order_short.ensures c.if-is_lent_short-is_order_short.false in
+    refused_lends a.course a.bytes.now a.places a.what.now a.value.now a.out.now a.list.now a.scratch.now e o.result _ _ _ _ o.ensures _ _ c.write_refused-written.result _ c.in-Refused.is c.write_refused-written.ensures
+
+pub returns : goal.returns
+returns c =
+    let a = c.args in
+    let o = c.order_trace-outcome in
+    let e = too_little_law a.course a.places a.out.now a.list.now a.scratch.now _ _ _ c.is_lent_short.ensures c.is_order_short.ensures c.if-is_lent_short-is_order_short.false in
+    accepted_lends a.course a.bytes.now a.places a.what.now a.value.now a.out.now a.list.now a.scratch.now e o.result _ _ _ _ o.ensures c.in_default.is c.write_listing-written.result _ c.write_listing-written.ensures
