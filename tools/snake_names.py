@@ -5,12 +5,38 @@
     python3 tools/snake_names.py --report   prints what would be renamed and what falls together, and changes nothing
 
 A name is renamed wherever it stands as a whole word in an .antt file, in a clause or `ghost use` of an .rt file, in a wrong program, and between
-backquotes or in an indented block of a page. Code, strings, inputs and outputs keep theirs. Where a definition and a lemma fall together, the lemma
-gets `_law` behind its name.
+backquotes or in an indented block of a page. Code, strings, inputs and outputs keep theirs. Where two names fall together, that of specs/, or else that in
+camel case, is the plain one, and the other has `_law` behind it; `CHOSEN` has the names that neither rule makes.
 """
 import glob
 import re
 import sys
+
+CHOSEN = {
+    # laws whose name begins with that of a type
+    "All-append": "all_append_law",
+    "All-between": "all_between",
+    "All-imp": "all_imp",
+    "All-join": "all_join",
+    "All-map": "all_map",
+    "All-serially": "all_serially",
+    "All-snoc": "all_snoc",
+    "All-tail": "all_tail",
+    "All-take": "all_take",
+    "All-turn": "all_turn",
+    "All-under": "all_under_law",
+    "Rising-snoc": "rising_snoc",
+    "Rising-tail": "rising_tail",
+    "without-All": "without_all",
+    "push-All": "push_all",
+    # definitions in proofs/ that fall together with others
+    "allLines": "every_line",
+    "cellIn": "cell_found",
+    "holdsAfter": "holds_then",
+    "told-as": "told_reply",
+    # an import under another name
+    "lettersIn": "letters_in",
+}
 
 WORD = re.compile(r"[^\s(){}\[\];,.⟨⟩⦃⦄\"`|@·]+")
 HEAD = re.compile(r"^(\s*)((?:(?:pub|abbrev|unfoldable|private|data|record) )*)(\S+)((?: +[{(].*?[)}])*) *:(?: |$)")
@@ -74,10 +100,13 @@ def table():
         for name in declared(path):
             if name not in of_specs:
                 of_lemmas.setdefault(name, path)
-    taken, out = {}, {}
+    out = dict(CHOSEN)
+    taken = {new: old for old, new in CHOSEN.items()}
     for names, suffix in ((of_specs, "_of"), (of_lemmas, "_law")):
         # those that keep their names come first, so that they keep them
         for name in sorted(names, key=lambda n: (wanted(n) != n, "-" in n, n)):
+            if name in CHOSEN:
+                continue
             new = wanted(name)
             while new in taken and taken[new] != name:
                 new += suffix

@@ -25,8 +25,8 @@ use Rattle.c_api.specs.Replies.{reply_of, no_letter, on_named, step_reply}
 use Rattle.c_api.specs.Computed.Stepping.{event_of, reply_to}
 
 -- the reply and the state, from the answer of the event that is tried
-abbrev told_as_law : Named → Answer → StepReply
-told_as_law n a = record { reply = reply_to n (reply_of a.verdict); state = a.state }
+abbrev told_reply : Named → Answer → StepReply
+told_reply n a = record { reply = reply_to n (reply_of a.verdict); state = a.state }
 
 -- an event of a thread that is not declared
 nobody : (h : Counts) (t line : ℕ) → declared h (event_of h Nothing t line) ≡ false
@@ -41,20 +41,20 @@ module _ (m : Limits) (s : State) (up : UpToFull m) (t : ℕ) where
   tried = event_of s.counts Nothing t line
 
   -- refused with a number in its line
-  turned_away_law : (number : ℕ) → in_range m s ≡ true → unchanged s (refused number line) ≡ stepped m s tried → told_as_law Nothing (stepped m s tried) ≡ on_named m s t Nothing
+  turned_away_law : (number : ℕ) → in_range m s ≡ true → unchanged s (refused number line) ≡ stepped m s tried → told_reply Nothing (stepped m s tried) ≡ on_named m s t Nothing
   unfolding reply_of no_letter
   turned_away_law number r e =
-      ap (told_as_law Nothing) (sym e) ∙ rw (ne_eqb line 0 (omega (arith, first_line_low s.counts)), r) refl
+      ap (told_reply Nothing) (sym e) ∙ rw (ne_eqb line 0 (omega (arith, first_line_low s.counts)), r) refl
 
-  on_none : told_as_law Nothing (stepped m s tried) ≡ on_named m s t Nothing
+  on_none : told_reply Nothing (stepped m s tried) ≡ on_named m s t Nothing
   on_none = by (in_range m s) refl (leb m.events s.events) refl
     where
-      by : (b : Bool) → in_range m s ≡ b → (c : Bool) → leb m.events s.events ≡ c → told_as_law Nothing (stepped m s tried) ≡ on_named m s t Nothing
-      by false r c q = ap (told_as_law Nothing) (sym (step_out m s tried r)) ∙ (unfold reply_of no_letter in rw r refl)
+      by : (b : Bool) → in_range m s ≡ b → (c : Bool) → leb m.events s.events ≡ c → told_reply Nothing (stepped m s tried) ≡ on_named m s t Nothing
+      by false r c q = ap (told_reply Nothing) (sym (step_out m s tried r)) ∙ (unfold reply_of no_letter in rw r refl)
       by true r true q = turned_away_law m.excess r (step_limit m s tried up r m.excess refl (leb-true m.events s.events q))
       by true r false q = turned_away_law 5 r (step_undeclared m s tried up r (leb-false m.events s.events q) (nobody s.counts t line))
 
-  on_name : (n : Named) → told_as_law n (stepped m s (event_of s.counts n t line)) ≡ on_named m s t n
+  on_name : (n : Named) → told_reply n (stepped m s (event_of s.counts n t line)) ≡ on_named m s t n
   on_name Nothing = on_none
   on_name (Of k) = refl
 
@@ -65,5 +65,5 @@ module _ (m : Limits) (s : State) (up : UpToFull m) (t : ℕ) where
     unfolding step_reply
     step_told at e a v r q f g i j =
         ap (λ (z : Reply). record { reply = z; state = a.state }) (j ∙ ap (reply_to n) i)
-        ∙ ap (told_as_law n) (g ∙ ap (stepped m s) (f ∙ ap (event_of s.counts n t) q))
+        ∙ ap (told_reply n) (g ∙ ap (stepped m s) (f ∙ ap (event_of s.counts n t) q))
         ∙ on_name n ∙ ap (on_named m s t) (named ∙ ap (kind_of k p) same)

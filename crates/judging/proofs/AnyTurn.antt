@@ -33,8 +33,8 @@ either_none (suc a) = rw (ne_eqb (suc a) 0 (λ z. omega arith)) refl
 abbrev pub at : State → Event → ℕ
 at s e = cell_place e.thread (var_of e.kind)
 
-abbrev pub cell_in_law : State → Event → Cell
-cell_in_law s e = get_or s.cells (at s e) blank
+abbrev pub cell_found : State → Event → Cell
+cell_found s e = get_or s.cells (at s e) blank
 
 abbrev pub turn_in : State → Event → Turn
 turn_in s e = turn_of (parts_at s e.thread (var_of e.kind) (lock_of e.kind) (subject e)) s.counts.threads (some_of s e.thread s.counts.variables) e.thread (lock_of e.kind) (letter e.kind) (value e.kind) (s.events + 1)
@@ -64,8 +64,8 @@ module _ (s : State) (t line : ℕ) where
 
   -- what is put back of a cell, behind its last store (S has the position that the cell has before the event), and of a lock event
   put : (k : Kind) → Within t k → (get_or s.holds (lock_of k) no_hold).depth < 2000
-      → ((turn_in s (of k)).cell ≡ next_cell (s.events + 1) (oldest_of (cell_in_law s (of k)).reads (get_or s.reads (slot_place (at s (of k)) (cell_in_law s (of k)).reads 0) no_slot)) (letter k) (value k) (cell_in_law s (of k)))
-      × ((turn_in s (of k)).store ≡ store_after (parts_at s t (var_of k) (lock_of k) t).stores.behind (letter k) (value k) (cell_in_law s (of k)).assigned (s.events + 1))
+      → ((turn_in s (of k)).cell ≡ next_cell (s.events + 1) (oldest_of (cell_found s (of k)).reads (get_or s.reads (slot_place (at s (of k)) (cell_found s (of k)).reads 0) no_slot)) (letter k) (value k) (cell_found s (of k)))
+      × ((turn_in s (of k)).store ≡ store_after (parts_at s t (var_of k) (lock_of k) t).stores.behind (letter k) (value k) (cell_found s (of k)).assigned (s.events + 1))
       × ((turn_in s (of k)).locked ≡ locked_after (get_or s.locked t 0) (letter k) (s.events + 1))
       × ((turn_in s (of k)).hold ≡ hold_after (get_or s.holds (lock_of k) no_hold) (get_or s.waits (subject (of k)) no_wait) t (letter k))
       × ((turn_in s (of k)).wait ≡ wait_after (get_or s.waits (subject (of k)) no_wait) (get_or s.holds (lock_of k) no_hold) (lock_of k) t (letter k))
@@ -95,26 +95,26 @@ module _ (s : State) (e : Event) (w : Within e.thread e.kind) where
   low : at s e < 128
   low = omega (arith, number, w.thread, w.variable)
 
-  cell_is : cell_in_law s e ≡ cell_at s e.thread (var_of e.kind)
+  cell_is : cell_found s e ≡ cell_at s e.thread (var_of e.kind)
   cell_is = cell_read s e.thread (var_of e.kind) w.thread w.variable refl
 
-  oldest : oldest_of (cell_in_law s e).reads (get_or s.reads (slot_place (at s e) (cell_in_law s e).reads 0) no_slot) ≡ first (reads_at s e.thread (var_of e.kind))
+  oldest : oldest_of (cell_found s e).reads (get_or s.reads (slot_place (at s e) (cell_found s e).reads 0) no_slot) ≡ first (reads_at s e.thread (var_of e.kind))
   unfolding reads_at
-  oldest = oldest_is s.reads (cell_in_law s e).reads low refl ∙ (λ j. first (queued s.reads (number j) (cell_is j).reads))
+  oldest = oldest_is s.reads (cell_found s e).reads low refl ∙ (λ j. first (queued s.reads (number j) (cell_is j).reads))
 
-  read_end : slot_place (at s e) (cell_in_law s e).reads (cell_in_law s e).reads.len ≡ behind (16 * e.thread + var_of e.kind) (cell_at s e.thread (var_of e.kind)).reads
-  read_end = slot_is (at s e) (cell_in_law s e).reads (cell_in_law s e).reads.len low refl ∙ (λ j. behind (number j) (cell_is j).reads)
+  read_end : slot_place (at s e) (cell_found s e).reads (cell_found s e).reads.len ≡ behind (16 * e.thread + var_of e.kind) (cell_at s e.thread (var_of e.kind)).reads
+  read_end = slot_is (at s e) (cell_found s e).reads (cell_found s e).reads.len low refl ∙ (λ j. behind (number j) (cell_is j).reads)
 
-  store_end : slot_place (at s e) (cell_in_law s e).stores (cell_in_law s e).stores.len ≡ behind (16 * e.thread + var_of e.kind) (cell_at s e.thread (var_of e.kind)).stores
-  store_end = slot_is (at s e) (cell_in_law s e).stores (cell_in_law s e).stores.len low refl ∙ (λ j. behind (number j) (cell_is j).stores)
+  store_end : slot_place (at s e) (cell_found s e).stores (cell_found s e).stores.len ≡ behind (16 * e.thread + var_of e.kind) (cell_at s e.thread (var_of e.kind)).stores
+  store_end = slot_is (at s e) (cell_found s e).stores (cell_found s e).stores.len low refl ∙ (λ j. behind (number j) (cell_is j).stores)
 
   pub any_put : (get_or s.holds (lock_of e.kind) no_hold).depth < 2000
       → ◌≡◌ {A = State} (record {
         counts = s.counts;
         events = s.events + 1;
         cells = set s.cells (at s e) (turn_in s e).cell;
-        reads = set s.reads (slot_place (at s e) (cell_in_law s e).reads (cell_in_law s e).reads.len) (turn_in s e).read;
-        stores = set s.stores (slot_place (at s e) (cell_in_law s e).stores (cell_in_law s e).stores.len) (turn_in s e).store;
+        reads = set s.reads (slot_place (at s e) (cell_found s e).reads (cell_found s e).reads.len) (turn_in s e).read;
+        stores = set s.stores (slot_place (at s e) (cell_found s e).stores (cell_found s e).stores.len) (turn_in s e).store;
         locked = set s.locked e.thread (turn_in s e).locked;
         holds = set s.holds (lock_of e.kind) (turn_in s e).hold;
         memory = set s.memory (var_of e.kind) (turn_in s e).main;
@@ -126,7 +126,7 @@ module _ (s : State) (e : Event) (w : Within e.thread e.kind) where
     events = s.events + 1;
     cells = ((λ j. set s.cells (at s e) (put.0 j)) ∙ (λ j. set s.cells (number j) (next_cell (s.events + 1) (oldest j) (letter e.kind) (value e.kind) (cell_is j)))) j;
     reads = set s.reads (read_end j) (read_after (get_or s.reads (read_end j) no_slot) (letter e.kind) (value e.kind) (s.events + 1));
-    stores = ((λ j. set s.stores (slot_place (at s e) (cell_in_law s e).stores (cell_in_law s e).stores.len) (put.1 j)) ∙ (λ j. set s.stores (store_end j) (store_after (get_or s.stores (store_end j) no_slot) (letter e.kind) (value e.kind) (cell_is j).assigned (s.events + 1)))) j;
+    stores = ((λ j. set s.stores (slot_place (at s e) (cell_found s e).stores (cell_found s e).stores.len) (put.1 j)) ∙ (λ j. set s.stores (store_end j) (store_after (get_or s.stores (store_end j) no_slot) (letter e.kind) (value e.kind) (cell_is j).assigned (s.events + 1)))) j;
     locked = set s.locked e.thread (put.2 j);
     holds = set s.holds (lock_of e.kind) (put.3 j);
     memory = set s.memory (var_of e.kind) (main_after (get_or s.memory (var_of e.kind) no_main) (letter e.kind) (value e.kind));

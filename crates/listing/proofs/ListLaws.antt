@@ -98,10 +98,10 @@ first_lines n = accepted_line n ∷ []
 abbrev pub head_lines : ℕ → Counts → Memories → List (List ℕ)
 head_lines n h m = first_lines n ++ main_lines (each (main_at m.main) (below h.variables))
 
-abbrev pub all_lines_law : ℕ → Counts → Memories → List (List ℕ)
-all_lines_law n h m = head_lines n h m ++ copy_lines (each (copies_at m.copies h.variables) (below h.threads))
+abbrev pub every_line : ℕ → Counts → Memories → List (List ℕ)
+every_line n h m = head_lines n h m ++ copy_lines (each (copies_at m.copies h.variables) (below h.threads))
 
-pub all_lines : (n : ℕ) (h : Counts) (m : Memories) → allowed full h ≡ true → all_lines_law n h m ≡ lines_for n h m
+pub all_lines : (n : ℕ) (h : Counts) (m : Memories) → allowed full h ≡ true → every_line n h m ≡ lines_for n h m
 unfolding lines_for state_lines mains_in cached_copies
 all_lines n h m a = rw a refl
 
@@ -177,5 +177,5 @@ fit_first n = (row_fits _ (n ∷ []) (omega arith) (omega arith), tt)
 pub fit_head : (n : ℕ) (h : Counts) (m : Memories) → All Fits (head_lines n h m)
 fit_head n h m = both Fits (first_lines n) (main_lines (each (main_at m.main) (below h.variables))) (fit_first n) (fit_mains 0 _)
 
-pub fit_all : (n : ℕ) (h : Counts) (m : Memories) → All Fits (all_lines_law n h m)
+pub fit_all : (n : ℕ) (h : Counts) (m : Memories) → All Fits (every_line n h m)
 fit_all n h m = both Fits (head_lines n h m) (copy_lines (each (copies_at m.copies h.variables) (below h.threads))) (fit_head n h m) (fit_copies _)

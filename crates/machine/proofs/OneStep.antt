@@ -24,7 +24,7 @@ use Rattle.judging.specs.declared.Parts.{Parts}
 use Rattle.judging.specs.declared.Turn.{Turn}
 use Rattle.judging.specs.Computed.Leads.{ahead_rule, ahead_at, lead_with, lead_at}
 use Rattle.judging.specs.Computed.Turns.{parts_at, either_of, turn_of, some_of}
-use Rattle.judging.proofs.AnyTurn.{at, cell_in_law, turn_in, any_rule, any_put}
+use Rattle.judging.proofs.AnyTurn.{at, cell_found, turn_in, any_rule, any_put}
 use Rattle.machine.specs.declared.Answer.{Answer}
 use Rattle.machine.specs.declared.Judged.{Judged}
 use Rattle.machine.specs.Stepped.{unchanged, step_with, stepped}
@@ -116,10 +116,10 @@ module _ (s : State) (e : Event) (u : Turnable s e) {k v l y : ℕ} {x : ℤ} (e
     place_is : i ≡ at s e
     place_is = ei ∙ ap (cell_place t) ev
 
-    read_end : rb ≡ slot_place (at s e) (cell_in_law s e).reads (cell_in_law s e).reads.len
+    read_end : rb ≡ slot_place (at s e) (cell_found s e).reads (cell_found s e).reads.len
     read_end = erb ∙ (λ j. slot_place (place_is j) (parts_are j).cell.reads (parts_are j).cell.reads.len)
 
-    store_end : sb ≡ slot_place (at s e) (cell_in_law s e).stores (cell_in_law s e).stores.len
+    store_end : sb ≡ slot_place (at s e) (cell_found s e).stores (cell_found s e).stores.len
     store_end = esb ∙ (λ j. slot_place (place_is j) (parts_are j).cell.stores (parts_are j).cell.stores.len)
 
     pub turn_taken : ◌≡◌ {A = Judged} (record {

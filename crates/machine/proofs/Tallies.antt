@@ -147,16 +147,16 @@ tally_is s t n p q r = rw (p, q, r, n) refl
 -- ---- after a cell has changed
 
 -- the cell of thread t and variable v among all cells
-cell_in_law : List Cell → ℕ → ℕ → Cell
-cell_in_law cs t v = cond (ltb t 8 && ltb v 16) (get_or cs (16 * t + v) blank) blank
+cell_found : List Cell → ℕ → ℕ → Cell
+cell_found cs t v = cond (ltb t 8 && ltb v 16) (get_or cs (16 * t + v) blank) blank
 
 module _ (cs : List Cell) (t v : ℕ) (d : Cell) (len : length cs ≡ 128) (ht : t < 8) (hv : v < 16) where
-  at_own : cell_in_law (set cs (16 * t + v) d) t v ≡ d
-  unfolding cell_in_law
+  at_own : cell_found (set cs (16 * t + v) d) t v ≡ d
+  unfolding cell_found
   at_own = rw (lt-ltb t 8 ht, lt-ltb v 16 hv) (get_or-set_same cs (16 * t + v) d blank (omega arith))
 
-  at_other : (u w : ℕ) → ((u ≡ t) × (w ≡ v) → ⊥) → cell_in_law (set cs (16 * t + v) d) u w ≡ cell_in_law cs u w
-  unfolding cell_in_law
+  at_other : (u w : ℕ) → ((u ≡ t) × (w ≡ v) → ⊥) → cell_found (set cs (16 * t + v) d) u w ≡ cell_found cs u w
+  unfolding cell_found
   at_other u w n = go (ltb u 8) refl (ltb w 16) refl
     where
       go : (a : Bool) → ltb u 8 ≡ a → (b : Bool) → ltb w 16 ≡ b → cond (a && b) (get_or (set cs (16 * t + v) d) (16 * u + w) blank) blank ≡ cond (a && b) (get_or cs (16 * u + w) blank) blank
@@ -168,12 +168,12 @@ module _ (cs : List Cell) (t v : ℕ) (d : Cell) (len : length cs ≡ 128) (ht :
       go false p b q = refl
 
 module _ (s s' : State) (t v : ℕ) (d : Cell) (len : length s.cells ≡ 128) (ht : t < 8) (hv : v < 16) (hn : v < s.counts.variables) (same : s'.counts ≡ s.counts) (changed : s'.cells ≡ set s.cells (16 * t + v) d) where
-  now_in : (u w : ℕ) → cell_at s' u w ≡ cell_in_law (set s.cells (16 * t + v) d) u w
-  unfolding cell_at cell_in_law
+  now_in : (u w : ℕ) → cell_at s' u w ≡ cell_found (set s.cells (16 * t + v) d) u w
+  unfolding cell_at cell_found
   now_in u w = ap (λ (cs : List Cell). cond (ltb u 8 && ltb w 16) (get_or cs (16 * u + w) blank) blank) changed
 
-  was_in : (u w : ℕ) → cell_in_law s.cells u w ≡ cell_at s u w
-  unfolding cell_at cell_in_law
+  was_in : (u w : ℕ) → cell_found s.cells u w ≡ cell_at s u w
+  unfolding cell_at cell_found
   was_in u w = refl
 
   was_own : cell_at s t v ≡ get_or s.cells (16 * t + v) blank

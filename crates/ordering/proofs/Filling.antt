@@ -15,7 +15,7 @@ use Rattle.rules.specs.Words.{count}
 use Rattle.serial.specs.Lists.{All}
 use Rattle.serial.specs.Sections.{Section}
 use Rattle.serial.proofs.Counted as H
-use Rattle.serial.proofs.Memory.{AllMap}
+use Rattle.serial.proofs.Memory.{all_map}
 use Rattle.serial.proofs.Lines.{Falling, Placed, Traced, traced}
 use Rattle.sections.specs.View.{view}
 use Rattle.sections.specs.Places.{holds_some}
@@ -56,8 +56,8 @@ pub record Placing (n : ℕ) (ss : List (Section ℤ)) : Type 0 where
 pub placing : (h : Counts) (es : List Event) → All (Declared h) es → Placing (length es) (sections h es)
 placing h es d = record {
   falling = tr.falling;
-  below = AllMap (Placed (map view es)) (λ (s : Section ℤ). s.top < suc (length es)) (sections h es) tr.placed (λ s p. omega (arith, p.over, p.ends, length_view es));
-  above = AllMap (Placed (map view es)) (λ (s : Section ℤ). 0 < s.top) (sections h es) tr.placed (λ s p. omega (arith, p.low, p.rise));
+  below = all_map (Placed (map view es)) (λ (s : Section ℤ). s.top < suc (length es)) (sections h es) tr.placed (λ s p. omega (arith, p.over, p.ends, length_view es));
+  above = all_map (Placed (map view es)) (λ (s : Section ℤ). 0 < s.top) (sections h es) tr.placed (λ s p. omega (arith, p.low, p.rise));
 }
   where
     tr : Traced H.counted (map view es) (sections h es)

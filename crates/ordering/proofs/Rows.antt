@@ -26,7 +26,7 @@ use Rattle.serial.specs.Lists.{All}
 use Rattle.sections.specs.Demand3.{AcceptedTrace}
 use Rattle.sections.specs.Refusals.{unfinished}
 use Rattle.sections.proofs.Valid.{Declared, to_declared}
-use Rattle.sections.proofs.Ordered.{AllTurn}
+use Rattle.sections.proofs.Ordered.{all_turn}
 use Rattle.sections.proofs.Demand3.{valid, locks_room}
 use Rattle.ordering.specs.Computed.Parts.{Fits, past, rank}
 use Rattle.ordering.proofs.Scanned.{Reads, reads}
@@ -57,7 +57,7 @@ Known h e = declared h e ≡ true
 trace_known : (h : Counts) (events : List Event) → AcceptedTrace full h events → All (Known h) events
 trace_known h events a =
     subst (λ (l : List Event). All (Known h) l) (reverse-reverse events)
-    (AllTurn (Known h) (reverse events) [] (all_known (reverse events) (valid full h events a)) tt)
+    (all_turn (Known h) (reverse events) [] (all_known (reverse events) (valid full h events a)) tt)
   where
     all_known : (es : List Event) → T (legal h es) → All (Known h) es
     all_known [] l = tt

@@ -27,8 +27,8 @@ use Rattle.sections.specs.Sequential.{serially, zeros, after, given, stated}
 use Rattle.sections.specs.Denials.{fit, Orderly}
 use Rattle.sections.specs.Demand3.{AcceptedTrace, Demand3}
 use Rattle.sections.proofs.Valid.{Valid, Declared, all_declared}
-use Rattle.sections.proofs.Ordered.{AllTurn, some_witness, spans, serial_order, fit_from, orderly}
-use Rattle.sections.proofs.Places.{holds_after_law, so_far_all, holds_more}
+use Rattle.sections.proofs.Ordered.{all_turn, some_witness, spans, serial_order, fit_from, orderly}
+use Rattle.sections.proofs.Places.{holds_then, so_far_all, holds_more}
 use Rattle.sections.proofs.Sequence.{serially_view, after_view, given_view, stated_view}
 use Rattle.sections.proofs.Listed.{listed}
 use Rattle.sections.proofs.Every.{every}
@@ -36,7 +36,7 @@ use Rattle.sections.proofs.Denied.{Says, says, orderly_fit}
 use Rattle.sections.proofs.Few.{section_locks, locks_half}
 
 -- where nothing is held at the end, no thread holds anything after the last event
-free_at_end : (h : Counts) (guard : ℕ → ℕ) (events : List Event) → Orderly h guard events → (t : ℕ) → holds_after_law h t events (length events) ≡ false
+free_at_end : (h : Counts) (guard : ℕ → ℕ) (events : List Event) → Orderly h guard events → (t : ℕ) → holds_then h t events (length events) ≡ false
 unfolding holds_some
 free_at_end h guard events o t = holds_more h t (length events) events (reverse events) (so_far_all events) ∙ go (holds_some h t (reverse events)) refl
   where
@@ -53,7 +53,7 @@ pub valid : (m : Limits) (h : Counts) (events : List Event) → AcceptedTrace m 
 valid m h events a = accepted_legal m h (reverse events) a.limits.excess (marked_accepted m h events a)
 
 pub trace_declared : (m : Limits) (h : Counts) (events : List Event) → AcceptedTrace m h events → All (Declared h) events
-trace_declared m h events a = subst (λ l. All (Declared h) l) (reverse-reverse events) (AllTurn (Declared h) (reverse events) [] (all_declared h (reverse events) (valid m h events a)) tt)
+trace_declared m h events a = subst (λ l. All (Declared h) l) (reverse-reverse events) (all_turn (Declared h) (reverse events) [] (all_declared h (reverse events) (valid m h events a)) tt)
 
 pub demand_3 : (m : Limits) (h : Counts) (guard : ℕ → ℕ) (events : List Event) → AcceptedTrace m h events → Demand3 h guard events (denial h guard events) (order h events)
 demand_3 m h guard events a = record {

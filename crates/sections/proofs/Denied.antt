@@ -28,8 +28,8 @@ use Rattle.sections.specs.Denials.{Denial, fit, denied, Unguarded, LateLock, Unf
 use Rattle.sections.specs.Denials as D
 use Rattle.sections.proofs.Valid.{Declared, variable_low}
 use Rattle.sections.proofs.Whole.{from_held, holds_known, waits_known}
-use Rattle.sections.proofs.Ordered.{some_witness, no_debt, AllTurn}
-use Rattle.sections.proofs.Places.{position_line, position_after, position_last, position_up, position_to, position_ahead, unlocks_at, holds_after_law, lock_line_law, unlock_line, holding_line, Here, at_place, nothing_past, so_far_all, length_so_far, lock_signal, unlock_signal, holds_more}
+use Rattle.sections.proofs.Ordered.{some_witness, no_debt, all_turn}
+use Rattle.sections.proofs.Places.{position_line, position_after, position_last, position_up, position_to, position_ahead, unlocks_at, holds_then, lock_line_law, unlock_line, holding_line, Here, at_place, nothing_past, so_far_all, length_so_far, lock_signal, unlock_signal, holds_more}
 
 -- ---- Booleans
 
@@ -102,7 +102,7 @@ record Shrinking (c : Counts) (t : ℕ) (events : List Event) (n : ℕ) : Type 0
   earlier : ℕ
   before : earlier ≤ n
   unlocks : unlocks_at t events earlier ≡ true
-  same : (q : ℕ) → earlier ≤ q → q ≤ n → holds_after_law c t events q ≡ true
+  same : (q : ℕ) → earlier ≤ q → q ≤ n → holds_then c t events q ≡ true
 
 not_at_zero : (t q : ℕ) (events : List Event) → q ≤ 0 → unlocks_at t events q ≡ true → ⊥
 unfolding unlocks_at at_position
@@ -126,17 +126,17 @@ module _ (c : Counts) (events : List Event) (d : All (Declared c) events) where
       here : (holds_some c t (e ∷ so_far n events) && (unlocks_by t e || after_unlock c t (so_far n events))) ≡ true
       here = unfold after_unlock in subst (λ l. after_unlock c t l ≡ true) w.more b
 
-      now : holds_after_law c t events (suc n) ≡ true
+      now : holds_then c t events (suc n) ≡ true
       now = holds_more c t (suc n) events (e ∷ so_far n events) w.more ∙ both_l (holds_some c t (e ∷ so_far n events)) (unlocks_by t e || after_unlock c t (so_far n events)) here
 
-      only : (q : ℕ) → suc n ≤ q → q ≤ suc n → holds_after_law c t events q ≡ true
-      only q i j = subst (λ p. holds_after_law c t events p ≡ true) (let r : suc n ≡ q = omega arith in r) now
+      only : (q : ℕ) → suc n ≤ q → q ≤ suc n → holds_then c t events q ≡ true
+      only q i j = subst (λ p. holds_then c t events p ≡ true) (let r : suc n ≡ q = omega arith in r) now
 
       more : Shrinking c t events n → Shrinking c t events (suc n)
       more s = record { earlier = s.earlier; before = omega (arith, s.before); unlocks = s.unlocks; same = λ q i j. see q i j (ℕ_discrete q (suc n)) }
         where
-          see : (q : ℕ) → s.earlier ≤ q → q ≤ suc n → Dec (q ≡ suc n) → holds_after_law c t events q ≡ true
-          see q i j (yes p) = subst (λ p. holds_after_law c t events p ≡ true) (sym p) now
+          see : (q : ℕ) → s.earlier ≤ q → q ≤ suc n → Dec (q ≡ suc n) → holds_then c t events q ≡ true
+          see q i j (yes p) = subst (λ p. holds_then c t events p ≡ true) (sym p) now
           see q i j (no p) = s.same q i (omega arith)
 
       go : ((unlocks_by t e) ≡ true) ⊎ (after_unlock c t (so_far n events) ≡ true) → (after_unlock c t (so_far n events) ≡ true → Shrinking c t events n) → Shrinking c t events (suc n)
@@ -178,7 +178,7 @@ module _ (c : Counts) (events : List Event) (d : All (Declared c) events) where
       before : position c r.earlier ≤ n
       before = let i : position c r.earlier < position c (line_after c n) = position_up c r.earlier (line_after c n) (rw (position_after c n) (omega arith)) r.before in omega (arith, i, position_after c n)
 
-      same : (p : ℕ) → position c r.earlier ≤ p → p ≤ n → holds_after_law c r.thread events p ≡ true
+      same : (p : ℕ) → position c r.earlier ≤ p → p ≤ n → holds_then c r.thread events p ≡ true
       same p i j = sym (holding_line c r.thread events (line_of c p) p (position_line c p)) ∙ r.same (line_of c p) (unfold position in omega arith) (omega arith)
 
   from_21 : (n : ℕ) (e : Event) → n < length events → at_position (suc n) events ≡ some e → late_lock c (so_far n events) e ≡ true → LateLock c events (line_after c n)
@@ -215,7 +215,7 @@ no_debt_on h t v (e ∷ es) d q = rw not_on (no_debt_on h t v es d.1 q)
 
 module _ (h : Counts) (events : List Event) (d : All (Declared h) events) where
   turned : All (Declared h) (reverse events)
-  turned = AllTurn (Declared h) events [] d tt
+  turned = all_turn (Declared h) events [] d tt
 
   or_left : (a b : Bool) → a ≡ true → (a || b) ≡ true
   or_left a b p = rw p

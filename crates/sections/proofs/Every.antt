@@ -28,7 +28,7 @@ use Rattle.sections.specs.Order.{sections, line_of, order}
 use Rattle.sections.proofs.Valid.{Valid, Declared}
 use Rattle.sections.proofs.Whole.{from_held}
 use Rattle.sections.proofs.Ordered.{busy_some}
-use Rattle.sections.proofs.Places.{line_position, locks_at, unlocks_at, holds_after_law, nothing_past, all_so_far, holds_more}
+use Rattle.sections.proofs.Places.{line_position, locks_at, unlocks_at, holds_then, nothing_past, all_so_far, holds_more}
 use Rattle.sections.proofs.Steps.{steps, stack}
 use Rattle.sections.proofs.Listed.{Span, in_lines, listed}
 use Rattle.sections.proofs.Denied.{both_l, both_r, some_none, up_to_last}
@@ -152,19 +152,19 @@ module _ (s : Entry) (n : ℕ) (e : Event) (t : takes s n e ≡ true) where
 -- ---- the whole
 
 module _ (c : Counts) (guard : ℕ → ℕ) (events : List Event) (d : All (Declared c) events) (a : Valid c (reverse events)) (o : Orderly c guard events)
-    (free : (t : ℕ) → holds_after_law c t events (length events) ≡ false) where
+    (free : (t : ℕ) → holds_then c t events (length events) ≡ false) where
   -- a thread that holds something after position n is in a section there
-  inside_one : (t n : ℕ) → n ≤ length events → holds_after_law c t events n ≡ true → (x y : ℕ) × Span c events t x y × (x ≤ n) × (n < y)
-  inside_one t n h b = go (own t (sections c (so_far n events))) (subst (λ z. Stack (locks_at t events) (unlocks_at t events) (holds_after_law c t events) z n (own t (sections c (so_far n events)))) b (stack c events d a t n h))
+  inside_one : (t n : ℕ) → n ≤ length events → holds_then c t events n ≡ true → (x y : ℕ) × Span c events t x y × (x ≤ n) × (n < y)
+  inside_one t n h b = go (own t (sections c (so_far n events))) (subst (λ z. Stack (locks_at t events) (unlocks_at t events) (holds_then c t events) z n (own t (sections c (so_far n events)))) b (stack c events d a t n h))
     where
       all : n + (length events - n) ≡ length events
       all = omega arith
 
-      go : (ss : List (Q.Section ℤ)) → Stack (locks_at t events) (unlocks_at t events) (holds_after_law c t events) true n ss → (x y : ℕ) × Span c events t x y × (x ≤ n) × (n < y)
+      go : (ss : List (Q.Section ℤ)) → Stack (locks_at t events) (unlocks_at t events) (holds_then c t events) true n ss → (x y : ℕ) × Span c events t x y × (x ≤ n) × (n < y)
       go [] st = absurd st
       go (s ∷ ss) st =
-          let r : (b : ℕ) × (n < b) × Runs (locks_at t events) (unlocks_at t events) (holds_after_law c t events) s.first b =
-          ends_later (locks_at t events) (unlocks_at t events) (holds_after_law c t events) (length events - n) n s.first
+          let r : (b : ℕ) × (n < b) × Runs (locks_at t events) (unlocks_at t events) (holds_then c t events) s.first b =
+          ends_later (locks_at t events) (unlocks_at t events) (holds_then c t events) (length events - n) n s.first
           (λ i j. steps c events d a t i (omega arith)) (rw all (free t)) (omega (arith, st.0.point.from, st.0.point.to)) st.0.opens st.0.idle st.0.inside in
           (s.first, r.0, r.2, omega (arith, st.0.point.from, st.0.point.to), r.1)
 
@@ -182,7 +182,7 @@ module _ (c : Counts) (guard : ℕ → ℕ) (events : List Event) (d : All (Decl
           (λ r m t. in_one c events r x line (all_members (CriticalSection c events) (order c events) order_lists.sound r m) section (sym (taken_thread r line e t))
           (taken_from r line e t) (taken_to r line e t) low high)
         where
-          busy : holds_after_law c e.thread events n ≡ true
+          busy : holds_then c e.thread events n ≡ true
           busy = holds_more c e.thread n events (so_far n events) refl
               ∙ busy_some c e.thread (guard (loc e)) (so_far n events) (all_so_far (Declared c) n events d) (from_held e.thread (guard (loc e)) (so_far n events) k)
 

@@ -28,7 +28,7 @@ use Rattle.sections.proofs.Valid.{Valid, Declared, lock_low}
 use Rattle.sections.proofs.Viewed.{shape, next_shape}
 use Rattle.rules.proofs.Laws.{is_true, cases, and_left, all_of, is_among, at_letter, some_none}
 use Rattle.rules.proofs.Held.{balanced}
-use Rattle.sections.proofs.Ordered.{AllImp, sections_same, some_busy, settled}
+use Rattle.sections.proofs.Ordered.{all_imp, sections_same, some_busy, settled}
 
 -- ---- each section has a K or C of its own
 
@@ -129,7 +129,7 @@ module _ (h : Counts) (es : List Event) (d : All (Declared h) es) where
 
   low : (ks : List ℕ) (t : ℕ) → Locking ks → All (λ (e : Event). (is ks e && of t e) ≡ true → loc e < h.locks) es
   unfolding on_lock
-  low ks t o = AllImp (Declared h) (λ (e : Event). (is ks e && of t e) ≡ true → loc e < h.locks) es
+  low ks t o = all_imp (Declared h) (λ (e : Event). (is ks e && of t e) ≡ true → loc e < h.locks) es
       (λ e n q. lock_low h e n (is_true (is_among ks lock_letters e o (and_left (is ks e) (of t e) (subst T (sym q) tt)))))
       d
 
@@ -149,8 +149,8 @@ module _ (h : Counts) (es : List Event) (d : All (Declared h) es) where
     of_all : count (is (j ∷ [])) es ≤ count (is (k ∷ [])) es
     unfolding of
     of_all = no_more (λ e. e.thread) (is (j ∷ [])) (is (k ∷ [])) h.threads es
-        (AllImp (Declared h) (λ (e : Event). is (j ∷ []) e ≡ true → e.thread < h.threads) es (λ e n q. n.0) d)
-        (AllImp (Declared h) (λ (e : Event). is (k ∷ []) e ≡ true → e.thread < h.threads) es (λ e n q. n.0) d)
+        (all_imp (Declared h) (λ (e : Event). is (j ∷ []) e ≡ true → e.thread < h.threads) es (λ e n q. n.0) d)
+        (all_imp (Declared h) (λ (e : Event). is (k ∷ []) e ≡ true → e.thread < h.threads) es (λ e n q. n.0) d)
         of_thread
 
 -- ---- the K and C, and the N and Y

@@ -16,15 +16,15 @@ use Rattle.rules.proofs.Bounds.{first_line_low}
 use Rattle.serial.specs.Lists.{All}
 use Rattle.serial.specs.Sections as Q
 use Rattle.serial.proofs.Counted as H
-use Rattle.serial.proofs.Memory.{AllMap}
+use Rattle.serial.proofs.Memory.{all_map}
 use Rattle.serial.proofs.Lines.{Falling, traced}
 use Rattle.sections.specs.View.{view}
 use Rattle.sections.specs.Order.{sections, line_of, entry, order}
 use Rattle.sections.specs.Places.{position, at_position, lock_at}
 use Rattle.sections.specs.CriticalSections.{Entry, CriticalSection, greatest, lock_point, Member, Distinct, Rising, SerialOrder}
 use Rattle.sections.proofs.Valid.{Valid, Declared}
-use Rattle.sections.proofs.Ordered.{AllTurn, sections_same}
-use Rattle.sections.proofs.Places.{position_line, position_before, line_position, position_up, position_to, position_ahead, locks_at, unlocks_at, holds_after_law, lock_line_law, unlock_line, holding_line, nothing_past, so_far_all}
+use Rattle.sections.proofs.Ordered.{all_turn, sections_same}
+use Rattle.sections.proofs.Places.{position_line, position_before, line_position, position_up, position_to, position_ahead, locks_at, unlocks_at, holds_then, lock_line_law, unlock_line, holding_line, nothing_past, so_far_all}
 use Rattle.serial.proofs.Stacks.{own, own_mine, own_other}
 use Rattle.serial.proofs.Signals.{Runs, Closed, Has, Ended, Stack}
 use Rattle.sections.proofs.Steps.{stack}
@@ -45,9 +45,9 @@ gather : (P : ℕ → Section → Type 0) (ss : List Section) → ((u : ℕ) →
 gather P [] f = tt
 gather P (s ∷ ss) f = ((subst (λ l. All (P s.owner) l) (own_mine s.owner s ss refl) (f s.owner)).0, gather P ss (λ u. own_tail (P u) u s ss (f u)))
 
-AllUnder : {A B : Type 0} (P : B → Type 0) (f : A → B) (l : List A) → All (λ a. P (f a)) l → All P (map f l)
-AllUnder P f [] h = tt
-AllUnder P f (a ∷ l) h = (h.0, AllUnder P f l h.1)
+all_under_law : {A B : Type 0} (P : B → Type 0) (f : A → B) (l : List A) → All (λ a. P (f a)) l → All P (map f l)
+all_under_law P f [] h = tt
+all_under_law P f (a ∷ l) h = (h.0, all_under_law P f l h.1)
 
 -- ---- members
 
@@ -109,7 +109,7 @@ unlock_below t (suc p) events q = go (dec_le (length events) p)
 module _ (h : Counts) (events : List Event) where
   -- from position a to position b, t is in a section
   abbrev pub Span : ℕ → ℕ → ℕ → Type 0
-  Span t a b = Runs (locks_at t events) (unlocks_at t events) (holds_after_law h t events) a b
+  Span t a b = Runs (locks_at t events) (unlocks_at t events) (holds_then h t events) a b
 
   pub in_lines : (t a b : ℕ) → Span t a b → CriticalSection h events (record { thread = t; first = line_of h a; last = line_of h b })
   in_lines t a b r = record {
@@ -126,7 +126,7 @@ module _ (h : Counts) (events : List Event) where
   in_positions x c = record {
     rises = position_up h x.first x.last high c.rises;
     opens = opens;
-    idle = subst (λ p. holds_after_law h x.thread events p ≡ false) before (sym (holding_line h x.thread events (x.first - 1) (position h (x.first - 1)) refl) ∙ c.idle);
+    idle = subst (λ p. holds_then h x.thread events p ≡ false) before (sym (holding_line h x.thread events (x.first - 1) (position h (x.first - 1)) refl) ∙ c.idle);
     closes = closes;
     free = sym (holding_line h x.thread events x.last (position h x.last) refl) ∙ c.free;
     inside = λ p i j. sym (holding_line h x.thread events (line_of h p) p (position_line h p))
@@ -149,7 +149,7 @@ module _ (h : Counts) (events : List Event) where
       before = unfold position in omega (arith, first_line_low h)
 
   abbrev Good : Section → Type 0
-  Good s = Closed (locks_at s.owner events) (unlocks_at s.owner events) (holds_after_law h s.owner events) (length events) s
+  Good s = Closed (locks_at s.owner events) (unlocks_at s.owner events) (holds_then h s.owner events) (length events) s
 
   critical : (s : Section) → Good s → CriticalSection h events (entry h s)
   critical s c = in_lines s.owner s.first s.last c.whole
@@ -200,11 +200,11 @@ module _ (h : Counts) (events : List Event) where
   none_above [] = tt
   none_above (s ∷ l) = (tt, none_above l)
 
-  pub listed : All (Declared h) events → Valid h (reverse events) → ((t : ℕ) → holds_after_law h t events (length events) ≡ false) → SerialOrder h events (order h events)
+  pub listed : All (Declared h) events → Valid h (reverse events) → ((t : ℕ) → holds_then h t events (length events) ≡ false) → SerialOrder h events (order h events)
   unfolding order
   listed d a free = record {
-    sound = AllUnder (CriticalSection h events) (entry h) (reverse ss)
-        (AllTurn (λ (s : Section). CriticalSection h events (entry h s)) ss [] (AllMap Good (λ (s : Section). CriticalSection h events (entry h s)) ss good critical) tt);
+    sound = all_under_law (CriticalSection h events) (entry h) (reverse ss)
+        (all_turn (λ (s : Section). CriticalSection h events (entry h s)) ss [] (all_map Good (λ (s : Section). CriticalSection h events (entry h s)) ss good critical) tt);
     complete = complete;
     once = distinct (map (entry h) (reverse ss)) rising;
     by_lock_point = rising;
@@ -213,14 +213,14 @@ module _ (h : Counts) (events : List Event) where
       ss : List Section
       ss = sections h (reverse events)
 
-      ended : (u : ℕ) → Ended (locks_at u events) (unlocks_at u events) (holds_after_law h u events) (length events) (own u ss)
+      ended : (u : ℕ) → Ended (locks_at u events) (unlocks_at u events) (holds_then h u events) (length events) (own u ss)
       ended u =
-          subst (λ b. Stack (locks_at u events) (unlocks_at u events) (holds_after_law h u events) b (length events) (own u ss)) (free u)
-          (subst (λ l. Stack (locks_at u events) (unlocks_at u events) (holds_after_law h u events) (holds_after_law h u events (length events)) (length events) (own u (sections h l))) (so_far_all events)
+          subst (λ b. Stack (locks_at u events) (unlocks_at u events) (holds_then h u events) b (length events) (own u ss)) (free u)
+          (subst (λ l. Stack (locks_at u events) (unlocks_at u events) (holds_then h u events) (holds_then h u events (length events)) (length events) (own u (sections h l))) (so_far_all events)
           (stack h events d a u (length events) (omega arith)))
 
       good : All Good ss
-      good = gather (λ u s. Closed (locks_at u events) (unlocks_at u events) (holds_after_law h u events) (length events) s) ss (λ u. (ended u).sound)
+      good = gather (λ u s. Closed (locks_at u events) (unlocks_at u events) (holds_then h u events) (length events) s) ss (λ u. (ended u).sound)
 
       complete : (x : Entry) → CriticalSection h events x → Member x (map (entry h) (reverse ss))
       complete x c =
@@ -231,7 +231,7 @@ module _ (h : Counts) (events : List Event) where
           ((ended x.thread).complete (position h x.first) (position h x.last) (unlock_below x.thread (position h x.last) events r.closes) r)))
 
       falling : Falling ss
-      falling = rw (sections_same h (reverse events) (AllTurn (Declared h) events [] d tt)) (traced H.counted (map view (reverse events))).falling
+      falling = rw (sections_same h (reverse events) (all_turn (Declared h) events [] d tt)) (traced H.counted (map view (reverse events))).falling
 
       rising : Rising (map (lock_point h events) (map (entry h) (reverse ss)))
       rising = rise ss [] good falling (none_above ss) tt

@@ -43,9 +43,9 @@ unfoldable pub orderly : Counts → (ℕ → ℕ) → List Event → Bool
 orderly h guard [] = true
 orderly h guard (e ∷ es) = not (not_under guard es e) && (not (late_lock h es e) && orderly h guard es)
 
-pub AllImp : {A : Type 0} (P R : A → Type 0) (l : List A) → ((a : A) → P a → R a) → All P l → All R l
-AllImp P R [] f h = tt
-AllImp P R (a ∷ l) f h = (f a h.0, AllImp P R l f h.1)
+pub all_imp : {A : Type 0} (P R : A → Type 0) (l : List A) → ((a : A) → P a → R a) → All P l → All R l
+all_imp P R [] f h = tt
+all_imp P R (a ∷ l) f h = (f a h.0, all_imp P R l f h.1)
 
 -- a lock that is held is declared
 pub lock_below : (h : Counts) (t l : ℕ) (es : List Event) → All (Declared h) es → H.Holds t l (map view es) → l < h.locks
@@ -169,9 +169,9 @@ pub turn_map : (l m : List Event) → reverse_aux (map view l) (map view m) ≡ 
 turn_map [] m = refl
 turn_map (e ∷ l) m = turn_map l (e ∷ m)
 
-pub AllTurn : {A : Type 0} (P : A → Type 0) (l m : List A) → All P l → All P m → All P (reverse_aux l m)
-AllTurn P [] m h k = k
-AllTurn P (a ∷ l) m h k = AllTurn P l (a ∷ m) h.1 (h.0, k)
+pub all_turn : {A : Type 0} (P : A → Type 0) (l m : List A) → All P l → All P m → All P (reverse_aux l m)
+all_turn P [] m h k = k
+all_turn P (a ∷ l) m h k = all_turn P l (a ∷ m) h.1 (h.0, k)
 
 names : (h : Counts) (es : List Event) → All (Declared h) es → All (Trace.Names h.variables) (map view es)
 unfolding on_lock
@@ -234,7 +234,7 @@ spans h events = map span (reverse (sections h (reverse events)))
 
 spans_same : (h : Counts) (events : List Event) → All (Declared h) events → spans h events ≡ Trace.order H.counted (map view events)
 unfolding Trace.order
-spans_same h events d = rw (turn_map events [], sections_same h (reverse events) (AllTurn (Declared h) events [] d tt))
+spans_same h events d = rw (turn_map events [], sections_same h (reverse events) (all_turn (Declared h) events [] d tt))
 
 -- An accepted trace that 20 to 22 do not deny an order: run whole in its order on the sequential memory of zeros, the sections
 -- give every use its value in the trace and leave every variable its value in main memory.
@@ -247,7 +247,7 @@ serial_run h guard events a d o f =
     (proved.uses_right, λ v k. proved.ends_right v k ∙ rw (turn_map events []) (mains h v (reverse events) a))
   where
     d' : All (Declared h) (reverse events)
-    d' = AllTurn (Declared h) events [] d tt
+    d' = all_turn (Declared h) events [] d tt
 
     proved : Trace.Serial (pos 0) H.counted h.variables (map view events)
     proved = Trace.demand_3 (pos 0) H.counted h.variables guard (map view events) (names h events d)

@@ -17,7 +17,7 @@ use Rattle.serial.specs.Lists.{All}
 use Rattle.sections.specs.Places.{position, nth, at_position, so_far, event_at, up_to, unlocks_by, passes, lock_at, unlock_at, holds_some, holding}
 use Rattle.sections.specs.Order.{line_of}
 use Rattle.sections.proofs.Valid.{Valid, before}
-use Rattle.sections.proofs.Ordered.{AllTurn}
+use Rattle.sections.proofs.Ordered.{all_turn}
 
 -- ---- a position's line, and a line's position
 
@@ -64,8 +64,8 @@ unfoldable pub unlocks_at : ℕ → List Event → ℕ → Bool
 unlocks_at t events p = passes (unlocks_by t) (at_position p events)
 
 -- thread t holds something after the first p events
-unfoldable pub holds_after_law : Counts → ℕ → List Event → ℕ → Bool
-holds_after_law h t events p = holds_some h t (so_far p events)
+unfoldable pub holds_then : Counts → ℕ → List Event → ℕ → Bool
+holds_then h t events p = holds_some h t (so_far p events)
 
 pub lock_line_law : (hd : Counts) (t : ℕ) (events : List Event) (n p : ℕ) → position hd n ≡ p → lock_at hd t events n ≡ locks_at t events p
 unfolding lock_at locks_at event_at
@@ -75,8 +75,8 @@ pub unlock_line : (hd : Counts) (t : ℕ) (events : List Event) (n p : ℕ) → 
 unfolding unlock_at unlocks_at event_at
 unlock_line hd t events n p q = rw q
 
-pub holding_line : (h : Counts) (t : ℕ) (events : List Event) (n p : ℕ) → position h n ≡ p → holding h t events n ≡ holds_after_law h t events p
-unfolding holding holds_after_law up_to
+pub holding_line : (h : Counts) (t : ℕ) (events : List Event) (n p : ℕ) → position h n ≡ p → holding h t events n ≡ holds_then h t events p
+unfolding holding holds_then up_to
 holding_line h t events n p q = rw q
 
 -- ---- the event at a position
@@ -143,14 +143,14 @@ valid_left h (e ∷ rest) es a = before h e es (valid_left h rest (e ∷ es) a)
 pub valid_so_far : (h : Counts) (n : ℕ) (events : List Event) → Valid h (reverse events) → Valid h (so_far n events)
 valid_so_far h n events a = valid_left h (drop n events) (so_far n events) (subst (λ l. Valid h l) (sym (the_rest n events)) a)
 
-AllTake : (P : Event → Type 0) (n : ℕ) (l : List Event) → All P l → All P (take n l)
-AllTake P zero l a = tt
-AllTake P (suc n) [] a = tt
-AllTake P (suc n) (e ∷ l) a = (a.0, AllTake P n l a.1)
+all_take : (P : Event → Type 0) (n : ℕ) (l : List Event) → All P l → All P (take n l)
+all_take P zero l a = tt
+all_take P (suc n) [] a = tt
+all_take P (suc n) (e ∷ l) a = (a.0, all_take P n l a.1)
 
 pub all_so_far : (P : Event → Type 0) (n : ℕ) (events : List Event) → All P events → All P (so_far n events)
 unfolding so_far
-all_so_far P n events a = AllTurn P (take n events) [] (AllTake P n events a) tt
+all_so_far P n events a = all_turn P (take n events) [] (all_take P n events a) tt
 
 pub lock_signal : (t n : ℕ) (events : List Event) (e : Event) → at_position n events ≡ some e → locks_at t events n ≡ locks_by t e
 unfolding locks_at
@@ -160,6 +160,6 @@ pub unlock_signal : (t n : ℕ) (events : List Event) (e : Event) → at_positio
 unfolding unlocks_at
 unlock_signal t n events e q = rw q
 
-pub holds_more : (h : Counts) (t n : ℕ) (events : List Event) (es : List Event) → so_far n events ≡ es → holds_after_law h t events n ≡ holds_some h t es
-unfolding holds_after_law
+pub holds_more : (h : Counts) (t n : ℕ) (events : List Event) (es : List Event) → so_far n events ≡ es → holds_then h t events n ≡ holds_some h t es
+unfolding holds_then
 holds_more h t n events es q = rw q

@@ -29,7 +29,7 @@ use Rattle.sections.proofs.Whole.{from_held}
 use Rattle.sections.proofs.Viewed.{Viewed, mem, lock, unlock, idle, on_variable, memory, idling, facts, seen, whose}
 use Rattle.sections.proofs.Ordered.{busy_some}
 use Rattle.sections.proofs.Holding.{keeps_held, stays_idle, lock_taken_law}
-use Rattle.sections.proofs.Places.{locks_at, unlocks_at, holds_after_law, Here, at_place, length_so_far, all_so_far, valid_so_far, lock_signal, unlock_signal, holds_more}
+use Rattle.sections.proofs.Places.{locks_at, unlocks_at, holds_then, Here, at_place, length_so_far, all_so_far, valid_so_far, lock_signal, unlock_signal, holds_more}
 use Rattle.serial.proofs.Stacks.{own, grow, own_push, own_next_other, own_next_lock, own_next_open}
 use Rattle.serial.proofs.Signals.{Step, Stack, none_yet, other_busy, out, opening, raising, going}
 
@@ -42,12 +42,12 @@ unfolding Rules.some words_of depth grip
 none_held zero t = refl
 none_held (suc n) t = none_held n t
 
-pub idle_start : (h : Counts) (t : ℕ) (events : List Event) → holds_after_law h t events 0 ≡ false
-unfolding holds_after_law so_far holds_some
+pub idle_start : (h : Counts) (t : ℕ) (events : List Event) → holds_then h t events 0 ≡ false
+unfolding holds_then so_far holds_some
 idle_start h t events = none_held h.locks t
 
 module _ (c : Counts) (events : List Event) (d : All (Declared c) events) (a : Valid c (reverse events)) where
-  pub steps : (u n : ℕ) → n < length events → Step (locks_at u events) (unlocks_at u events) (holds_after_law c u events) n
+  pub steps : (u n : ℕ) → n < length events → Step (locks_at u events) (unlocks_at u events) (holds_then c u events) n
   steps u n h = record { lock_holds = lock_holds; idle_keeps = idle_keeps; busy_keeps = busy_keeps; apart = apart }
     where
       at : Here (Declared c) events n
@@ -65,10 +65,10 @@ module _ (c : Counts) (events : List Event) (d : All (Declared c) events) (a : V
       both : All (Declared c) (e ∷ es)
       both = (at.good, before)
 
-      now : holds_after_law c u events (suc n) ≡ holds_some c u (e ∷ es)
+      now : holds_then c u events (suc n) ≡ holds_some c u (e ∷ es)
       now = holds_more c u (suc n) events (e ∷ es) at.more
 
-      was : holds_after_law c u events n ≡ holds_some c u es
+      was : holds_then c u events n ≡ holds_some c u es
       was = holds_more c u n events es refl
 
       l_sig : locks_at u events (suc n) ≡ locks_by u e
@@ -77,7 +77,7 @@ module _ (c : Counts) (events : List Event) (d : All (Declared c) events) (a : V
       u_sig : unlocks_at u events (suc n) ≡ unlocks_by u e
       u_sig = unlock_signal u (suc n) events e at.stands
 
-      lock_holds : locks_at u events (suc n) ≡ true → holds_after_law c u events (suc n) ≡ true
+      lock_holds : locks_at u events (suc n) ≡ true → holds_then c u events (suc n) ≡ true
       lock_holds k =
           now ∙ busy_some c u (loc e) (e ∷ es) both
           (from_held u (loc e) (e ∷ es)
@@ -92,10 +92,10 @@ module _ (c : Counts) (events : List Event) (d : All (Declared c) events) (a : V
           valid : Valid c (e ∷ es)
           valid = subst (λ l. Valid c l) at.more (valid_so_far c (suc n) events a)
 
-      idle_keeps : holds_after_law c u events n ≡ false → locks_at u events (suc n) ≡ false → holds_after_law c u events (suc n) ≡ false
+      idle_keeps : holds_then c u events n ≡ false → locks_at u events (suc n) ≡ false → holds_then c u events (suc n) ≡ false
       idle_keeps i k = now ∙ stays_idle c u e es (sym l_sig ∙ k) (sym was ∙ i)
 
-      busy_keeps : holds_after_law c u events n ≡ true → unlocks_at u events (suc n) ≡ false → holds_after_law c u events (suc n) ≡ true
+      busy_keeps : holds_then c u events n ≡ true → unlocks_at u events (suc n) ≡ false → holds_then c u events (suc n) ≡ true
       busy_keeps i k = now ∙ keeps_held c u e es (sym u_sig ∙ k) (sym was ∙ i)
 
       apart : locks_at u events (suc n) ≡ true → unlocks_at u events (suc n) ≡ false
@@ -146,8 +146,8 @@ module _ (L F G : ℕ → Bool) (n : ℕ) (f : Step L F G n) where
 
 module _ (c : Counts) (events : List Event) (d : All (Declared c) events) (a : Valid c (reverse events)) where
   -- u's sections in the scan's list, after the first n events
-  pub stack : (u n : ℕ) → n ≤ length events → Stack (locks_at u events) (unlocks_at u events) (holds_after_law c u events) (holds_after_law c u events n) n (own u (sections c (so_far n events)))
-  stack u zero h = rw (idle_start c u events) (unfold so_far sections own in none_yet (locks_at u events) (unlocks_at u events) (holds_after_law c u events))
+  pub stack : (u n : ℕ) → n ≤ length events → Stack (locks_at u events) (unlocks_at u events) (holds_then c u events) (holds_then c u events n) n (own u (sections c (so_far n events)))
+  stack u zero h = rw (idle_start c u events) (unfold so_far sections own in none_yet (locks_at u events) (unlocks_at u events) (holds_then c u events))
   stack u (suc n) h = go (stack u n (omega arith))
     where
       at : Here (Declared c) events n
@@ -156,10 +156,10 @@ module _ (c : Counts) (events : List Event) (d : All (Declared c) events) (a : V
       scan : sections c (at.event ∷ so_far n events) ≡ Q.next (view at.event) (told (holds_some c at.event.thread (so_far n events))) (suc n) (sections c (so_far n events))
       scan = unfold sections in rw (length_so_far n events (omega arith))
 
-      go : Stack (locks_at u events) (unlocks_at u events) (holds_after_law c u events) (holds_after_law c u events n) n (own u (sections c (so_far n events)))
-          → Stack (locks_at u events) (unlocks_at u events) (holds_after_law c u events) (holds_after_law c u events (suc n)) (suc n) (own u (sections c (so_far (suc n) events)))
+      go : Stack (locks_at u events) (unlocks_at u events) (holds_then c u events) (holds_then c u events n) n (own u (sections c (so_far n events)))
+          → Stack (locks_at u events) (unlocks_at u events) (holds_then c u events) (holds_then c u events (suc n)) (suc n) (own u (sections c (so_far (suc n) events)))
       go st =
           rw (at.more, scan)
-          (one_more (locks_at u events) (unlocks_at u events) (holds_after_law c u events) n (steps c events d a u n (omega arith)) u (sections c (so_far n events)) at.event (holds_some c at.event.thread (so_far n events))
+          (one_more (locks_at u events) (unlocks_at u events) (holds_then c u events) n (steps c events d a u n (omega arith)) u (sections c (so_far n events)) at.event (holds_some c at.event.thread (so_far n events))
           (lock_signal u (suc n) events at.event at.stands) (unlock_signal u (suc n) events at.event at.stands)
           (λ p. holds_more c u n events (so_far n events) refl ∙ ap (λ t. holds_some c t (so_far n events)) (sym p)) st)

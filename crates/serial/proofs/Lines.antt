@@ -10,7 +10,7 @@ use lib.ListN.{length}
 use Rattle.serial.specs.Events.{Event, lock, unlock, idle, mem, thread}
 use Rattle.serial.specs.Sections.{Section, opened, grown, raised, push, current, without, next, Locks, Busy, sections}
 use Rattle.serial.specs.Lists.{All}
-use Rattle.serial.proofs.Memory.{AllMap}
+use Rattle.serial.proofs.Memory.{all_map}
 
 abbrev pub either : {A : Type 0} → Dec A → Type 0 → Type 0 → Type 0
 either (yes a) P Q = P
@@ -157,10 +157,10 @@ module _ {X : Type 0} where
       step (no p) (yes p') q h r = rw q h
       step (no p) (no p') q h r = rw q (r h)
 
-  without_All : (P : Section X → Type 0) (t : ℕ) (ss : List (Section X)) → All P ss → All P (without t ss)
+  without_all : (P : Section X → Type 0) (t : ℕ) (ss : List (Section X)) → All P ss → All P (without t ss)
   unfolding without
-  without_All P t [] h = tt
-  without_All P t (s ∷ ss) h = step (ℕ_discrete s.owner t) (without_All P t ss h.1)
+  without_all P t [] h = tt
+  without_all P t (s ∷ ss) h = step (ℕ_discrete s.owner t) (without_all P t ss h.1)
     where
       step : (d : Dec (s.owner ≡ t)) → All P (without t ss) → All P (ite {C = List (Section X)} d ss (s ∷ without t ss))
       step (yes p) r = h.1
@@ -173,7 +173,7 @@ module _ {X : Type 0} where
     where
       step : (d : Dec (s.owner ≡ t)) → Falling (without t ss) → Falling (ite {C = List (Section X)} d ss (s ∷ without t ss))
       step (yes p) r = h.1
-      step (no p) r = (without_All (λ (q : Section X). q.top < s.top) t ss h.0, r)
+      step (no p) r = (without_all (λ (q : Section X). q.top < s.top) t ss h.0, r)
 
   -- t's current section, where there is one
   pub current_is : (P : Section X → Type 0) (t n : ℕ) (es : List (Event X)) (ss : List (Section X)) → Now t es ss → All P ss
@@ -188,15 +188,15 @@ module _ {X : Type 0} where
       step (yes p) h r = (a.0, p, h)
       step (no p) h r = r h
 
-  push_All : (P Q : Section X → Type 0) (t n : ℕ) (e : Event X) (es : List (Event X)) (ss : List (Section X)) → Now t es ss → All P ss
+  push_all : (P Q : Section X → Type 0) (t n : ℕ) (e : Event X) (es : List (Event X)) (ss : List (Section X)) → Now t es ss → All P ss
       → ((s : Section X) → P s → Q s) → ((s : Section X) → P s → s.owner ≡ t → Open t es s → Q (grown n e s)) → All Q (push t n e ss)
   unfolding Now push
-  push_All P Q t n e es [] h a f g = absurd h
-  push_All P Q t n e es (s ∷ ss) h a f g = step (ℕ_discrete s.owner t) h (λ k. push_All P Q t n e es ss k a.1 f g)
+  push_all P Q t n e es [] h a f g = absurd h
+  push_all P Q t n e es (s ∷ ss) h a f g = step (ℕ_discrete s.owner t) h (λ k. push_all P Q t n e es ss k a.1 f g)
     where
       step : (d : Dec (s.owner ≡ t)) → either d (Open t es s) (Now t es ss) → (Now t es ss → All Q (push t n e ss))
           → All Q (ite {C = List (Section X)} d (grown n e s ∷ ss) (s ∷ push t n e ss))
-      step (yes p) h r = (g s a.0 p h, AllMap P Q ss a.1 f)
+      step (yes p) h r = (g s a.0 p h, all_map P Q ss a.1 f)
       step (no p) h r = (f s a.0, r h)
 
   push_falling : (t n : ℕ) (e : Event X) (es : List (Event X)) (ss : List (Section X)) → Now t es ss → Falling ss → Falling (push t n e ss)
@@ -210,7 +210,7 @@ module _ {X : Type 0} where
       step : (d : Dec (s.owner ≡ t)) → either d (Open t es s) (Now t es ss) → (Now t es ss → Falling (push t n e ss))
           → Falling (ite {C = List (Section X)} d (grown n e s ∷ ss) (s ∷ push t n e ss))
       step (yes p) h r = a
-      step (no p) h r = (push_All low low t n e es ss h a.0 (λ q k. k) (λ q k o w. k), r h)
+      step (no p) h r = (push_all low low t n e es ss h a.0 (λ q k. k) (λ q k o w. k), r h)
 
   module _ (e : Event X) (es : List (Event X)) where
     open_other : (u : ℕ) (s : Section X) → (thread e ≡ u → ⊥) → Open u es s → Open u (e ∷ es) s
@@ -282,7 +282,7 @@ module _ {X : Type 0} (𝓛 : Locks X) where
 
   module _ (e : Event X) (es : List (Event X)) (ss : List (Section X)) (k : Traced es ss) where
     all_later : All (Placed (e ∷ es)) ss
-    all_later = AllMap (Placed es) (Placed (e ∷ es)) ss k.placed (placed_later e es)
+    all_later = all_map (Placed es) (Placed (e ∷ es)) ss k.placed (placed_later e es)
 
     traced_out : ((t l j : ℕ) → e ≡ lock j t l → ⊥) → (Busy 𝓛 (thread e) es → ⊥) → Traced (e ∷ es) ss
     traced_out nl i = record { placed = all_later; falling = k.falling; now = now }
@@ -296,7 +296,7 @@ module _ {X : Type 0} (𝓛 : Locks X) where
 
     traced_push : ((t l j : ℕ) → e ≡ lock j t l → ⊥) → Busy 𝓛 (thread e) es → Traced (e ∷ es) (push (thread e) (suc (length es)) e ss)
     traced_push nl i = record {
-      placed = push_All (Placed es) (Placed (e ∷ es)) (thread e) (suc (length es)) e es ss (k.now (thread e) i) k.placed (placed_later e es) (placed_grown e es);
+      placed = push_all (Placed es) (Placed (e ∷ es)) (thread e) (suc (length es)) e es ss (k.now (thread e) i) k.placed (placed_later e es) (placed_grown e es);
       falling = push_falling (thread e) (suc (length es)) e es ss (k.now (thread e) i) k.falling;
       now = now;
     }
@@ -309,7 +309,7 @@ module _ {X : Type 0} (𝓛 : Locks X) where
             step (no p) b = now_push_other (thread e) t (suc (length es)) e (e ∷ es) ss p (now_later e es t ss p (k.now t b))
 
     tops : All (λ (r : Section X). r.top < suc (length es)) ss
-    tops = AllMap (Placed es) (λ (r : Section X). r.top < suc (length es)) ss k.placed (λ s p. omega (arith, p.over, p.ends))
+    tops = all_map (Placed es) (λ (r : Section X). r.top < suc (length es)) ss k.placed (λ s p. omega (arith, p.over, p.ends))
 
     other_busy : (t : ℕ) → (thread e ≡ t → ⊥) → Busy 𝓛 t (e ∷ es) → Busy 𝓛 t es
     other_busy t n b = busy_back t e es (λ l j p. n (ap thread p)) b
@@ -327,7 +327,7 @@ module _ {X : Type 0} (𝓛 : Locks X) where
 
     traced_raise : Busy 𝓛 (thread e) es → Traced (e ∷ es) (raised (thread e) (suc (length es)) e (current (thread e) (suc (length es)) ss) ∷ without (thread e) ss)
     unfolding Falling
-    traced_raise i = record { placed = (here, without_All (Placed (e ∷ es)) (thread e) ss all_later); falling = (without_All (λ (r : Section X). r.top < suc (length es)) (thread e) ss tops, without_falling (thread e) ss k.falling); now = now }
+    traced_raise i = record { placed = (here, without_all (Placed (e ∷ es)) (thread e) ss all_later); falling = (without_all (λ (r : Section X). r.top < suc (length es)) (thread e) ss tops, without_falling (thread e) ss k.falling); now = now }
       where
         was : Placed es (current (thread e) (suc (length es)) ss) × ((current (thread e) (suc (length es)) ss).owner ≡ thread e) × Open (thread e) es (current (thread e) (suc (length es)) ss)
         was = current_is (Placed es) (thread e) (suc (length es)) es ss (k.now (thread e) i) k.placed

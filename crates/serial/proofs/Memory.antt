@@ -11,17 +11,17 @@ use Rattle.serial.specs.Events.{Kind, Use, Assign, Load, Store, Read, Write, Pre
 use Rattle.serial.specs.Lists.{All}
 use Rattle.serial.specs.Words.{Slot, Cell, Act, own, other, locks, unlocks, nothing, oldest, change, written, assigned, Allowed}
 
-pub AllSnoc : {A : Type 0} (P : A → Type 0) (l : List A) (a : A) → All P l → P a → All P (l ++ (a ∷ []))
-AllSnoc P [] a h p = (p, tt)
-AllSnoc P (b ∷ l) a h p = (h.0, AllSnoc P l a h.1 p)
+pub all_snoc : {A : Type 0} (P : A → Type 0) (l : List A) (a : A) → All P l → P a → All P (l ++ (a ∷ []))
+all_snoc P [] a h p = (p, tt)
+all_snoc P (b ∷ l) a h p = (h.0, all_snoc P l a h.1 p)
 
-pub AllMap : {A : Type 0} (P Q : A → Type 0) (l : List A) → All P l → ((a : A) → P a → Q a) → All Q l
-AllMap P Q [] h f = tt
-AllMap P Q (a ∷ l) h f = (f a h.0, AllMap P Q l h.1 f)
+pub all_map : {A : Type 0} (P Q : A → Type 0) (l : List A) → All P l → ((a : A) → P a → Q a) → All Q l
+all_map P Q [] h f = tt
+all_map P Q (a ∷ l) h f = (f a h.0, all_map P Q l h.1 f)
 
-pub AllTail : {A : Type 0} (P : A → Type 0) (l : List A) → All P l → All P (tail l)
-AllTail P [] h = tt
-AllTail P (a ∷ l) h = h.1
+pub all_tail : {A : Type 0} (P : A → Type 0) (l : List A) → All P l → All P (tail l)
+all_tail P [] h = tt
+all_tail P (a ∷ l) h = h.1
 
 abbrev pub asks : Kind → Bool
 asks Use = true
@@ -68,14 +68,14 @@ module _ {X : Type 0} where
   Rising [] = Unit {0}
   Rising (r ∷ rs) = After r.position rs × Rising rs
 
-  RisingTail : (rs : List (Slot X)) → Rising rs → Rising (tail rs)
-  RisingTail [] h = tt
-  RisingTail (r ∷ rs) h = h.1
+  rising_tail : (rs : List (Slot X)) → Rising rs → Rising (tail rs)
+  rising_tail [] h = tt
+  rising_tail (r ∷ rs) h = h.1
 
-  RisingSnoc : (rs : List (Slot X)) (n : ℕ) (r : Slot X) → Rising rs → Until n rs → n < r.position → Rising (rs ++ (r ∷ []))
-  RisingSnoc [] n r h u p = (tt, tt)
-  RisingSnoc (q ∷ rs) n r h u p =
-      (AllSnoc (λ (s : Slot X). q.position < s.position) rs r h.0 (let o = u.0 in omega arith), RisingSnoc rs n r h.1 u.1 p)
+  rising_snoc : (rs : List (Slot X)) (n : ℕ) (r : Slot X) → Rising rs → Until n rs → n < r.position → Rising (rs ++ (r ∷ []))
+  rising_snoc [] n r h u p = (tt, tt)
+  rising_snoc (q ∷ rs) n r h u p =
+      (all_snoc (λ (s : Slot X). q.position < s.position) rs r h.0 (let o = u.0 in omega arith), rising_snoc rs n r h.1 u.1 p)
 
   -- a read since the thread's last K and its last write has the value of main memory
   abbrev pub Current : ℕ → ℕ → X → Slot X → Type 0
@@ -122,7 +122,7 @@ module _ {X : Type 0} where
       since = G.since;
       early = G.early;
       rising = G.rising;
-      until = AllMap (λ (r : Slot X). r.position ≤ n) (λ (r : Slot X). r.position ≤ suc n) c.reads G.until (λ r p. omega arith);
+      until = all_map (λ (r : Slot X). r.position ≤ n) (λ (r : Slot X). r.position ≤ suc n) c.reads G.until (λ r p. omega arith);
       locked = let o = G.locked in omega arith;
     }
 
@@ -137,12 +137,12 @@ module _ {X : Type 0} where
       since = G.since;
       early = G.early;
       rising = G.rising;
-      until = AllMap (λ (r : Slot X). r.position ≤ n) (λ (r : Slot X). r.position ≤ suc n) c.reads G.until (λ r p. omega arith);
+      until = all_map (λ (r : Slot X). r.position ≤ n) (λ (r : Slot X). r.position ≤ suc n) c.reads G.until (λ r p. omega arith);
       locked = let o = G.locked in omega arith;
     }
 
     later : Until (suc n) c.reads
-    later = AllMap (λ (r : Slot X). r.position ≤ n) (λ (r : Slot X). r.position ≤ suc n) c.reads G.until (λ r p. omega arith)
+    later = all_map (λ (r : Slot X). r.position ≤ n) (λ (r : Slot X). r.position ≤ suc n) c.reads G.until (λ r p. omega arith)
 
     locked' : c.last_lock ≤ suc n
     locked' = let o = G.locked in omega arith
@@ -214,18 +214,18 @@ module _ {X : Type 0} where
       idle = λ i. G.idle (λ h. i (f h));
       owes = λ h. G.owes (b h);
       even = λ h. G.even (b h);
-      current = λ h. AllSnoc (Current c.last_lock c.last_write m) c.reads (record { position = suc n; value = x }) (G.current (b h)) (λ _ _. e);
+      current = λ h. all_snoc (Current c.last_lock c.last_write m) c.reads (record { position = suc n; value = x }) (G.current (b h)) (λ _ _. e);
       right = λ h. G.right (b h);
       since = λ u p s. grows (G.since u p s);
       early = G.early;
-      rising = RisingSnoc c.reads n (record { position = suc n; value = x }) G.rising G.until (omega arith);
-      until = AllSnoc (λ (r : Slot X). r.position ≤ suc n) c.reads (record { position = suc n; value = x }) later (omega arith);
+      rising = rising_snoc c.reads n (record { position = suc n; value = x }) G.rising G.until (omega arith);
+      until = all_snoc (λ (r : Slot X). r.position ≤ suc n) c.reads (record { position = suc n; value = x }) later (omega arith);
       locked = locked';
     }
       where
         grows : (c.last_lock < c.last_write) ⊎ After c.last_lock c.reads → (c.last_lock < c.last_write) ⊎ After c.last_lock (c.reads ++ (record { position = suc n; value = x } ∷ []))
         grows (inl p) = inl p
-        grows (inr a) = inr (AllSnoc (λ (r : Slot X). c.last_lock < r.position) c.reads (record { position = suc n; value = x }) a (let o = G.locked in omega arith))
+        grows (inr a) = inr (all_snoc (λ (r : Slot X). c.last_lock < r.position) c.reads (record { position = suc n; value = x }) a (let o = G.locked in omega arith))
 
     write : (x : X) → (H → H') → (H' → H) → (ys : List X) → c.stores ≡ x ∷ ys → Good H' (suc n) (change (suc n) (own Write x) c) x d
     unfolding change
@@ -233,7 +233,7 @@ module _ {X : Type 0} where
       idle = λ i. absurd (cons≢nil (sym e ∙ (G.idle (λ h. i (f h))).0));
       owes = λ h o. rw e (rw e at (G.owes (b h) o));
       even = λ h o p. rw e (rw e at (G.even (b h) o p));
-      current = λ h. AllMap (λ (r : Slot X). r.position ≤ n) (Current c.last_lock (suc n) x) c.reads G.until (λ r p q w. absurd (omega arith));
+      current = λ h. all_map (λ (r : Slot X). r.position ≤ n) (Current c.last_lock (suc n) x) c.reads G.until (λ r p q w. absurd (omega arith));
       right = λ h. G.right (b h);
       since = λ u p s. inl (let o = G.locked in omega arith);
       early = λ p s. let o = G.locked in omega arith;
@@ -248,7 +248,7 @@ module _ {X : Type 0} where
       idle = λ i. G.idle (λ h. i (f h));
       owes = λ _ p. absurd (true≢false (sym p ∙ o));
       even = λ h _ p. gained (b h) p;
-      current = λ h. AllMap (λ (r : Slot X). r.position ≤ n) (Current (suc n) c.last_write m) c.reads G.until (λ r p q w. absurd (omega arith));
+      current = λ h. all_map (λ (r : Slot X). r.position ≤ n) (Current (suc n) c.last_write m) c.reads G.until (λ r p q w. absurd (omega arith));
       right = λ _ p. absurd (false≢true p);
       since = λ p. absurd (false≢true p);
       early = λ p. absurd (true≢false (sym p ∙ o));
@@ -287,12 +287,12 @@ module _ {X : Type 0} where
       idle = λ i. G.idle (λ h. i (f h));
       owes = λ h. G.owes (b h);
       even = λ h. G.even (b h);
-      current = λ h. AllTail (Current c.last_lock c.last_write m) c.reads (G.current (b h));
+      current = λ h. all_tail (Current c.last_lock c.last_write m) c.reads (G.current (b h));
       right = λ h u. v ∙ (rw e at (G.current (b h))).0 (recent u) w ∙ (rw st at (G.even (b h) ow fr));
       since = λ u p s. inr (rw e (rest u));
       early = G.early;
-      rising = RisingTail c.reads G.rising;
-      until = AllTail (λ (r : Slot X). r.position ≤ suc n) c.reads later;
+      rising = rising_tail c.reads G.rising;
+      until = all_tail (λ (r : Slot X). r.position ≤ suc n) c.reads later;
       locked = locked';
     }
       where
@@ -309,7 +309,7 @@ module _ {X : Type 0} where
         recent u = tested (ltb c.last_lock (oldest c.reads)) refl u
 
         rest : (ltb c.last_lock (oldest c.reads) || c.usable) ≡ true → After c.last_lock rs
-        rest u = let q = recent u in AllMap (λ (s : Slot X). r.position < s.position) (λ (s : Slot X). c.last_lock < s.position) rs (rw e at G.rising).0 (λ s p. omega arith)
+        rest u = let q = recent u in all_map (λ (s : Slot X). r.position < s.position) (λ (s : Slot X). c.last_lock < s.position) rs (rw e at G.rising).0 (λ s p. omega arith)
 
     -- one act more
     pub advance : (a : Act X) → Allowed a c m → Facts a H H' m d → ((change (suc n) a c).pending ≡ true → H') → Good H' (suc n) (change (suc n) a c) (act_on written a m) (act_on assigned a d)

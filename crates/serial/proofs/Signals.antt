@@ -9,7 +9,7 @@ use mathlib.Core.List.{List, [], ◌∷◌}
 use Rattle.serial.specs.Events.{Event}
 use Rattle.serial.specs.Sections.{Section, opened, grown, raised}
 use Rattle.serial.specs.Lists.{All}
-use Rattle.serial.proofs.Memory.{AllMap}
+use Rattle.serial.proofs.Memory.{all_map}
 use Rattle.serial.proofs.Stacks.{grow, rest, front}
 
 -- one of these sections is from a to b
@@ -94,7 +94,7 @@ module _ (locks unlocks holds : ℕ → Bool) where
     none_yet = record { sound = tt; complete = λ a b h r. absurd (omega (arith, h, r.rises)) }
 
     closed_on : (n : ℕ) (ss : List (Section X)) → All (Closed n) ss → All (Closed (suc n)) ss
-    closed_on n ss a = AllMap (Closed n) (Closed (suc n)) ss a (λ s c. record { whole = c.whole; point = c.point; ends = omega (arith, c.ends) })
+    closed_on n ss a = all_map (Closed n) (Closed (suc n)) ss a (λ s c. record { whole = c.whole; point = c.point; ends = omega (arith, c.ends) })
 
     -- no section ends at position n + 1
     ended_on : (n : ℕ) (ss : List (Section X)) → ((a : ℕ) → Runs a (suc n) → ⊥) → Ended n ss → Ended (suc n) ss

@@ -156,30 +156,30 @@ module _ {X : Type 0} where
 
   -- ---- every event of the serial list is the trace's
 
-  AllJoin : (P : Event X → Type 0) {A B C : Type 0} (p : Dec A) (q : Dec B) (r : Dec C) (e : Event X) (l : List (Event X)) → P e → All P l → All P (join p q r e l)
-  AllJoin P (yes p) (yes q) (yes r) e l a h = (a, h)
-  AllJoin P (yes p) (yes q) (no r) e l a h = h
-  AllJoin P (yes p) (no q) (yes r) e l a h = h
-  AllJoin P (yes p) (no q) (no r) e l a h = h
-  AllJoin P (no p) (yes q) (yes r) e l a h = h
-  AllJoin P (no p) (yes q) (no r) e l a h = h
-  AllJoin P (no p) (no q) (yes r) e l a h = h
-  AllJoin P (no p) (no q) (no r) e l a h = h
+  all_join : (P : Event X → Type 0) {A B C : Type 0} (p : Dec A) (q : Dec B) (r : Dec C) (e : Event X) (l : List (Event X)) → P e → All P l → All P (join p q r e l)
+  all_join P (yes p) (yes q) (yes r) e l a h = (a, h)
+  all_join P (yes p) (yes q) (no r) e l a h = h
+  all_join P (yes p) (no q) (yes r) e l a h = h
+  all_join P (yes p) (no q) (no r) e l a h = h
+  all_join P (no p) (yes q) (yes r) e l a h = h
+  all_join P (no p) (yes q) (no r) e l a h = h
+  all_join P (no p) (no q) (yes r) e l a h = h
+  all_join P (no p) (no q) (no r) e l a h = h
 
-  AllBetween : (P : Event X → Type 0) (n t a b : ℕ) (es : List (Event X)) → All P es → All P (between n t a b es)
+  all_between : (P : Event X → Type 0) (n t a b : ℕ) (es : List (Event X)) → All P es → All P (between n t a b es)
   unfolding between
-  AllBetween P n t a b [] h = tt
-  AllBetween P n t a b (e ∷ es) h = AllJoin P (ℕ_discrete (thread e) t) (dec_le a n) (dec_le n b) e (between (suc n) t a b es) h.0 (AllBetween P (suc n) t a b es h.1)
+  all_between P n t a b [] h = tt
+  all_between P n t a b (e ∷ es) h = all_join P (ℕ_discrete (thread e) t) (dec_le a n) (dec_le n b) e (between (suc n) t a b es) h.0 (all_between P (suc n) t a b es h.1)
 
-  AllAppend : (P : Event X → Type 0) (l m : List (Event X)) → All P l → All P m → All P (l ++ m)
-  AllAppend P [] m h k = k
-  AllAppend P (e ∷ l) m h k = (h.0, AllAppend P l m h.1 k)
+  all_append_law : (P : Event X → Type 0) (l m : List (Event X)) → All P l → All P m → All P (l ++ m)
+  all_append_law P [] m h k = k
+  all_append_law P (e ∷ l) m h k = (h.0, all_append_law P l m h.1 k)
 
-  AllSerially : (P : Event X → Type 0) (trace : List (Event X)) (ss : List Entry) → All P trace → All P (serially trace ss)
+  all_serially : (P : Event X → Type 0) (trace : List (Event X)) (ss : List Entry) → All P trace → All P (serially trace ss)
   unfolding serially
-  AllSerially P trace [] h = tt
-  AllSerially P trace (s ∷ ss) h =
-      AllAppend P (between 1 s.owner s.first s.last trace) (serially trace ss) (AllBetween P 1 s.owner s.first s.last trace h) (AllSerially P trace ss h)
+  all_serially P trace [] h = tt
+  all_serially P trace (s ∷ ss) h =
+      all_append_law P (between 1 s.owner s.first s.last trace) (serially trace ss) (all_between P 1 s.owner s.first s.last trace h) (all_serially P trace ss h)
 
   turn_keep : (b : Bool) (e : Event X) (l m : List (Event X)) → reverse_aux (keep b e l) m ≡ reverse_aux l (keep b e m)
   turn_keep true e l m = refl
@@ -223,7 +223,7 @@ module _ {X : Type 0} (z : X) (𝓛 : Locks X) where
     whole = λ v h. reverse_inj (proj (uses v) ran) (proj (uses v) trace)
         (reverse_proj (uses v) ran ∙ ap (proj (uses v)) (serial_flat trace)
         ∙ (kept 𝓛 (uses v) (guard v) (λ t l j. refl) (reverse trace) ex tw (un v h)).same ∙ sym (reverse_proj (uses v) trace));
-    uses_right = given_right z n ran [] (AllSerially (Names n) trace (order 𝓛 trace) names)
+    uses_right = given_right z n ran [] (all_serially (Names n) trace (order 𝓛 trace) names)
         (λ v h. rw (serial_flat trace) (proved v h).0);
     ends_right = λ v h. after_plain z v ran [] ∙ ap (plain z v) (serial_flat trace) ∙ (proved v h).1;
   }

@@ -11,7 +11,7 @@ use Rattle.rules.proofs.Bounds.{allowed_bounds}
 use Rattle.decimal.specs.Text.{Wrote}
 use Rattle.listing.specs.Listing.{write_all}
 use Rattle.listing.proofs.LineLaws.{wrote_one, wrote_nothing, wrote_as, wrote_all, all_place, all_length}
-use Rattle.listing.proofs.ListLaws.{first_lines, head_lines, all_lines_law, fit_first, fit_head, fit_all, all_lines, no_lines}
+use Rattle.listing.proofs.ListLaws.{first_lines, head_lines, every_line, fit_first, fit_head, fit_all, all_lines, no_lines}
 use Rattle.listing.proofs.write_memories.Goals as goal
 use Rattle.listing.proofs.write_memories.Goals.{After-slice_known-2-1, After-slice_known-3-1, After-slice_known-4-1, After-write_accepted-arg-1}
 
@@ -48,7 +48,7 @@ third : (c : After-slice_known-4-1) → let a = c.args in
     let v = c.write_mains-b in
     let w = c.write_copies-c in
     let p = put_mid u.result (length u.new.out - u.result) u.new.out v.new.out in
-    Wrote (write_all (all_lines_law a.n a.h a.m)) a.out.now (u.result + v.result + w.result) (put_mid (u.result + v.result) (length p - (u.result + v.result)) p w.new.out)
+    Wrote (write_all (every_line a.n a.h a.m)) a.out.now (u.result + v.result + w.result) (put_mid (u.result + v.result) (length p - (u.result + v.result)) p w.new.out)
 third c = wrote_all _ _ _ _ _ _ _ (wrote_all _ _ _ _ _ _ _ (wrote_one _ _ _ _ c.write_accepted-a.ensures) c.write_mains-b.ensures) c.write_copies-c.ensures
 
 pub returns-then-not-is_allowed : goal.returns-then-not-is_allowed
@@ -94,4 +94,4 @@ shape_of-out c = let a = c.args in all_length _ _ _ _ (fit_all a.n a.h a.m) (thi
 pub returns : goal.returns
 returns c =
     let a = c.args in
-    wrote_as (all_lines_law a.n a.h a.m) _ a.out.now _ _ (all_lines a.n a.h a.m (declares (goal.at.returns c).After-write_accepted-arg-1)) (third (goal.at.returns c).After-slice_known-4-1)
+    wrote_as (every_line a.n a.h a.m) _ a.out.now _ _ (all_lines a.n a.h a.m (declares (goal.at.returns c).After-write_accepted-arg-1)) (third (goal.at.returns c).After-slice_known-4-1)
