@@ -35,7 +35,7 @@ CHOSEN = {
     "holdsAfter": "holds_then",
     "told-as": "told_reply",
     # an import under another name
-    "lettersIn": "letters_in",
+    "lettersIn": "letters_of",
 }
 
 WORD = re.compile(r"[^\s(){}\[\];,.⟨⟩⦃⦄\"`|@·]+")

@@ -13,7 +13,7 @@ use lib.Seq.{take-suc, take_all}
 use Rattle.rules.specs.declared.Event.{Event}
 use Rattle.rules.specs.declared.Kind.TheVariants.{Lock}
 use Rattle.rules.specs.Events.{A, B, C, F, K, L, N, P, S, W, Y, letter, place, value, is, of, on}
-use Rattle.rules.specs.Words.{latest, value_in as value_of, letter_in as letters_in, count, by, fresh, pending, announced}
+use Rattle.rules.specs.Words.{latest, value_in as value_of, letter_in as letters_of, count, by, fresh, pending, announced}
 use Rattle.rules.specs.Ten.{ten_depth}
 use Rattle.records.specs.Records.{packed, value_in, letter_in}
 use Rattle.records.proofs.RecordLaws.{packed_letter, thread_back, place_back}
@@ -77,8 +77,8 @@ module _ (e : Event) (s : Fits e) where
 -- ---- the facts
 
 -- what the latest event that passes a test says, one event more
-letters_more : (ks : List ℕ) (c : Bool) (e : Event) (o : Option Event) → letters_in ks (cond c (some e) o) ≡ cond c (is ks e) (letters_in ks o)
-unfolding letters_in
+letters_more : (ks : List ℕ) (c : Bool) (e : Event) (o : Option Event) → letters_of ks (cond c (some e) o) ≡ cond c (is ks e) (letters_of ks o)
+unfolding letters_of
 letters_more ks true e o = refl
 letters_more ks false e o = refl
 
@@ -189,7 +189,7 @@ new_more e past = rw (packed_letter e, eqb_turn (letter e.kind) Y, eqb_turn (let
 
 module _ (es : List Event) (s : Small es) where
   pub facts_are : (t v : ℕ) → facts_in t v (map packed es) (map value_in es) ≡ facts_of t v (reverse es)
-  unfolding facts_in pending announced fresh latest count letters_in value_of
+  unfolding facts_in pending announced fresh latest count letters_of value_of
   facts_are t v = scan_all (only_here t v facts_after) (facts_of t v) (facts_more t v) es s
 
   pub depth_is : (t l : ℕ) → depth_in t l (map packed es) ≡ ten_depth t l (reverse es)
