@@ -4,29 +4,27 @@
 ghost use Rattle.std.specs.Prelude.{◌≡◌};
 ghost use Rattle.records.specs.Records.{what_of, packed, letter_in, thread_in, place_in, onto};
 
-use rules::{Event, Value};
+use rules::Event;
 
 // What an event is, from its letter, thread, and variable or lock.
 pub fn what_of(letter: u8, thread: usize, place: usize) -> u32
     ensures { result ≡ what_of letter thread place }
 {
-    letter as u32 * 65536 + rules::cap(thread) * 256 + rules::cap(place)
+    u32::from(letter) * 65536 + rules::cap(thread) * 256 + rules::cap(place)
 }
 
 // The record of an event; its value stands beside it.
 pub fn pack(e: Event) -> u32
     ensures { result ≡ packed e }
 {
-    let k = e.kind;
-    what_of(rules::letter_of(k), e.thread, rules::place_of(k))
+    what_of(rules::letter_of(e.kind), e.thread, rules::place_of(e.kind))
 }
 
 // The letter in a record.
 pub fn letter_in(w: u32) -> u8
     ensures { result ≡ letter_in w }
 {
-    let k = w / 65536;
-    if k < 256 { k as u8 } else { 0 }
+    u8::try_from(w / 65536).unwrap_or(0)
 }
 
 // The thread in a record.
@@ -43,32 +41,12 @@ pub fn place_in(w: u32) -> usize
     (w % 256) as usize
 }
 
-// ---- Rows of records, put to the front of lent rows as far as these have places.
+// ---- Rows of records.
 
-// What the events are.
-pub fn copy_whats(lent: &mut [u32], row: &[u32])
+// Puts a row to the front of a lent one, as far as that has places.
+pub fn copy_row<T: Copy>(lent: &mut [T], row: &[T])
     ensures { lent.new ≡ onto row.now lent.old }
 {
-    let mut i: usize = 0;
-    while i < row.len() {
-        if lent.len() <= i {
-            return;
-        }
-        lent[i] = row[i];
-        i += 1;
-    }
-}
-
-// Their values.
-pub fn copy_values(lent: &mut [Value], row: &[Value])
-    ensures { lent.new ≡ onto row.now lent.old }
-{
-    let mut i: usize = 0;
-    while i < row.len() {
-        if lent.len() <= i {
-            return;
-        }
-        lent[i] = row[i];
-        i += 1;
-    }
+    let n = lent.len().min(row.len());
+    lent[..n].copy_from_slice(&row[..n]);
 }

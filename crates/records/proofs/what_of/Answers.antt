@@ -1,4 +1,5 @@
 -- `records::what_of` meets its contract. Assumes nothing.
+use Rattle.std.proofs.lemmas.Grind.{common_steps}
 use native.Mathlib.Omega.{arith}
 use Rattle.rules.proofs.Letters.{capped_low}
 use Rattle.records.specs.Records.{what_of}
@@ -22,4 +23,4 @@ overflow_add-result-2 c =
 
 pub returns : goal.returns
 unfolding what_of
-returns c = rw (c.cap-2.ensures, c.cap.ensures)
+returns c = grind (arith, common_steps)
