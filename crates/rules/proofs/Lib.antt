@@ -26,3 +26,4 @@ pub mod Fewer
 pub mod Widths
 pub mod Ten
 pub mod Courses
+pub mod Flags

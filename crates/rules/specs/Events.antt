@@ -1,10 +1,9 @@
 -- The events as the rules read them: a letter, a place (variable or lock) and a value.
-use Rattle.std.specs.Prelude.{ℕ, Bool, false, ◌||◌, cond, List, [], ◌∷◌, eqb, ltb, ℤ, pos, negsuc}
+use Rattle.std.specs.Prelude.{ℕ, Bool, false, ◌||◌, cond, List, [], ◌∷◌, eqb, ltb, ℤ, pos, negsuc, Some, None}
+use Rattle.std.specs.Prelude.{Option as Option'}
 use Rattle.std.proofs.Math.Option.{Option, none, some}
 use Rattle.rules.specs.declared.Kind.{Kind}
 use Rattle.rules.specs.declared.Kind.TheVariants.{Use, Assign, Load, Store, Read, Write, Lock, Unlock, PrescientStore, PrescientAssign, Wait, Notify, Resume}
-use Rattle.rules.specs.declared.Named.{Named}
-use Rattle.rules.specs.declared.Named.TheVariants as named
 use Rattle.rules.specs.declared.Event.{Event}
 
 -- the letter bytes of the thirteen kinds
@@ -117,27 +116,27 @@ unfoldable pub is_lock_letter : ℕ → Bool
 is_lock_letter k = eqb k K || eqb k N || eqb k Y || eqb k F || eqb k C
 
 -- the kind with this letter, variable or lock, and value; every other byte names none
-unfoldable pub kind_of : ℕ → ℕ → ℤ → Named
+unfoldable pub kind_of : ℕ → ℕ → ℤ → Option' Kind
 kind_of k p x =
-    cond (eqb k U) (named.Of (Use p x))
-    (cond (eqb k A) (named.Of (Assign p x))
-    (cond (eqb k L) (named.Of (Load p x))
-    (cond (eqb k S) (named.Of (Store p x))
-    (cond (eqb k R) (named.Of (Read p x))
-    (cond (eqb k W) (named.Of (Write p x))
-    (cond (eqb k K) (named.Of (Lock p))
-    (cond (eqb k N) (named.Of (Unlock p))
-    (cond (eqb k P) (named.Of (PrescientStore p x))
-    (cond (eqb k B) (named.Of (PrescientAssign p x))
-    (cond (eqb k Y) (named.Of (Wait p))
-    (cond (eqb k F) (named.Of (Notify p (thread_of x)))
-    (cond (eqb k C) (named.Of (Resume p))
-    named.Nothing))))))))))))
+    cond (eqb k U) (Some (Use p x))
+    (cond (eqb k A) (Some (Assign p x))
+    (cond (eqb k L) (Some (Load p x))
+    (cond (eqb k S) (Some (Store p x))
+    (cond (eqb k R) (Some (Read p x))
+    (cond (eqb k W) (Some (Write p x))
+    (cond (eqb k K) (Some (Lock p))
+    (cond (eqb k N) (Some (Unlock p))
+    (cond (eqb k P) (Some (PrescientStore p x))
+    (cond (eqb k B) (Some (PrescientAssign p x))
+    (cond (eqb k Y) (Some (Wait p))
+    (cond (eqb k F) (Some (Notify p (thread_of x)))
+    (cond (eqb k C) (Some (Resume p))
+    None))))))))))))
 
 -- the event of a line: its number, thread and kind; none where there is no kind
-abbrev pub event_with : ℕ → ℕ → Named → Option Event
-event_with line t named.Nothing = none
-event_with line t (named.Of k) = some (record { thread = t; line = line; kind = k })
+abbrev pub event_with : ℕ → ℕ → Option' Kind → Option Event
+event_with line t None = none
+event_with line t (Some kind) = some (record { thread = t; line = line; kind = kind })
 
 -- e is an event with one of these letters
 unfoldable pub is : List ℕ → Event → Bool

@@ -1,13 +1,12 @@
 -- Document 01, the refusals 5 and 9 to 19, and document 02, 16 at N, 23, 25 in place of 9, and 26 to 30; the table of rows, and the verdict over a list of events.
 -- The rules speak of the words; `words_of` takes the words from a list of earlier events. A caller's state is read by the same rules, with its own
 -- contents for the words.
-use Rattle.std.specs.Prelude.{ℕ, zero, suc, ◌<◌, ◌≡◌, Bool, true, false, not, cond, ◌&&◌, ◌||◌, List, [], ◌∷◌, ◌++◌, reverse, T, eqb, ltb, leb, ℤ, length}
+use Rattle.std.specs.Prelude.{ℕ, zero, suc, ◌<◌, ◌≡◌, Bool, true, false, not, cond, ◌&&◌, ◌||◌, List, [], ◌∷◌, ◌++◌, reverse, T, eqb, ltb, leb, ℤ, length, Result, Ok, Err}
 use Rattle.std.proofs.Math.Option.{Option, none, some as some'}
 use Rattle.rules.specs.declared.Event.{Event}
 use Rattle.rules.specs.declared.Slot.{Slot}
 use Rattle.rules.specs.declared.Counts.{Counts}
-use Rattle.rules.specs.declared.Verdict.{Verdict}
-use Rattle.rules.specs.declared.Verdict.TheVariants.{Accepted as Accepted', Refused}
+use Rattle.rules.specs.declared.Refusal.{Refusal}
 use Rattle.rules.specs.Events.{A, B, C, F, K, L, N, P, R, S, U, W, Y, letter, place, value, is, subject, locks, unlocks, eq_z}
 use Rattle.rules.specs.Limits.{Limits, most, volatile, line_after, declared}
 unfoldable pub use Rattle.rules.specs.Limits.{some}
@@ -320,15 +319,19 @@ pub data Marked : Type 0 where
   accepted : Marked
   refused : ℕ → ℕ → Marked
 
+-- a verdict, as the code has it
+abbrev pub Verdict : Type 0
+Verdict = Result (Unit {0}) Refusal
+
 -- the number and the line of each case of a verdict
 abbrev pub told : Verdict → Marked
-told Accepted' = accepted
-told (Refused number line) = refused number line
+told (Ok u) = accepted
+told (Err r) = refused r.number r.line
 
 -- the verdict that says this
 abbrev pub said : Marked → Verdict
-said accepted = Accepted'
-said (refused number line) = Refused number line
+said accepted = Ok tt
+said (refused number line) = Err (record { number = number; line = line })
 
 -- 0 stands for no refusal
 abbrev pub number_in : Marked → ℕ

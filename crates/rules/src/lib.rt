@@ -52,13 +52,6 @@ pub enum Kind {
     Resume(usize),
 }
 
-// A kind, or none.
-#[derive(Clone, Copy)]
-pub enum Named {
-    Nothing,
-    Of(Kind),
-}
-
 // An event: its thread, the number of its line in the trace, and its kind.
 #[derive(Clone, Copy)]
 pub struct Event {
@@ -114,12 +107,15 @@ pub struct Memories {
     pub copies: [Cached; CELLS],
 }
 
-// Accepted, or refused with this number and line.
+// The refusal of a trace: its number, and the line that it names.
 #[derive(Clone, Copy)]
-pub enum Verdict {
-    Accepted,
-    Refused(u8, usize),
+pub struct Refusal {
+    pub number: u8,
+    pub line: usize,
 }
+
+// Accepted, or refused.
+pub type Verdict = Result<(), Refusal>;
 
 // ---- Kinds and letters.
 
@@ -138,24 +134,24 @@ pub fn thread_of(x: Value) -> usize
 }
 
 // The kind with this letter: the thirteen letters; every other byte names none.
-pub fn kind_of(letter: u8, place: usize, value: Value) -> Named
+pub fn kind_of(letter: u8, place: usize, value: Value) -> Option<Kind>
     ensures { result ≡ kind_of letter place value }
 {
     match letter {
-        b'U' => Named::Of(Kind::Use(place, value)),
-        b'A' => Named::Of(Kind::Assign(place, value)),
-        b'L' => Named::Of(Kind::Load(place, value)),
-        b'S' => Named::Of(Kind::Store(place, value)),
-        b'R' => Named::Of(Kind::Read(place, value)),
-        b'W' => Named::Of(Kind::Write(place, value)),
-        b'K' => Named::Of(Kind::Lock(place)),
-        b'N' => Named::Of(Kind::Unlock(place)),
-        b'P' => Named::Of(Kind::PrescientStore(place, value)),
-        b'B' => Named::Of(Kind::PrescientAssign(place, value)),
-        b'Y' => Named::Of(Kind::Wait(place)),
-        b'F' => Named::Of(Kind::Notify(place, thread_of(value))),
-        b'C' => Named::Of(Kind::Resume(place)),
-        _ => Named::Nothing,
+        b'U' => Some(Kind::Use(place, value)),
+        b'A' => Some(Kind::Assign(place, value)),
+        b'L' => Some(Kind::Load(place, value)),
+        b'S' => Some(Kind::Store(place, value)),
+        b'R' => Some(Kind::Read(place, value)),
+        b'W' => Some(Kind::Write(place, value)),
+        b'K' => Some(Kind::Lock(place)),
+        b'N' => Some(Kind::Unlock(place)),
+        b'P' => Some(Kind::PrescientStore(place, value)),
+        b'B' => Some(Kind::PrescientAssign(place, value)),
+        b'Y' => Some(Kind::Wait(place)),
+        b'F' => Some(Kind::Notify(place, thread_of(value))),
+        b'C' => Some(Kind::Resume(place)),
+        _ => None,
     }
 }
 
@@ -163,22 +159,7 @@ pub fn kind_of(letter: u8, place: usize, value: Value) -> Named
 pub fn is_letter(k: u8) -> bool
     ensures { result ≡ is_letter k }
 {
-    match k {
-        b'U' => true,
-        b'A' => true,
-        b'L' => true,
-        b'S' => true,
-        b'R' => true,
-        b'W' => true,
-        b'K' => true,
-        b'N' => true,
-        b'P' => true,
-        b'B' => true,
-        b'Y' => true,
-        b'F' => true,
-        b'C' => true,
-        _ => false,
-    }
+    kind_of(k, 0, 0).is_some()
 }
 
 // Whether a letter is that of a lock event.
@@ -291,26 +272,14 @@ pub fn is_volatile(h: Counts, v: usize) -> bool
 pub fn any_volatile(h: Counts) -> bool
     ensures { result ≡ any_volatile h }
 {
-    let mut any = false;
-    let mut v: usize = 0;
-    while v < VARIABLES {
-        any = h.volatiles[v] | any;
-        v += 1;
-    }
-    any
+    h.volatiles.iter().any(|v| *v)
 }
 
 // Whether a variable that is not declared is volatile.
 fn stray_volatile(h: Counts) -> bool
     ensures { result ≡ stray_volatile h }
 {
-    let mut any = false;
-    let mut v: usize = 0;
-    while v < VARIABLES {
-        any = ((h.variables <= v) & h.volatiles[v]) | any;
-        v += 1;
-    }
-    any
+    h.volatiles.iter().skip(h.variables).any(|v| *v)
 }
 
 // Whether a trace of a course may declare these counts.
@@ -393,8 +362,8 @@ pub fn number_of(v: Verdict) -> u8
     ensures { result ≡ number_in (told v) }
 {
     match v {
-        Verdict::Accepted => 0,
-        Verdict::Refused(number, _) => number,
+        Ok(()) => 0,
+        Err(refusal) => refusal.number,
     }
 }
 
@@ -403,7 +372,7 @@ pub fn line_of(v: Verdict) -> usize
     ensures { result ≡ line_in (told v) }
 {
     match v {
-        Verdict::Accepted => 0,
-        Verdict::Refused(_, line) => line,
+        Ok(()) => 0,
+        Err(refusal) => refusal.line,
     }
 }

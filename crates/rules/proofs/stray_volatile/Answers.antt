@@ -1,16 +1,15 @@
-use native.Mathlib.Omega.{arith}
-use mathlib.Core.Path.{refl}
+use Rattle.std.proofs.Common.{rules, refl, ◌≡◌, ◌∙◌, tests, length}
+use Rattle.std.proofs.lemmas.Iterator.{YieldsList-from_slice}
+use Rattle.std.proofs.lemmas.Iterator.Adapters.{YieldsList-from_skip}
+use Rattle.std.proofs.lemmas.Iterator.Search.{any_from_yields_List}
 use Rattle.rules.specs.Limits.{volatile, stray_volatile}
-use Rattle.rules.proofs.Laws.{some_start, some_more, some_end}
+use Rattle.rules.proofs.Flags.{any_from}
 use Rattle.rules.proofs.stray_volatile.Goals as goal
 
-pub loop-v-init : goal.loop-v-init
-loop-v-init c = (omega arith, some_start _)
-
-pub loop-v-preserved : goal.loop-v-preserved
-unfolding volatile
-loop-v-preserved c = (omega arith, some_more _ _ c.loop-v.invariant.1 refl)
-
 pub returns : goal.returns
-unfolding stray_volatile
-returns c = some_end 16 _ c.loop-v.invariant.0 c.loop-v-test.false c.loop-v.invariant.1
+unfolding volatile stray_volatile
+returns c =
+    let h = c.args.h in
+    let e = any_from_yields_List (λ b. b) _ _ c.any.result c.any.ensures.ran (YieldsList-from_skip h.variables (YieldsList-from_slice h.volatiles cc) (search rules)) (λ x b q k. search (rules, tests)) in
+    let n : length h.volatiles ≡ 16 = search rules in
+    e ∙ any_from h.variables h.volatiles ∙ rw n refl
