@@ -323,9 +323,9 @@ pub data Marked : Type 0 where
 abbrev pub Verdict : Type 0
 Verdict = Result (Unit {0}) Refusal
 
--- the number and the line of each case of a verdict
-abbrev pub told : Verdict → Marked
-told (Ok u) = accepted
+-- the number and the line of a refusal; accepted where there is none
+abbrev pub told : {A : Type 0} → Result A Refusal → Marked
+told (Ok a) = accepted
 told (Err r) = refused r.number r.line
 
 -- the verdict that says this
