@@ -3,29 +3,16 @@ use mathlib.Core.Path.{◌≡◌, refl, sym, ap, ◌∙◌}
 use mathlib.Core.Bool.{Bool, true, false, cond}
 use mathlib.Core.List.{List, [], ◌∷◌}
 use Prim.Native.Nat.{ℕ, zero, suc, ◌<◌, ◌≤◌, ◌+◌, ◌-◌}
-use native.Mathlib.Numerals.{add-one}
 use native.Mathlib.Omega.{arith}
 use native.Mathlib.Nat.{suc-ne-zero, not-suc-le-zero, le_of_suc-le-suc}
 use native.Mathlib.Decide.{ℕ_discrete}
 use borrow.Author.Tests.{eq-eqb, ne_eqb, eqb-true, eqb-false}
 use lib.Dec.{eqb}
-use lib.ListN.{length, get_or, take, drop, drop_of_length-le, length-drop, get_or-eq_default}
-use lib.Seq.{drop-cons, take_all, drop-drop, get_or-drop}
+use lib.ListN.{length, get_or, take, drop, length-drop}
+use lib.Seq.{take_all, drop-drop, get_or-drop}
 use mathlib.Core.Logic.{◌⊎◌, inl, inr, ⊎_elim}
 use Rattle.lines.proofs.PartLaws.{lt_or_le}
 use Rattle.lines.specs.Lines.{before, up_to, split_on, on_first, ended, lines_of, letter}
-
-pub before_here : (b i : ℕ) (s : List ℕ) → i < length s → get_or s i 0 ≡ b → before b (drop i s) ≡ 0
-unfolding before
-before_here b i s h e = rw (drop-cons s i 0 h, eq-eqb _ _ e)
-
-pub before_on : (b i : ℕ) (s : List ℕ) → i < length s → (get_or s i 0 ≡ b → ⊥) → before b (drop i s) ≡ 1 + before b (drop (i + 1) s)
-unfolding before
-before_on b i s h e = rw (drop-cons s i 0 h, ne_eqb _ _ e, add-one i) (omega arith)
-
-pub before_end : (b i : ℕ) (s : List ℕ) → length s ≤ i → before b (drop i s) ≡ 0
-unfolding before
-before_end b i s h = rw (drop_of_length-le s h)
 
 pub before_le : (b : ℕ) (s : List ℕ) → before b s ≤ length s
 unfolding before
@@ -93,16 +80,6 @@ up_le b (x ∷ xs) = by (eqb (up_to b xs) 0) (eqb x b) (up_le b xs)
     by true false h = omega arith
     by false u h = omega arith
 
--- nothing past the end
-pub up_none : (b : ℕ) (s : List ℕ) → up_to b (drop (length s) s) ≡ 0
-unfolding up_to
-up_none b s = rw (drop_of_length-le s {i = length s} (omega arith))
-
--- one byte further to the front, which is not b
-pub up_back : (b j : ℕ) (s : List ℕ) → j < length s → (get_or s j 0 ≡ b → ⊥) → up_to b (drop (suc j) s) ≡ 0 → up_to b (drop j s) ≡ 0
-unfolding up_to
-up_back b j s h e z = rw (drop-cons s j 0 h, eq-eqb _ _ z, ne_eqb _ _ e)
-
 -- the last b is at j
 pub up_here : (b j : ℕ) (s : List ℕ) → j < length s → get_or s j 0 ≡ b → up_to b (drop (suc j) s) ≡ 0 → suc j ≡ up_to b s
 unfolding up_to
@@ -111,39 +88,6 @@ up_here b zero (x ∷ xs) h e z = rw (eq-eqb _ _ z, eq-eqb _ _ e)
 up_here b (suc j) (x ∷ xs) h e z =
     let r : suc j ≡ up_to b xs = up_here b j xs (omega arith) e z in
     rw (ne_eqb (up_to b xs) 0 (λ k. omega arith)) (ap suc r)
-
--- there are no more fields than bytes and one
-pub split_length : (b : ℕ) (s : List ℕ) → length (split_on b s) ≤ length s + 1
-unfolding split_on
-split_length b [] = omega arith
-split_length b (x ∷ xs) = by (eqb x b) (split_on b xs) (split_length b xs)
-  where
-    by : (t : Bool) (l : List (List ℕ)) → length l ≤ length xs + 1 → length (cond t ([] ∷ l) (on_first x l)) ≤ suc (length xs) + 1
-    by true l h = omega arith
-    by false [] h = omega arith
-    by false (f ∷ fs) h = omega arith
-
--- the fields behind the first
-pub later : (f : List ℕ) (fs : List (List ℕ)) (j : ℕ) → 0 < j → get_or (f ∷ fs) j [] ≡ get_or fs (j - 1) []
-later f fs zero h = absurd (omega arith)
-later f fs (suc j) h = let e : j ≡ suc j - 1 = omega arith in ap (λ (k : ℕ). get_or fs k []) e
-
--- one more byte: it ends a field, or it does not
-more_fields : (b x : ℕ) (xs : List ℕ) → length (split_on b (x ∷ xs)) ≡ cond (eqb x b) 1 0 + length (split_on b xs)
-unfolding split_on
-more_fields b x xs = by (eqb x b) (split_on b xs) (split_some b xs)
-  where
-    by : (t : Bool) (l : List (List ℕ)) → (f : List ℕ) × (fs : List (List ℕ)) × (l ≡ f ∷ fs) → length (cond t ([] ∷ l) (on_first x l)) ≡ cond t 1 0 + length l
-    by true l w = omega arith
-    by false [] w = absurd (omega (arith, ap length w.2))
-    by false (f ∷ fs) w = omega arith
-
-pub count_on : (b i : ℕ) (s : List ℕ) → i < length s → length (split_on b (drop i s)) ≡ cond (eqb (get_or s i 0) b) 1 0 + length (split_on b (drop (i + 1) s))
-count_on b i s h = rw (drop-cons s i 0 h, add-one i) (more_fields b (get_or s i 0) (drop (suc i) s))
-
-pub count_end : (b i : ℕ) (s : List ℕ) → length s ≤ i → length (split_on b (drop i s)) ≡ 1
-unfolding split_on
-count_end b i s h = rw (drop_of_length-le s h)
 
 -- the fields from `at` on, where the first of them ends at e: it, and those behind it
 module _ (b : ℕ) (s : List ℕ) (at e : ℕ) (q : e ≡ at + before b (drop at s)) where
@@ -159,17 +103,6 @@ module _ (b : ℕ) (s : List ℕ) (at e : ℕ) (q : e ≡ at + before b (drop at
           → get_or (split_on b (drop at s)) 0 [] ≡ take (before b (drop at s)) (drop at s)
       by (inl h) = rw (split_more b (drop at s) h)
       by (inr h) = rw (split_last b (drop at s) h) (sym (take_all (before b (drop at s)) (drop at s) h))
-
-  pub no_field : (k : ℕ) → length s ≤ e → 0 < k → get_or (split_on b (drop at s)) k [] ≡ []
-  no_field k l h =
-      let d : length (drop at s) ≤ before b (drop at s) = omega (arith, q, length-drop at s) in
-      rw (split_last b (drop at s) d) (get_or-eq_default (drop at s ∷ []) [] {n = k} (omega arith))
-
-  pub next_field : (k : ℕ) → e < length s → 0 < k → get_or (split_on b (drop at s)) k [] ≡ get_or (split_on b (drop (e + 1) s)) (k - 1) []
-  next_field k l h =
-      let d : before b (drop at s) < length (drop at s) = omega (arith, q, length-drop at s) in
-      let n : at + (before b (drop at s) + 1) ≡ e + 1 = omega (arith, q) in
-      rw (split_more b (drop at s) d, later _ (split_on b (drop (before b (drop at s) + 1) (drop at s))) k h, drop-drop) (ap (λ (i : ℕ). get_or (split_on b (drop i s)) (k - 1) []) n)
 
 -- A text that is empty or ends in b. What is left of it from any place on is so too.
 ended_tail : (b x : ℕ) (xs : List ℕ) → up_to b (x ∷ xs) ≡ suc (length xs) → up_to b xs ≡ length xs

@@ -1,50 +1,15 @@
--- `lines::field` meets its contract: the field looked for is the k-th from `a` on, and the first from there ends at `e`.
-use mathlib.Core.Path.{refl, sym, ◌∙◌}
-use native.Mathlib.Omega.{arith}
-use Rattle.lines.proofs.FieldLaws.{inside, first_field, no_field, next_field}
+-- `lines::field` meets its contract.
+use Rattle.std.proofs.Common.{rules, tests, ◌∙◌, refl, ap, nat_eq, ℕ, List}
+use denote.Bor.{Bor}
+use Rattle.std.proofs.lemmas.Iterator.Consumers.{nth_from_yields_List}
+use Rattle.std.proofs.lemmas.Iterator.Splits.{YieldsList-from_slice_split}
+use Rattle.lines.proofs.StdLaws.{piece}
 use Rattle.lines.proofs.field.Goals as goal
-
-pub loop-k-init : goal.loop-k-init
-loop-k-init c = (omega arith, c.space_from-e.ensures, refl)
-
-pub returns-then-s-e : goal.returns-then-s-e
-returns-then-s-e c =
-    let l = c.loop-k in
-    let s = c.args.s.now in
-    sym (l.invariant.2 ∙ no_field 32 s l.a l.e l.invariant.1 l.k (omega arith) (omega arith))
-
-pub overflow_add-a : goal.overflow_add-a
-overflow_add-a c = omega arith
-
-pub space_from-e-requires-in-loop-k : goal.space_from-e-requires-in-loop-k
-space_from-e-requires-in-loop-k c = omega arith
-
-pub overflow_sub-k : goal.overflow_sub-k
-overflow_sub-k c = omega arith
-
-pub loop-k-smaller : goal.loop-k-smaller
-loop-k-smaller c = omega arith
-
-pub loop-k-preserved : goal.loop-k-preserved
-loop-k-preserved c =
-    let l = c.loop-k in
-    let s = c.args.s.now in
-    (omega arith, c.space_from-e-in-loop-k.ensures, l.invariant.2 ∙ next_field 32 s l.a l.e l.invariant.1 l.k (omega arith) (omega arith))
-
-pub slice_bounds-result-count : goal.slice_bounds-result-count
-slice_bounds-result-count c = omega arith
-
-pub slice_bounds-result-start : goal.slice_bounds-result-start
-slice_bounds-result-start c = omega arith
-
-pub slice_bounds-result-end-2 : goal.slice_bounds-result-end-2
-slice_bounds-result-end-2 c =
-    let l = c.loop-k in
-    let s = c.args.s.now in
-    inside 32 s l.a l.e l.invariant.1 (omega arith)
 
 pub returns : goal.returns
 returns c =
-    let l = c.loop-k in
     let s = c.args.s.now in
-    sym (l.invariant.2 ∙ first_field 32 s l.a l.e l.invariant.1 l.k (omega arith))
+    ap (λ (f : Bor (List ℕ)). f.now) c.unwrap_or.ensures
+    ∙ piece 32 c.args.j s (λ f. f.now) _ c.nth.result refl
+    (nth_from_yields_List c.nth.result _ c.args.j c.nth.ensures.ran
+    (YieldsList-from_slice_split _ (λ x. nat_eq x 32) s c.split.ensures.rest c.split.ensures.done c.split.ensures.closure (λ x b q k. search (rules, tests))))

@@ -1,34 +1,17 @@
--- `lines::space_from` meets its contract: what was passed, and what stands before the first space of the rest.
-use native.Mathlib.Omega.{arith}
-use Rattle.lines.proofs.FieldLaws.{before_here, before_on, before_end}
+-- `lines::space_from` meets its contract.
+use Rattle.std.proofs.Common.{arith, drop}
+use lib.ListN.{length-drop}
+use Rattle.lines.proofs.FieldLaws.{before_le}
+use Rattle.lines.proofs.StdLaws.{before_rest}
 use Rattle.lines.proofs.space_from.Goals as goal
 
-pub loop-i-init : goal.loop-i-init
-loop-i-init c = omega arith
-
-pub bounds-s-i : goal.bounds-s-i
-bounds-s-i c = omega arith
-
-pub returns-then-s-i-eq32 : goal.returns-then-s-i-eq32
-returns-then-s-i-eq32 c =
-    let l = c.loop-i in
+pub overflow_add-result : goal.overflow_add-result
+overflow_add-result c =
     let s = c.args.s.now in
-    omega (arith, before_here 32 l.i s (omega arith) c.if-s-i-eq32.true)
-
-pub overflow_add-i : goal.overflow_add-i
-overflow_add-i c = omega arith
-
-pub loop-i-smaller : goal.loop-i-smaller
-loop-i-smaller c = omega arith
-
-pub loop-i-preserved : goal.loop-i-preserved
-loop-i-preserved c =
-    let l = c.loop-i in
-    let s = c.args.s.now in
-    omega (arith, before_on 32 l.i s (omega arith) c.if-s-i-eq32.false)
+    let b = before_rest 32 c.args.at c.min.result s c.min.ensures in
+    record { fits = omega (arith, b, c.find.ensures, before_le 32 (drop c.args.at s), length-drop c.args.at s, c.well_formed) }
 
 pub returns : goal.returns
 returns c =
-    let l = c.loop-i in
     let s = c.args.s.now in
-    omega (arith, before_end 32 l.i s (omega arith))
+    omega (arith, before_rest 32 c.args.at c.min.result s c.min.ensures, c.find.ensures)

@@ -1,9 +1,0 @@
--- `lines::ends` meets its contract.
-use borrow.Author.Tests.{eq-eqb, ne_eqb}
-use Rattle.lines.proofs.ends.Goals as goal
-
-pub returns-then-b-eq32 : goal.returns-then-b-eq32
-returns-then-b-eq32 c = rw (eq-eqb _ _ c.if-b-eq32.true)
-
-pub returns-else-b-eq32 : goal.returns-else-b-eq32
-returns-else-b-eq32 c = rw (ne_eqb _ _ c.if-b-eq32.false)
