@@ -1,8 +1,5 @@
 pub mod DigitLaws
-pub mod SignedLaws
 pub mod TextLaws
 pub mod RowLaws
-pub mod ScanLaws
 pub mod NumberLaws
-pub mod PutLaws
 pub mod WidthLaws

@@ -8,12 +8,13 @@ use native.Mathlib.Omega.{arith}
 use mathlib.Core.Bool.{Bool, true, false}
 use mathlib.Core.Logic.{⊎_elim}
 use lib.IntN.{ℤ, pos, negsuc, nat_abs}
+use lib.Signed.{lt_z}
 use borrow.Author.Tests.{lt-ltb, le-ltb, le-leb, lt-leb}
 use lib.ListN.{length, get_or, take, drop, set, length-append, length-drop, drop_of_length-le}
 use lib.Seq.{take-suc, length-take-le, drop-cons, set_at, drop-drop, take_at, drop_at}
 use borrow.Rule.Slice.PartMut.{put_mid}
 use Rattle.lines.proofs.PartLaws.{rest, lt_or_le}
-use Rattle.decimal.specs.Text.{digits_in, natural_text, integer_text, is_negative, room, Wrote, and_then, over}
+use Rattle.decimal.specs.Text.{digits_in, natural_text, signed_text, integer_text, is_negative, room, Wrote, and_then, over}
 
 pub digits_small : (k n : ℕ) → n < 10 → digits_in (suc k) n ≡ (48 + n) ∷ []
 unfolding digits_in
@@ -66,22 +67,10 @@ over_then l t o xs ys a e f g =
 pub rest_length : (a : ℕ) (xs : List ℕ) → length (take (length xs - a) (drop a xs)) ≡ length xs - a
 rest_length a xs = ap length (rest a xs) ∙ length-drop a xs
 
--- the two cases of a value's text
-pub text_negative : (x : ℤ) → is_negative x ≡ true → integer_text x ≡ 45 ∷ natural_text (nat_abs x)
-unfolding integer_text
-text_negative x e = rw e
-
-pub text_positive : (x : ℤ) → is_negative x ≡ false → integer_text x ≡ natural_text (nat_abs x)
-unfolding integer_text
-text_positive x e = rw e
-
--- the same, where the machine's reading y of x was asked its size and its sign
-module _ (x y : ℤ) (n : ℕ) (t : Bool) (same : y ≡ x) (size : n ≡ nat_abs y) (sign : t ≡ is_negative y) where
-  pub is_negative_text : t ≡ true → 45 ∷ natural_text n ≡ integer_text x
-  is_negative_text g = rw (size, same, text_negative x (ap is_negative (sym same) ∙ sym sign ∙ g))
-
-  pub is_positive_text : t ≡ false → natural_text n ≡ integer_text x
-  is_positive_text g = rw (size, same, text_positive x (ap is_negative (sym same) ∙ sym sign ∙ g))
+-- the test of a sign
+pub sign : (x : ℤ) → lt_z x (pos 0) ≡ is_negative x
+sign (pos n) = le-ltb n 0 (omega arith)
+sign (negsuc n) = refl
 
 -- one more byte of a text that is copied
 pub over_take : {A : Type 0} (t o : List A) (i : ℕ) (d : A) → i < length t → i < length o → set (over (take i t) o) i (get_or t i d) ≡ over (take (i + 1) t) o
@@ -104,9 +93,13 @@ pub text_short : (n : ℕ) → length (natural_text n) ≤ 20
 unfolding natural_text
 text_short n = digits_short 20 n
 
+pub signed_short : (b : Bool) (n : ℕ) → length (signed_text b n) ≤ 21
+signed_short true n = omega (arith, text_short n)
+signed_short false n = omega (arith, text_short n)
+
 pub value_short : (x : ℤ) → length (integer_text x) ≤ 21
-value_short (pos n) = rw (text_positive (pos n) refl) (omega (arith, text_short n))
-value_short (negsuc n) = rw (text_negative (negsuc n) refl) (omega (arith, text_short (suc n)))
+unfolding integer_text
+value_short x = signed_short (is_negative x) (nat_abs x)
 
 -- a text that is written only where there is room
 pub room_yes : (n : ℕ) (t o : List ℕ) → n ≤ length o → t ≡ room n t o

@@ -15,9 +15,13 @@ abbrev pub is_negative : ℤ → Bool
 is_negative (pos n) = false
 is_negative (negsuc n) = true
 
+-- n in base ten, after a minus where it is that of a negative value
+abbrev pub signed_text : Bool → ℕ → List ℕ
+signed_text b n = cond b (45 ∷ natural_text n) (natural_text n)
+
 -- the size of x in base ten, after a minus where x is negative
 unfoldable pub integer_text : ℤ → List ℕ
-integer_text x = cond (is_negative x) (45 ∷ natural_text (nat_abs x)) (natural_text (nat_abs x))
+integer_text x = signed_text (is_negative x) (nat_abs x)
 
 -- a space and a number for each of the list
 unfoldable pub row_text : List ℕ → List ℕ

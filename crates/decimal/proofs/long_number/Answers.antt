@@ -1,37 +1,32 @@
--- `decimal::long_number` meets its contract: the digits, then the leading zero.
-use mathlib.Core.Path.{ap, ◌∙◌}
-use native.Mathlib.Omega.{arith}
-use Rattle.decimal.specs.declared.Reached.{Reached}
-use Rattle.decimal.proofs.NumberLaws.{until_out, until_empty, until_zero, until_plain, until_one}
+use Rattle.std.proofs.Common.{◌<◌, ◌≤◌, Some, None, ◌≡◌, ◌∙◌, ap, sym, drop, length, take}
+use Rattle.lines.specs.Lines.{before}
+use Rattle.lines.proofs.PartLaws.{rest}
+use Rattle.decimal.specs.Decimal.{natural_of}
+use Rattle.decimal.proofs.NumberLaws.{until_end, until_none, until_some}
 use Rattle.decimal.proofs.long_number.Goals as goal
 
-pub returns-then-s-at : goal.returns-then-s-at
-returns-then-s-at c =
+pub returns-then-t-k : goal.returns-then-t-k
+returns-then-t-k c =
     let a = c.args in
-    c.nothing.ensures ∙ until_out a.d a.at a.s.now c.if-s-at.true
+    let t = drop a.at a.s.now in
+    let e = rest a.at a.s.now in
+    let h : length t ≤ before a.d t = rw (← e, ← c.find-k.ensures) c.if-t-k.true in
+    until_end a.d a.at t h
 
-pub returns-then-e-at : goal.returns-then-e-at
-returns-then-e-at c =
+pub returns-in_err-number : goal.returns-in_err-number
+returns-in_err-number c =
     let a = c.args in
-    let q = ap (λ (z : Reached). z.next) c.scan_digits-r.ensures in
-    c.nothing-then-e-at.ensures ∙ until_empty a.d a.at a.s.now (omega (arith, q))
+    let t = drop a.at a.s.now in
+    let e = rest a.at a.s.now in
+    let n : natural_of (take (before a.d t) t) ≡ None = rw (← e, ← c.find-k.ensures) (sym c.read_natural.ensures ∙ c.in_err-number.was) in
+    c.from_residual.ensures ∙ until_none a.d a.at t n
 
-pub returns-then-at-e : goal.returns-then-at-e
-returns-then-at-e c =
+pub returns : goal.returns
+returns c =
     let a = c.args in
-    let q = ap (λ (z : Reached). z.next) c.scan_digits-r.ensures in
-    c.nothing-then-at-e.ensures ∙ until_zero a.d a.at a.s.now c.if-s-at-eq48.true (omega (arith, q))
-
-pub returns-else-at-e : goal.returns-else-at-e
-returns-else-at-e c =
-    let a = c.args in
-    let r = c.scan_digits-r in
-    let q = ap (λ (z : Reached). z.next) r.ensures in
-    r.ensures ∙ until_one a.d a.at a.s.now (omega (arith, q)) (omega (arith, q))
-
-pub returns-else-s-at-eq48 : goal.returns-else-s-at-eq48
-returns-else-s-at-eq48 c =
-    let a = c.args in
-    let r = c.scan_digits-r in
-    let q = ap (λ (z : Reached). z.next) r.ensures in
-    r.ensures ∙ until_plain a.d a.at a.s.now c.if-s-at-eq48.false (omega (arith, q))
+    let t = drop a.at a.s.now in
+    let e = rest a.at a.s.now in
+    let k : c.find-k.result ≡ before a.d t = c.find-k.ensures ∙ ap (before a.d) e in
+    let n : natural_of (take (before a.d t) t) ≡ Some c.in_ok-number.number = rw (← e, ← c.find-k.ensures) (sym c.read_natural.ensures ∙ c.in_ok-number.was) in
+    let h : before a.d t < length t = rw (← e, ← c.find-k.ensures) c.if-t-k.false in
+    rw (k) (until_some a.d a.at c.in_ok-number.number t h n)

@@ -1,25 +1,14 @@
--- `decimal::number_until` meets its contract: one digit at once, else the long way.
-use mathlib.Core.Path.{sym, ap, ◌∙◌}
-use Prim.Native.Nat.{ℕ, ◌-◌, ◌+◌}
-use native.Mathlib.Omega.{arith}
-use lib.ListN.{get_or}
-use Rattle.decimal.specs.declared.Natural.TheVariants as natural
-use Rattle.decimal.proofs.NumberLaws.{until_out, until_digit, digit_low}
+use Rattle.std.proofs.Common.{arith, ◌≡◌, ◌∙◌, ap, sym, ℕ, ◌+◌, get_or, Some, true}
+use Rattle.decimal.specs.Decimal.{is_digit}
+use Rattle.decimal.proofs.DigitLaws.{digit_same}
+use Rattle.decimal.proofs.NumberLaws.{until_out, until_digit}
 use Rattle.decimal.proofs.number_until.Goals as goal
 
 pub returns-then-s-at : goal.returns-then-s-at
-returns-then-s-at c =
-    let a = c.args in
-    c.nothing.ensures ∙ until_out a.d a.at a.s.now c.if-s-at.true
+returns-then-s-at c = until_out c.args.d c.args.at c.args.s.now c.if-s-at.true
 
-pub overflow_sub-result : goal.overflow_sub-result
-overflow_sub-result c =
+pub returns-then-b-d : goal.returns-then-b-d
+returns-then-b-d c =
     let a = c.args in
-    let q = sym c.is_digit.ensures ∙ c.if-is_digit.true in
-    omega (arith, digit_low (get_or a.s.now a.at 0) a.d q, c.wide.ensures)
-
-pub returns-then-is_digit : goal.returns-then-is_digit
-returns-then-is_digit c =
-    let a = c.args in
-    let q = sym c.is_digit.ensures ∙ c.if-is_digit.true in
-    ap (λ (z : ℕ). record { number = natural.Of (z - 48); next = a.at + 1 + 1 }) c.wide.ensures ∙ until_digit a.d a.at a.s.now c.if-e-s.true c.if-s-e.true q
+    let is : is_digit (get_or a.s.now a.at 0) ≡ true = sym (digit_same (get_or a.s.now a.at 0)) ∙ sym c.is_ascii_digit.ensures.value ∙ c.if-is_ascii_digit.true in
+    ap (λ (n : ℕ). Some (record { number = n; next = a.at + 1 + 1 })) c.from.ensures ∙ until_digit a.d a.at a.s.now (omega arith) c.if-s-e.true is c.if-b-d.true

@@ -1,31 +1,20 @@
--- `decimal::read_natural` meets its contract: at each return the tests that led there say which case of `natural_of` holds.
-use mathlib.Core.Path.{◌≡◌, ◌∙◌}
-use Prim.Native.Nat.{◌<◌}
-use lib.ListN.{length, get_or}
-use borrow.Author.Tests.{eq-eqb, ne_eqb, lt-ltb, le-ltb}
-use native.Mathlib.Omega.{arith}
-use Rattle.decimal.specs.Decimal.{natural_of}
+use Rattle.std.proofs.Common.{◌≡◌, inl, inr, sym, ◌∙◌, length}
+use borrow.Author.Tests.{eqb-true, eqb-false}
+use Rattle.decimal.proofs.NumberLaws.{natural_empty, natural_zero, natural_plain}
 use Rattle.decimal.proofs.read_natural.Goals as goal
-use Rattle.decimal.proofs.read_natural.Goals.{then-f-eq48+else-f-gt1, else-f-eq48}
+use Rattle.decimal.proofs.read_natural.Goals.{else-f-eq48-via-then-f-eq48+else-f-gt1, else-f-eq48-via-else-f-eq48}
 
-pub returns-then-f-eq0 : goal.returns-then-f-eq0
-unfolding natural_of
-returns-then-f-eq0 c = simp (eq-eqb _ _ c.if-f-eq0.true)
+pub returns-then-is_empty : goal.returns-then-is_empty
+returns-then-is_empty c = natural_empty c.args.f.now (eqb-true _ _ (sym c.is_empty.ensures ∙ c.if-is_empty.true))
 
 pub returns-then-f-gt1 : goal.returns-then-f-gt1
-unfolding natural_of
-returns-then-f-gt1 c =
-    let f = c.args.f.now in
-    let z : get_or f 0 0 ≡ 48 = omega arith in
-    let h : 1 < length f = omega arith in
-    simp (ne_eqb (length f) 0 (λ e. omega arith), eq-eqb _ _ z, lt-ltb _ _ h)
+returns-then-f-gt1 c = natural_zero c.args.f.now c.if-f-eq48.true c.if-f-gt1.true
 
 pub returns : goal.returns
-unfolding natural_of
 returns c =
     let f = c.args.f.now in
-    let full = ne_eqb (length f) 0 (λ e. omega arith) in
-    c.digits.ensures ∙ elim c.if-f-eq48.branch [
-      | then-f-eq48+else-f-gt1 w ↦ simp (full, eq-eqb _ _ w.if-f-eq48.true, le-ltb _ _ w.if-f-gt1.false)
-      | else-f-eq48 w ↦ simp (full, ne_eqb _ _ w.if-f-eq48.false)
+    let h : length f ≡ 0 → ⊥ = eqb-false _ _ (sym c.is_empty.ensures ∙ c.if-is_empty.false) in
+    c.digits.ensures ∙ elim c.else-f-eq48.branch [
+      | else-f-eq48-via-then-f-eq48+else-f-gt1 w ↦ natural_plain f h (inl (w.if-f-eq48.true, w.if-f-gt1.false))
+      | else-f-eq48-via-else-f-eq48 w ↦ natural_plain f h (inr w.if-f-eq48.false)
     ]
