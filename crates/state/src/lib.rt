@@ -2,11 +2,11 @@
 // after an event in specs/Step.antt.
 #![tactic(auto)]
 
-ghost use Rattle.std.specs.Prelude.{◌≡◌, true, ◌<◌, length};
+ghost use Rattle.std.specs.Prelude.{◌≡◌, ◌<◌, ◌&&◌};
 ghost use Rattle.rules.specs.Limits.{limits_of};
 ghost use Rattle.state.specs.State.{start};
-ghost use Rattle.state.specs.Range.{hold_ok, holds_ok, wait_ok, threads_ok, cell_ok, cells_ok, slot_ok, queues_ok, in_range};
-ghost use Rattle.state.specs.Computed.Places.{cell_place, slot_place, ring_of, Shape};
+ghost use Rattle.state.specs.Range.{hold_ok, holds_ok, wait_ok, threads_ok, cell_ok, cells_ok, queue_ok, queues_ok, in_range};
+ghost use Rattle.state.specs.Computed.Places.{cell_place, slot_place, Shape};
 
 use rules::{CELLS, Counts, Course, LOCKS, Main, Slot, THREADS, VARIABLES, Value};
 
@@ -130,22 +130,15 @@ pub fn initial(h: Counts) -> State
 
 // ---- Places in the state's arrays.
 
-fn wide(x: u8) -> usize
-    ensures { result ≡ x }
-{
-    x as usize
-}
-
 // The number of the cell of thread t and variable v; 0 where there is none.
 pub fn cell_place(t: usize, v: usize) -> usize
     ensures { (result ≡ cell_place t v) × (result < 128) }
 {
-    if t < THREADS {
-        if v < VARIABLES {
-            return VARIABLES * t + v;
-        }
+    if t < THREADS && v < VARIABLES {
+        VARIABLES * t + v
+    } else {
+        0
     }
-    0
 }
 
 // The place of the j-th of a queue of cell i, from 0; 0 where there is no such cell.
@@ -153,10 +146,10 @@ pub fn slot_place(i: usize, q: Ring, j: u8) -> usize
     ensures { (result ≡ slot_place i q j) × (result < 1024) }
 {
     if i < CELLS {
-        let f = wide(q.first);
-        return 8 * i + (f + wide(j)) % 8;
+        8 * i + (usize::from(q.first) + usize::from(j)) % 8
+    } else {
+        0
     }
-    0
 }
 
 // ---- Refusal 8.
@@ -170,19 +163,10 @@ fn hold_ok(threads: usize, n: u32, a: Hold) -> bool
         & ((a.holder == 0) | (a.depth != 0))
 }
 
-fn holds_ok(s: State) -> bool
-    ensures { result ≡ holds_ok s }
+fn holds_ok(s: &State) -> bool
+    ensures { result ≡ holds_ok s.now }
 {
-    let n = s.events;
-    let h = s.counts;
-    let mut ok = true;
-    let mut l: usize = 0;
-    while l < LOCKS {
-        let a = s.holds[l];
-        ok = hold_ok(h.threads, n, a) & ok;
-        l += 1;
-    }
-    ok
+    s.holds.iter().all(|a| hold_ok(s.counts.threads, s.events, *a))
 }
 
 fn wait_ok(locks: usize, n: u32, w: Waiting) -> bool
@@ -191,19 +175,13 @@ fn wait_ok(locks: usize, n: u32, w: Waiting) -> bool
     (w.lock == 0) | ((w.lock <= locks) & (0 < w.depth) & (w.depth <= n))
 }
 
-fn threads_ok(s: State) -> bool
-    ensures { result ≡ threads_ok s }
+fn threads_ok(s: &State) -> bool
+    ensures { result ≡ threads_ok s.now }
 {
-    let n = s.events;
-    let h = s.counts;
-    let mut ok = true;
-    let mut t: usize = 0;
-    while t < THREADS {
-        let w = s.waits[t];
-        ok = wait_ok(h.locks, n, w) & (s.locked[t] <= n as usize) & ok;
-        t += 1;
-    }
-    ok
+    s.waits
+        .iter()
+        .zip(&s.locked)
+        .all(|(w, at)| wait_ok(s.counts.locks, s.events, *w) & (*at <= s.events as usize))
 }
 
 fn cell_ok(n: u32, c: Cell) -> bool
@@ -213,91 +191,37 @@ fn cell_ok(n: u32, c: Cell) -> bool
     (c.source <= m) & (c.written <= m) & (c.loaded <= m) & (c.used <= m) & (c.assigned <= m)
 }
 
-fn cells_ok(s: State) -> bool
-    ensures { result ≡ cells_ok s }
+fn cells_ok(s: &State) -> bool
+    ensures { result ≡ cells_ok s.now }
 {
-    let n = s.events;
-    let mut ok = true;
-    let mut i: usize = 0;
-    while i < CELLS {
-        let c = s.cells[i];
-        ok = cell_ok(n, c) & ok;
-        i += 1;
-    }
-    ok
+    s.cells.iter().all(|c| cell_ok(s.events, *c))
 }
 
-// The queue of a cell: of its stores, or of its reads.
-fn ring_of(c: Cell, stores: bool) -> Ring
-    ensures { result ≡ ring_of stores c }
+// A queue of cell i: of at most eight, with positions up to n.
+fn queue_ok(n: u32, slots: &[Slot; SLOTS], i: usize, q: Ring) -> bool
+    requires { i < 128 }
+    ensures { result ≡ queue_ok n slots.now i q }
 {
-    if stores { c.stores } else { c.reads }
+    q.len <= 8 && (0..q.len).all(|j| slots[slot_place(i, q, j)].position <= n as usize)
 }
 
-// The j-th of a queue of `len`: where there is one, its position is at most n.
-fn slot_ok(n: u32, len: u8, j: u8, s: Slot) -> bool
-    ensures { result ≡ slot_ok n len j s }
+// The queues of all cells, of their reads and of their stores.
+fn queues_ok(s: &State) -> bool
+    ensures { result ≡ (queues_ok s.now.events s.now.cells s.now.reads (λ c. c.reads) && queues_ok s.now.events s.now.cells s.now.stores (λ c. c.stores)) }
 {
-    (len <= j) | (s.position <= n as usize)
-}
-
-// The queues of all cells, of their stores or of their reads: at most eight each, with positions up to n.
-fn queues_ok(n: u32, cells: [Cell; CELLS], slots: [Slot; SLOTS], stores: bool) -> bool
-    ensures { result ≡ queues_ok n cells slots (ring_of stores) }
-{
-    let mut ok = true;
-    let mut i: usize = 0;
-    while i < CELLS {
-        let c = cells[i];
-        let q = ring_of(c, stores);
-        let len = q.len;
-        let mut fit = true;
-        let mut j: u8 = 0;
-        while j < 8 {
-            let at = slot_place(i, q, j);
-            let s = slots[at];
-            fit = slot_ok(n, len, j, s) & fit;
-            j += 1;
-        }
-        ok = (len <= 8) & fit & ok;
-        i += 1;
-    }
-    ok
-}
-
-// The arrays of a state have the lengths of their types.
-fn sized(
-    cells: [Cell; CELLS],
-    reads: [Slot; SLOTS],
-    stores: [Slot; SLOTS],
-    locked: [usize; THREADS],
-    holds: [Hold; LOCKS],
-    memory: [Main; VARIABLES],
-    waits: [Waiting; THREADS],
-) -> bool
-    ensures { (result ≡ true) × (length cells ≡ 128) × (length reads ≡ 1024) × (length stores ≡ 1024) × (length locked ≡ 8) × (length holds ≡ 8) × (length memory ≡ 16) × (length waits ≡ 8) }
-{
-    true
+    s.cells.iter().enumerate().all(|(i, c)| {
+        queue_ok(s.events, &s.reads, i, c.reads) && queue_ok(s.events, &s.stores, i, c.stores)
+    })
 }
 
 // Refusal 8; and the lengths that the arrays have.
 pub fn in_range(course: Course, s: State) -> bool
     ensures { (result ≡ in_range (limits_of course) s) × Shape s }
 {
-    let h = s.counts;
-    let cells = s.cells;
-    let reads = s.reads;
-    let stores = s.stores;
-    let locked = s.locked;
-    let holds = s.holds;
-    let memory = s.memory;
-    let waits = s.waits;
-    sized(cells, reads, stores, locked, holds, memory, waits)
-        & rules::is_allowed(course, h)
+    rules::is_allowed(course, s.counts)
         & (s.events <= rules::most_events(course))
-        & holds_ok(s)
-        & threads_ok(s)
-        & cells_ok(s)
-        & queues_ok(s.events, cells, reads, false)
-        & queues_ok(s.events, cells, stores, true)
+        & holds_ok(&s)
+        & threads_ok(&s)
+        & cells_ok(&s)
+        & queues_ok(&s)
 }

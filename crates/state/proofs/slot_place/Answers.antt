@@ -7,8 +7,8 @@ use Rattle.state.proofs.slot_place.Goals as goal
 
 pub returns-then-i-lt-CELLS : goal.returns-then-i-lt-CELLS
 unfolding slot_place
-returns-then-i-lt-CELLS c = (rw (c.wide.ensures, c.wide-f.ensures, lt-ltb _ _ c.if-i-lt-CELLS.true) refl, omega arith)
+returns-then-i-lt-CELLS c = (rw (c.from-then-i-lt-CELLS.ensures, c.from.ensures, lt-ltb _ _ c.if-i-lt-CELLS.true) refl, omega arith)
 
-pub returns : goal.returns
+pub returns-else-i-lt-CELLS : goal.returns-else-i-lt-CELLS
 unfolding slot_place
-returns c = (rw (le-ltb _ _ c.if-i-lt-CELLS.false) refl, omega arith)
+returns-else-i-lt-CELLS c = (rw (le-ltb _ _ c.if-i-lt-CELLS.false) refl, omega arith)
