@@ -12,7 +12,7 @@ use rules::{CELLS, Counts, Course, LOCKS, Main, Slot, THREADS, VARIABLES, Value}
 
 // A queue of at most eight: its oldest is at place `first` of the cell's eight places (modulo 8), the others follow it round.
 #[repr(C)]
-#[derive(Clone, Copy)]
+#[derive(Clone, Copy, Default)]
 pub struct Ring {
     pub first: u8,
     pub len: u8,
@@ -20,7 +20,7 @@ pub struct Ring {
 
 // What is kept for one thread and variable. The outstanding reads and stores themselves are in the state's `reads` and `stores`.
 #[repr(C)]
-#[derive(Clone, Copy)]
+#[derive(Clone, Copy, Default)]
 pub struct Cell {
     pub copy: Value,
     pub announced: Value,
@@ -43,7 +43,7 @@ pub struct Cell {
 
 // Who holds a lock: the thread's number plus 1, or 0 where nobody does, and how many times.
 #[repr(C)]
-#[derive(Clone, Copy)]
+#[derive(Clone, Copy, Default)]
 pub struct Hold {
     pub holder: usize,
     pub depth: u32,
@@ -51,7 +51,7 @@ pub struct Hold {
 
 // Which lock a thread waits on: its number plus 1, or 0 where it does not wait; how many holds it gave up; and whether it is notified.
 #[repr(C)]
-#[derive(Clone, Copy)]
+#[derive(Clone, Copy, Default)]
 pub struct Waiting {
     pub lock: usize,
     pub depth: u32,
@@ -82,49 +82,23 @@ pub struct State {
 }
 
 // The state before the first event, for these declared counts.
-pub fn initial(h: Counts) -> State
-    ensures { result ≡ start h }
+pub fn initial(counts: Counts) -> State
+    ensures { result ≡ start counts }
 {
-    let none = Ring { first: 0, len: 0 };
-    let cell = Cell {
-        copy: 0,
-        announced: 0,
-        source: 0,
-        written: 0,
-        loaded: 0,
-        used: 0,
-        assigned: 0,
-        reads: none,
-        stores: none,
-        fresh: false,
-        pending: false,
-        after_load: false,
-        after_assign: false,
-    };
     let slot = Slot {
         value: 0,
         position: 0,
     };
-    let hold = Hold {
-        holder: 0,
-        depth: 0,
-    };
-    let main = Main { value: 0 };
-    let idle = Waiting {
-        lock: 0,
-        depth: 0,
-        notified: false,
-    };
     State {
-        counts: h,
+        counts,
         events: 0,
-        cells: [cell; CELLS],
+        cells: [Cell::default(); CELLS],
         reads: [slot; SLOTS],
         stores: [slot; SLOTS],
         locked: [0; THREADS],
-        holds: [hold; LOCKS],
-        memory: [main; VARIABLES],
-        waits: [idle; THREADS],
+        holds: [Hold::default(); LOCKS],
+        memory: [Main { value: 0 }; VARIABLES],
+        waits: [Waiting::default(); THREADS],
     }
 }
 
@@ -166,7 +140,9 @@ fn hold_ok(threads: usize, n: u32, a: Hold) -> bool
 fn holds_ok(s: &State) -> bool
     ensures { result ≡ holds_ok s.now }
 {
-    s.holds.iter().all(|a| hold_ok(s.counts.threads, s.events, *a))
+    s.holds
+        .iter()
+        .all(|a| hold_ok(s.counts.threads, s.events, *a))
 }
 
 fn wait_ok(locks: usize, n: u32, w: Waiting) -> bool
@@ -178,10 +154,8 @@ fn wait_ok(locks: usize, n: u32, w: Waiting) -> bool
 fn threads_ok(s: &State) -> bool
     ensures { result ≡ threads_ok s.now }
 {
-    s.waits
-        .iter()
-        .zip(&s.locked)
-        .all(|(w, at)| wait_ok(s.counts.locks, s.events, *w) & (*at <= s.events as usize))
+    s.waits.iter().zip(&s.locked).all(|(w, at)| wait_ok(s.counts.locks, s.events, *w)
+        & (*at <= s.events as usize))
 }
 
 fn cell_ok(n: u32, c: Cell) -> bool

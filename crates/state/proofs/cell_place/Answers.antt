@@ -14,6 +14,6 @@ pub returns-else-t-lt-THREADS : goal.returns-else-t-lt-THREADS
 unfolding cell_place
 returns-else-t-lt-THREADS c =
     elim c.else-t-lt-THREADS.branch [
-    | else-t-lt-THREADS-via-then-t-lt-THREADS+else-v-lt-VARIABLES w ↦ (rw (lt-ltb _ _ w.if-t-lt-THREADS.true, le-ltb _ _ w.if-v-lt-VARIABLES.false) refl, omega arith)
-    | else-t-lt-THREADS-via-else-t-lt-THREADS w ↦ (rw (le-ltb _ _ w.if-t-lt-THREADS.false) refl, omega arith)
+      | else-t-lt-THREADS-via-then-t-lt-THREADS+else-v-lt-VARIABLES w ↦ (rw (lt-ltb _ _ w.if-t-lt-THREADS.true, le-ltb _ _ w.if-v-lt-VARIABLES.false) refl, omega arith)
+      | else-t-lt-THREADS-via-else-t-lt-THREADS w ↦ (rw (le-ltb _ _ w.if-t-lt-THREADS.false) refl, omega arith)
     ]

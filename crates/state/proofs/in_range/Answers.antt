@@ -1,8 +1,9 @@
 -- `state::in_range` meets its contract.
 use Prim.Native.Nat.{ℕ}
 use Rattle.std.proofs.Common.{rules}
-use mathlib.Core.Path.{◌≡◌, refl, ◌∙◌}
-use mathlib.Core.Bool.{Bool, true, false, ◌&&◌}
+use mathlib.Core.Path.{◌≡◌, sym, ◌∙◌}
+use Rattle.std.proofs.Math.Bool.{and_assoc}
+use mathlib.Core.Bool.{Bool, ◌&&◌}
 use lib.Dec.{leb}
 use Rattle.rules.specs.Limits.{Limits, limits_of, allowed}
 use Rattle.state.specs.declared.State.{State}
@@ -16,11 +17,7 @@ asked : (m : Limits) (s : State) {a : Bool} {n : ℕ} {b w c d : Bool} → a ≡
 unfolding in_range
 asked m s ea en eb ew ec ed =
     (λ i. ea i && leb s.events (en i) && eb i && ew i && ec i && ed i)
-    ∙ assoc (allowed m s.counts && leb s.events m.events && holds_ok s && threads_ok s && cells_ok s) _ _
-  where
-    assoc : (a b c : Bool) → (a && (b && c)) ≡ (a && b && c)
-    assoc true b c = refl
-    assoc false b c = refl
+    ∙ sym (and_assoc (allowed m s.counts && leb s.events m.events && holds_ok s && threads_ok s && cells_ok s) _ _)
 
 pub returns : goal.returns
 returns c =

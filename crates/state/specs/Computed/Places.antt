@@ -1,7 +1,6 @@
 -- The arrays of a state: their lengths, and the places in them as the functions give them.
-use Rattle.std.specs.Prelude.{ℕ, ◌+◌, ◌*◌, Bool, cond, ◌&&◌, ◌≡◌, ltb, length}
+use Rattle.std.specs.Prelude.{ℕ, ◌+◌, ◌*◌, cond, ◌&&◌, ◌≡◌, ltb, length}
 use Rattle.state.specs.declared.Ring.{Ring}
-use Rattle.state.specs.declared.Cell.{Cell}
 use Rattle.state.specs.declared.State.{State}
 use Rattle.state.specs.State.{slot_number}
 use Rattle.rules.specs.Limits.{full, most, cell_number, cell_count}
@@ -13,10 +12,6 @@ cell_place t v = cond (ltb t full.threads && ltb v full.variables) (cell_number 
 -- the j-th of a queue of cell i, from 0; 0 where there is no such cell
 unfoldable pub slot_place : ℕ → Ring → ℕ → ℕ
 slot_place i q j = cond (ltb i cell_count) (slot_number i (q.first + j)) 0
-
--- the queue of a cell: of its stores, or of its reads
-abbrev pub ring_of : Bool → Cell → Ring
-ring_of stores c = cond stores c.stores c.reads
 
 -- the lengths that the arrays of a state have by their types
 pub record Shape (s : State) : Type 0 where
