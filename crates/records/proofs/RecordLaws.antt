@@ -11,8 +11,8 @@ use borrow.Author.Tests.{eq-eqb, ne_eqb, lt-ltb}
 use Rattle.rules.specs.declared.Event.{Event}
 use Rattle.rules.specs.declared.Kind.{Kind}
 use Rattle.rules.specs.declared.Kind.TheVariants.{Use, Assign, Load, Store, Read, Write, Lock, Unlock, PrescientStore, PrescientAssign, Wait, Notify, Resume}
-use Rattle.rules.specs.declared.Named.{Named}
-use Rattle.rules.specs.declared.Named.TheVariants as named
+use Rattle.std.specs.Prelude.{Some, None}
+use Rattle.std.specs.Prelude.{Option as Option'}
 use Rattle.rules.specs.Events.{A, B, C, F, K, L, N, P, R, S, U, W, Y, letter, place, capped, value, thread_of, is_letter, is_lock_letter, kind_of, event_with, subject_of, subject}
 use Rattle.rules.proofs.Letters.{capped_same, capped_over, capped_low, capped_twice, thread_named}
 use Rattle.records.specs.Records.{what_of, packed, value_in, letter_in, thread_in, place_in, event_in, or_read, unpacked}
@@ -48,19 +48,19 @@ abbrev pub kept_value : ℕ → ℤ → ℤ
 kept_value k x = cond (is_lock_letter k) (cond (eqb k F) (pos (capped (thread_of x))) (pos 0)) x
 
 -- the kind that a letter names: it has this letter, place, value and subject
-pub record Kinded (k p : ℕ) (x : ℤ) (n : Named) : Type 0 where
-  pub named : n ≡ named.Of (or_read n p x)
+pub record Kinded (k p : ℕ) (x : ℤ) (n : Option' Kind) : Type 0 where
+  pub named : n ≡ Some (or_read n p x)
   pub letters : letter (or_read n p x) ≡ k
   pub places : place (or_read n p x) ≡ p
   pub values : value (or_read n p x) ≡ kept_value k x
   pub subjects : (t : ℕ) → subject_of k t (value (or_read n p x)) ≡ subject_of k t x
 
 -- a letter's kind, or none where it is no letter
-abbrev Right : ℕ → ℕ → ℤ → Named → Bool → Type 0
+abbrev Right : ℕ → ℕ → ℤ → Option' Kind → Bool → Type 0
 Right k p x n true = Kinded k p x n
-Right k p x n false = n ≡ named.Nothing
+Right k p x n false = n ≡ None
 
-pick : (k c p : ℕ) (x : ℤ) (n rest : Named) (b : Bool) → Kinded c p x n → Right k p x rest b → Right k p x (cond (eqb k c) n rest) (eqb k c || b)
+pick : (k c p : ℕ) (x : ℤ) (n rest : Option' Kind) (b : Bool) → Kinded c p x n → Right k p x rest b → Right k p x (cond (eqb k c) n rest) (eqb k c || b)
 pick k c p x n rest b y z = go (ℕ_discrete k c)
   where
     go : Dec (k ≡ c) → Right k p x (cond (eqb k c) n rest) (eqb k c || b)
@@ -71,35 +71,35 @@ right : (k p : ℕ) (x : ℤ) → Right k p x (kind_of k p x) (is_letter k)
 unfolding kind_of is_letter is_lock_letter subject_of
 right k p x =
     simp or_assoc
-    (pick k U p x (named.Of (Use p x)) _ _ (record { named = refl; letters = refl; places = refl; values = refl; subjects = λ t. refl })
-    (pick k A p x (named.Of (Assign p x)) _ _ (record { named = refl; letters = refl; places = refl; values = refl; subjects = λ t. refl })
-    (pick k L p x (named.Of (Load p x)) _ _ (record { named = refl; letters = refl; places = refl; values = refl; subjects = λ t. refl })
-    (pick k S p x (named.Of (Store p x)) _ _ (record { named = refl; letters = refl; places = refl; values = refl; subjects = λ t. refl })
-    (pick k R p x (named.Of (Read p x)) _ _ (record { named = refl; letters = refl; places = refl; values = refl; subjects = λ t. refl })
-    (pick k W p x (named.Of (Write p x)) _ _ (record { named = refl; letters = refl; places = refl; values = refl; subjects = λ t. refl })
-    (pick k K p x (named.Of (Lock p)) _ _ (record { named = refl; letters = refl; places = refl; values = refl; subjects = λ t. refl })
-    (pick k N p x (named.Of (Unlock p)) _ _ (record { named = refl; letters = refl; places = refl; values = refl; subjects = λ t. refl })
-    (pick k P p x (named.Of (PrescientStore p x)) _ _ (record { named = refl; letters = refl; places = refl; values = refl; subjects = λ t. refl })
-    (pick k B p x (named.Of (PrescientAssign p x)) _ _ (record { named = refl; letters = refl; places = refl; values = refl; subjects = λ t. refl })
-    (pick k Y p x (named.Of (Wait p)) _ _ (record { named = refl; letters = refl; places = refl; values = refl; subjects = λ t. refl })
-    (pick k F p x (named.Of (Notify p (thread_of x))) _ _ (record { named = refl; letters = refl; places = refl; values = refl; subjects = λ t. thread_named x })
-    (subst (Right k p x (cond (eqb k C) (named.Of (Resume p)) named.Nothing)) (or-false (eqb k C)) (pick k C p x (named.Of (Resume p)) named.Nothing false (record { named = refl; letters = refl; places = refl; values = refl; subjects = λ t. refl }) refl))))))))))))))
+    (pick k U p x (Some (Use p x)) _ _ (record { named = refl; letters = refl; places = refl; values = refl; subjects = λ t. refl })
+    (pick k A p x (Some (Assign p x)) _ _ (record { named = refl; letters = refl; places = refl; values = refl; subjects = λ t. refl })
+    (pick k L p x (Some (Load p x)) _ _ (record { named = refl; letters = refl; places = refl; values = refl; subjects = λ t. refl })
+    (pick k S p x (Some (Store p x)) _ _ (record { named = refl; letters = refl; places = refl; values = refl; subjects = λ t. refl })
+    (pick k R p x (Some (Read p x)) _ _ (record { named = refl; letters = refl; places = refl; values = refl; subjects = λ t. refl })
+    (pick k W p x (Some (Write p x)) _ _ (record { named = refl; letters = refl; places = refl; values = refl; subjects = λ t. refl })
+    (pick k K p x (Some (Lock p)) _ _ (record { named = refl; letters = refl; places = refl; values = refl; subjects = λ t. refl })
+    (pick k N p x (Some (Unlock p)) _ _ (record { named = refl; letters = refl; places = refl; values = refl; subjects = λ t. refl })
+    (pick k P p x (Some (PrescientStore p x)) _ _ (record { named = refl; letters = refl; places = refl; values = refl; subjects = λ t. refl })
+    (pick k B p x (Some (PrescientAssign p x)) _ _ (record { named = refl; letters = refl; places = refl; values = refl; subjects = λ t. refl })
+    (pick k Y p x (Some (Wait p)) _ _ (record { named = refl; letters = refl; places = refl; values = refl; subjects = λ t. refl })
+    (pick k F p x (Some (Notify p (thread_of x))) _ _ (record { named = refl; letters = refl; places = refl; values = refl; subjects = λ t. thread_named x })
+    (subst (Right k p x (cond (eqb k C) (Some (Resume p)) None)) (or-false (eqb k C)) (pick k C p x (Some (Resume p)) None false (record { named = refl; letters = refl; places = refl; values = refl; subjects = λ t. refl }) refl))))))))))))))
 
 pub kinded : (k p : ℕ) (x : ℤ) → is_letter k ≡ true → Kinded k p x (kind_of k p x)
 kinded k p x e = subst (Right k p x (kind_of k p x)) e (right k p x)
 
-pub no_kind : (k p : ℕ) (x : ℤ) → is_letter k ≡ false → kind_of k p x ≡ named.Nothing
+pub no_kind : (k p : ℕ) (x : ℤ) → is_letter k ≡ false → kind_of k p x ≡ None
 no_kind k p x e = subst (Right k p x (kind_of k p x)) e (right k p x)
 
 -- ---- the event of a record
 
 pub event_some : (line w : ℕ) (x : ℤ) → is_letter (letter_in w) ≡ true → event_in line w x ≡ some (unpacked line w x)
 unfolding event_in unpacked
-event_some line w x e = ap (λ (n : Named). event_with line (thread_in w) n) (kinded (letter_in w) (place_in w) x e).named
+event_some line w x e = ap (λ (n : Option' Kind). event_with line (thread_in w) n) (kinded (letter_in w) (place_in w) x e).named
 
 pub event_none : (line w : ℕ) (x : ℤ) → is_letter (letter_in w) ≡ false → event_in line w x ≡ none
 unfolding event_in
-event_none line w x e = ap (λ (n : Named). event_with line (thread_in w) n) (no_kind (letter_in w) (place_in w) x e)
+event_none line w x e = ap (λ (n : Option' Kind). event_with line (thread_in w) n) (no_kind (letter_in w) (place_in w) x e)
 
 pub thread_is : (line w : ℕ) (x : ℤ) → (unpacked line w x).thread ≡ thread_in w
 unfolding unpacked
@@ -148,7 +148,7 @@ held_event e = record { thread = capped e.thread; line = e.line; kind = held_kin
 
 -- what letter, place and value say of a kind, and what holding keeps of it
 pub record Holds (k : Kind) : Type 0 where
-  pub kind : kind_of (letter k) (capped (place k)) (value k) ≡ named.Of (held_kind k)
+  pub kind : kind_of (letter k) (capped (place k)) (value k) ≡ Some (held_kind k)
   pub letters : letter (held_kind k) ≡ letter k
   pub places : place (held_kind k) ≡ capped (place k)
   pub subjects : (t : ℕ) → subject_of (letter (held_kind k)) (capped t) (value (held_kind k)) ≡ capped (subject_of (letter k) t (value k))
@@ -173,8 +173,8 @@ holds (Wait l) = record { kind = refl; letters = refl; places = refl; subjects =
 holds (Notify l u) = record { kind = refl; letters = refl; places = refl; subjects = λ t. capped_twice (capped (capped u)); values = ap pos (capped_twice (capped u) ∙ capped_twice u); lettered = refl; low = omega arith; small = λ t s h. ap₂ Notify (capped_same l h) (capped_twice u ∙ capped_same u (capped_below u (capped_below (capped u) s))) }
 holds (Resume l) = record { kind = refl; letters = refl; places = refl; subjects = λ t. refl; values = refl; lettered = refl; low = omega arith; small = λ t s h. ap (λ (p : ℕ). Resume p) (capped_same l h) }
 
-pub kind_back : (k : Kind) (t : ℕ) → subject_of (letter k) t (value k) < 255 → place k < 255 → kind_of (letter k) (place k) (value k) ≡ named.Of k
-kind_back k t hs hp = ap (λ (p : ℕ). kind_of (letter k) p (value k)) (sym (capped_same (place k) hp)) ∙ (holds k).kind ∙ ap (λ (c : Kind). named.Of c) ((holds k).small t hs hp)
+pub kind_back : (k : Kind) (t : ℕ) → subject_of (letter k) t (value k) < 255 → place k < 255 → kind_of (letter k) (place k) (value k) ≡ Some k
+kind_back k t hs hp = ap (λ (p : ℕ). kind_of (letter k) p (value k)) (sym (capped_same (place k) hp)) ∙ (holds k).kind ∙ ap (λ (c : Kind). Some c) ((holds k).small t hs hp)
 
 module _ (e : Event) where
   abbrev k : Kind
@@ -192,7 +192,7 @@ module _ (e : Event) where
   unfolding packed
   packed_place = place_back (letter k) e.thread (place k)
 
-  packed_kind : kind_of (letter_in (packed e)) (place_in (packed e)) (value k) ≡ named.Of (held_kind k)
+  packed_kind : kind_of (letter_in (packed e)) (place_in (packed e)) (value k) ≡ Some (held_kind k)
   packed_kind = (λ i. kind_of (packed_letter i) (packed_place i) (value k)) ∙ (holds k).kind
 
   -- an event's record gives the event back, with threads and place held

@@ -6,8 +6,8 @@ use Rattle.rules.specs.declared.Counts.{Counts}
 use Rattle.rules.specs.declared.Event.{Event}
 use Rattle.rules.specs.declared.Kind.{Kind}
 use Rattle.rules.specs.declared.Kind.TheVariants.{Read}
-use Rattle.rules.specs.declared.Named.{Named}
-use Rattle.rules.specs.declared.Named.TheVariants as named
+use Rattle.std.specs.Prelude.{Some, None}
+use Rattle.std.specs.Prelude.{Option as Option'}
 use Rattle.rules.specs.Events.{letter, place, capped, value, kind_of, event_with}
 use Rattle.rules.specs.Limits.{line_after}
 use Rattle.rules.specs.Memories.{from}
@@ -47,9 +47,9 @@ unfoldable pub row_lines : Counts → List ℕ → List ℤ → List (Option Eve
 row_lines h ws xs = from (record_at h ws xs) 0 (length ws)
 
 -- the same as events, of rows where each number names a kind; no contract of an entry cites what another stands for
-abbrev pub or_read : Named → ℕ → ℤ → Kind
-or_read named.Nothing p x = Read p x
-or_read (named.Of k) p x = k
+abbrev pub or_read : Option' Kind → ℕ → ℤ → Kind
+or_read None p x = Read p x
+or_read (Some kind) p x = kind
 
 unfoldable pub unpacked : ℕ → ℕ → ℤ → Event
 unpacked line w x = record { thread = thread_in w; line = line; kind = or_read (kind_of (letter_in w) (place_in w) x) (place_in w) x }
