@@ -61,3 +61,8 @@ others_same a n t l m = rw (lt-ltb t 8 l)
         go : (b : Bool) → (not (eqb u t) && ltb 0 (cond b a.depth 0)) ≡ (b && (not (eqb u t) && ltb 0 a.depth))
         go true = refl
         go false = and-false (not (eqb u t))
+
+-- no hold, as a test
+pub none_held : (n : ℕ) → eqb n 0 ≡ not (ltb 0 n)
+none_held zero = refl
+none_held (suc n) = let l : 0 < suc n = omega arith in rw (lt-ltb 0 (suc n) l, ne_eqb (suc n) 0 (λ (q : suc n ≡ 0). omega arith))

@@ -3,9 +3,8 @@
 // the state after the event; those checks are in specs/Computed/Leads.antt, proofs/Waits.antt and proofs/Leads.antt.
 #![tactic(auto)]
 
-ghost use Rattle.std.specs.Prelude.{◌≡◌, [], ◌<◌, max, get_or};
+ghost use Rattle.std.specs.Prelude.{◌≡◌};
 ghost use Rattle.rules.specs.Events.{A as Assign, B, C, F, K, L, N, P, R, S, W, Y};
-ghost use Rattle.rules.specs.Rules.{differ};
 ghost use Rattle.state.specs.State.{no_slot, no_hold, no_wait, depth_of, remembered_of, notified_of};
 ghost use Rattle.state.specs.Step.{pushed, popped, next_cell};
 ghost use Rattle.judging.specs.Computed.Checks.{
@@ -22,8 +21,6 @@ ghost use Rattle.judging.specs.Computed.Checks.{
   notify_checks,
   prescient_store_checks,
   prescient_assign_checks,
-  lead,
-  table,
   first_of,
 };
 ghost use Rattle.judging.specs.Computed.Leads.{is_waiting, is_barred, is_untold, ahead_rule, barred_rule, is_access, lead_checks, first_lead, lead_rule, bars_use, bars_write, bars_event};
@@ -41,6 +38,7 @@ pub struct OnSome {
 }
 
 // The answers: 0 or the number of the first check of the event's row that is broken, and what the event leaves.
+// Kept: a number, 0 where nothing is broken, as `judge` in the specs of rules gives it.
 #[derive(Clone, Copy)]
 pub struct CellTurn {
     pub rule: u8,
@@ -84,39 +82,35 @@ fn oldest(q: Ring, s: Slot) -> Slot
     ensures { result ≡ oldest_of q s }
 {
     if q.len == 0 {
-        return Slot {
+        Slot {
             value: 0,
             position: 0,
-        };
+        }
+    } else {
+        s
     }
-    s
 }
 
 fn push(q: Ring) -> Ring
     ensures { result ≡ pushed q }
 {
-    let n = q.len;
-    if n < 8 {
-        return Ring {
-            first: q.first,
-            len: n + 1,
-        };
+    if q.len < 8 {
+        Ring {
+            len: q.len + 1,
+            ..q
+        }
+    } else {
+        q
     }
-    q
 }
 
 fn pop(q: Ring) -> Ring
     ensures { result ≡ popped q }
 {
-    let n = q.len;
-    let f = (q.first % 8 + 1) % 8;
-    if 0 < n {
-        return Ring {
-            first: f,
-            len: n - 1,
-        };
+    Ring {
+        first: (q.first % 8 + 1) % 8,
+        len: q.len.saturating_sub(1),
     }
-    Ring { first: f, len: 0 }
 }
 
 // ---- The checks of each row, in the row's order; false fills them.
@@ -130,82 +124,75 @@ struct Checks {
     pub fifth: bool,
 }
 
+const NONE: Checks = Checks {
+    first: false,
+    second: false,
+    third: false,
+    fourth: false,
+    fifth: false,
+};
+
 fn use_checks(c: Cell, locked: usize, x: Value) -> Checks
     ensures { result ≡ use_checks c locked x }
 {
     Checks {
         first: !(locked < c.source),
-        second: !(x == c.copy),
-        third: false,
-        fourth: false,
-        fifth: false,
+        second: x != c.copy,
+        ..NONE
     }
 }
 
 fn assign_checks(c: Cell) -> Checks
     ensures { result ≡ assign_checks c }
 {
-    let q = c.reads;
     Checks {
-        first: !c.pending & (q.len != 0),
-        second: false,
-        third: false,
-        fourth: false,
-        fifth: false,
+        first: !c.pending & (c.reads.len != 0),
+        ..NONE
     }
 }
 
 fn load_checks(c: Cell, s: Slot, x: Value) -> Checks
     ensures { result ≡ load_checks c s x }
 {
-    let q = c.reads;
-    let o = c.stores;
     Checks {
-        first: q.len == 0,
+        first: c.reads.len == 0,
         second: c.pending,
         third: c.fresh,
-        fourth: (o.len != 0) | (s.position < c.written),
-        fifth: !(x == s.value),
+        fourth: (c.stores.len != 0) | (s.position < c.written),
+        fifth: x != s.value,
     }
 }
 
 fn store_checks(c: Cell, locked: usize, x: Value) -> Checks
     ensures { result ≡ store_checks c locked x }
 {
-    let o = c.stores;
     Checks {
         first: c.pending,
         second: !c.fresh,
         third: !(locked < c.source),
-        fourth: !(x == c.copy),
-        fifth: 8 <= o.len,
+        fourth: x != c.copy,
+        fifth: 8 <= c.stores.len,
     }
 }
 
 fn read_checks(c: Cell, m: Main, x: Value) -> Checks
     ensures { result ≡ read_checks c m x }
 {
-    let q = c.reads;
-    let o = c.stores;
     Checks {
-        first: !(x == m.value),
-        second: 8 <= q.len,
-        third: (o.len != 0) | (c.fresh & !c.pending),
-        fourth: false,
-        fifth: false,
+        first: x != m.value,
+        second: 8 <= c.reads.len,
+        third: (c.stores.len != 0) | (c.fresh & !c.pending),
+        ..NONE
     }
 }
 
 fn write_checks(c: Cell, s: Slot, x: Value) -> Checks
     ensures { result ≡ write_checks c s x }
 {
-    let o = c.stores;
     Checks {
-        first: o.len == 0,
-        second: !(x == s.value),
-        third: false,
-        fourth: false,
-        fifth: false,
+        first: c.stores.len == 0,
+        second: x != s.value,
+        ..NONE
     }
 }
 
@@ -213,12 +200,11 @@ fn write_checks(c: Cell, s: Slot, x: Value) -> Checks
 fn depth_of(a: Hold, t: usize) -> u32
     ensures { result ≡ depth_of a t }
 {
-    if t < THREADS {
-        if a.holder == t + 1 {
-            return a.depth;
-        }
+    if t < THREADS && a.holder == t + 1 {
+        a.depth
+    } else {
+        0
     }
-    0
 }
 
 // Whether one of n threads other than t holds a lock.
@@ -226,61 +212,50 @@ fn others_hold(a: Hold, n: usize, t: usize) -> bool
     ensures { result ≡ others_hold a n t }
 {
     if t < THREADS {
-        return (0 < a.holder) & (a.holder <= n) & (a.holder != t + 1) & (0 < a.depth);
+        (0 < a.holder) & (a.holder <= n) & (a.holder != t + 1) & (0 < a.depth)
+    } else {
+        false
     }
-    false
 }
 
 fn lock_checks(a: Hold, n: usize, w: OnSome, t: usize) -> Checks
     ensures { result ≡ lock_checks a n w t }
 {
-    let other = others_hold(a, n, t);
     Checks {
-        first: other,
+        first: others_hold(a, n, t),
         second: w.pending,
-        third: false,
-        fourth: false,
-        fifth: false,
+        ..NONE
     }
 }
 
 fn unlock_checks(a: Hold, w: OnSome, t: usize) -> Checks
     ensures { result ≡ unlock_checks a w t }
 {
-    let n = depth_of(a, t);
     Checks {
-        first: !(0 < n),
+        first: depth_of(a, t) == 0,
         second: w.fresh,
         third: w.stored,
-        fourth: false,
-        fifth: false,
+        ..NONE
     }
 }
 
 fn notify_checks(a: Hold, t: usize) -> Checks
     ensures { result ≡ notify_checks a t }
 {
-    let n = depth_of(a, t);
     Checks {
-        first: !(0 < n),
-        second: false,
-        third: false,
-        fourth: false,
-        fifth: false,
+        first: depth_of(a, t) == 0,
+        ..NONE
     }
 }
 
 fn prescient_store_checks(c: Cell) -> Checks
     ensures { result ≡ prescient_store_checks c }
 {
-    let q = c.reads;
-    let o = c.stores;
     Checks {
         first: c.pending,
-        second: 8 <= o.len,
-        third: q.len != 0,
-        fourth: false,
-        fifth: false,
+        second: 8 <= c.stores.len,
+        third: c.reads.len != 0,
+        ..NONE
     }
 }
 
@@ -289,10 +264,8 @@ fn prescient_assign_checks(c: Cell, x: Value) -> Checks
 {
     Checks {
         first: !c.pending,
-        second: !(x == c.announced),
-        third: false,
-        fourth: false,
-        fifth: false,
+        second: x != c.announced,
+        ..NONE
     }
 }
 
@@ -318,42 +291,23 @@ const ROWS: [[u8; 5]; 13] = [
     [11, 13, 0, 0, 0],
 ];
 
-// The number at a place of the lead.
-fn lead_at(i: usize) -> u8
-    requires { i < 5 }
-    ensures { result ≡ get_or lead i 0 }
-{
-    LEAD[i]
-}
-
-// The row at a place of the table.
-fn row_at(i: usize) -> [u8; 5]
-    requires { i < 13 }
-    ensures { result ≡ get_or table i [] }
-{
-    ROWS[i]
-}
-
 // The number of a row at its first broken check; 0 where none is.
 fn first_of(b: Checks, row: [u8; 5]) -> u8
     ensures { result ≡ first_of b row }
 {
     if b.first {
-        return row[0];
+        row[0]
+    } else if b.second {
+        row[1]
+    } else if b.third {
+        row[2]
+    } else if b.fourth {
+        row[3]
+    } else if b.fifth {
+        row[4]
+    } else {
+        0
     }
-    if b.second {
-        return row[1];
-    }
-    if b.third {
-        return row[2];
-    }
-    if b.fourth {
-        return row[3];
-    }
-    if b.fifth {
-        return row[4];
-    }
-    0
 }
 
 // ---- The checks that lead each row: of waiting threads.
@@ -372,20 +326,18 @@ fn is_barred(w: Waiting, n: usize, k: u8) -> bool
     if w.lock == 0 {
         return false;
     }
-    let waits = is_waiting(w, n);
-    !((k == b'C') | (k == b'R') | (k == b'W')) & waits
+    !((k == b'C') | (k == b'R') | (k == b'W')) & is_waiting(w, n)
 }
 
 // How many holds a thread remembers of lock l.
 fn remembered_of(w: Waiting, l: usize) -> u32
     ensures { result ≡ remembered_of w l }
 {
-    if l < w.lock {
-        if w.lock == l + 1 {
-            return w.depth;
-        }
+    if l < w.lock && w.lock == l + 1 {
+        w.depth
+    } else {
+        0
     }
-    0
 }
 
 // Whether it is notified on lock l.
@@ -393,9 +345,10 @@ fn notified_of(w: Waiting, l: usize) -> bool
     ensures { result ≡ notified_of w l }
 {
     if l < w.lock {
-        return (w.lock == l + 1) & w.notified;
+        (w.lock == l + 1) & w.notified
+    } else {
+        false
     }
-    false
 }
 
 // 30: letter k on lock l, whose subject waits as w says.
@@ -412,22 +365,19 @@ pub fn ahead_rule(own: Waiting, w: Waiting, n: usize, l: usize, k: u8) -> u8
     ensures { result ≡ ahead_rule own w n l k }
 {
     if is_barred(own, n, k) {
-        return lead_at(0);
+        LEAD[0]
+    } else if is_untold(w, l, k) {
+        LEAD[1]
+    } else {
+        0
     }
-    if is_untold(w, l, k) {
-        return lead_at(1);
-    }
-    0
 }
 
 // What a letter other than F and C, which alone break 30, breaks of them.
 pub fn barred_rule(w: Waiting, n: usize, k: u8) -> u8
     ensures { result ≡ barred_rule w n k }
 {
-    if is_barred(w, n, k) {
-        return lead_at(0);
-    }
-    0
+    if is_barred(w, n, k) { LEAD[0] } else { 0 }
 }
 
 // ---- The checks that lead each row: of an event on a volatile variable.
@@ -438,12 +388,6 @@ struct Lead {
     pub neighbour: bool,
     pub order: bool,
     pub prescient: bool,
-}
-
-fn differ(a: bool, b: bool) -> bool
-    ensures { result ≡ differ a b }
-{
-    if a { !b } else { b }
 }
 
 // Whether a letter is that of a thread's own event on a variable, R and W left aside.
@@ -457,11 +401,11 @@ fn is_access(k: u8) -> bool
 fn lead_checks(c: Cell, order: bool, k: u8) -> Lead
     ensures { result ≡ lead_checks c order k }
 {
-    let load = differ(k == b'U', c.after_load);
-    let assign = differ(k == b'S', c.after_assign);
+    let load = (k == b'U') != c.after_load;
+    let assign = (k == b'S') != c.after_assign;
     Lead {
         neighbour: is_access(k) & (load | assign),
-        order: order,
+        order,
         prescient: (k == b'P') | (k == b'B'),
     }
 }
@@ -471,23 +415,21 @@ fn first_lead(b: Lead) -> u8
     ensures { result ≡ first_lead b }
 {
     if b.neighbour {
-        return lead_at(2);
+        LEAD[2]
+    } else if b.order {
+        LEAD[3]
+    } else if b.prescient {
+        LEAD[4]
+    } else {
+        0
     }
-    if b.order {
-        return lead_at(3);
-    }
-    if b.prescient {
-        return lead_at(4);
-    }
-    0
 }
 
 // What letter k breaks of the checks that lead its row, on a volatile variable.
 pub fn lead_rule(c: Cell, order: bool, k: u8) -> u8
     ensures { result ≡ lead_rule c order k }
 {
-    let b = lead_checks(c, order, k);
-    first_lead(b)
+    first_lead(lead_checks(c, order, k))
 }
 
 // Whether a volatile variable bars a use whose read is at `read`: it has an assign that is not written, or its write or the read of its use is
@@ -495,35 +437,26 @@ pub fn lead_rule(c: Cell, order: bool, k: u8) -> u8
 fn bars_use(c: Cell, read: usize) -> bool
     ensures { result ≡ bars_use c read }
 {
-    let o = c.stores;
-    c.fresh | (o.len != 0) | !(c.written < read) | !(c.used < read)
+    c.fresh | (c.stores.len != 0) | !(c.written < read) | !(c.used < read)
 }
 
 // Whether it bars a write whose assign is at a: it has an assign before a that is not written. `front` is the slot at the first place of its stores.
 fn bars_write(c: Cell, front: Slot, a: usize) -> bool
     ensures { result ≡ bars_write c front a }
 {
-    let o = c.stores;
-    ((o.len != 0) & (front.position < a)) | (c.fresh & (c.assigned < a))
+    ((c.stores.len != 0) & (front.position < a)) | (c.fresh & (c.assigned < a))
 }
 
 // Whether the volatile variable of cell `other` bars letter k on that of cell c. Each has its slot at the first place of its stores.
 pub fn bars_event(c: Cell, front: Slot, other: Cell, first: Slot, k: u8) -> bool
     ensures { result ≡ bars_event c front other first k }
 {
-    let o = c.stores;
     let used = bars_use(other, c.loaded);
     let written = bars_write(other, first, front.position);
-    ((k == b'U') & used) | ((k == b'W') & ((o.len != 0) & written))
+    ((k == b'U') & used) | ((k == b'W') & ((c.stores.len != 0) & written))
 }
 
 // ---- What an event leaves. `p` is its position.
-
-fn later(a: usize, b: usize) -> usize
-    ensures { result ≡ max a b }
-{
-    if a < b { b } else { a }
-}
 
 // Whether U leaves a cell as it is.
 pub fn is_used(c: Cell) -> bool
@@ -536,208 +469,186 @@ pub fn is_used(c: Cell) -> bool
 pub fn used(c: Cell) -> Cell
     ensures { result ≡ after_use c }
 {
-    let mut d = c;
-    d.used = c.loaded;
-    d.after_load = false;
-    d.after_assign = false;
-    d
+    Cell {
+        used: c.loaded,
+        after_load: false,
+        after_assign: false,
+        ..c
+    }
 }
 
 fn assigned(c: Cell, x: Value, p: usize) -> Cell
     ensures { result ≡ next_cell p no_slot Assign x c }
 {
-    let mut d = c;
-    d.copy = x;
-    d.fresh = true;
-    d.source = p;
-    d.assigned = p;
-    d.after_load = false;
-    d.after_assign = true;
-    d
+    Cell {
+        copy: x,
+        fresh: true,
+        source: p,
+        assigned: p,
+        after_load: false,
+        after_assign: true,
+        ..c
+    }
 }
 
 fn prescient_assigned(c: Cell, x: Value, p: usize) -> Cell
     ensures { result ≡ next_cell p no_slot B x c }
 {
-    let mut d = c;
-    d.copy = x;
-    d.fresh = false; // its store has gone out already
-    d.pending = false;
-    d.source = p;
-    d.after_load = false;
-    d.after_assign = false;
-    d
+    Cell {
+        copy: x,
+        fresh: false, // its store has gone out already
+        pending: false,
+        source: p,
+        after_load: false,
+        after_assign: false,
+        ..c
+    }
 }
 
 // `s` is the oldest outstanding read.
 fn loaded(c: Cell, s: Slot, x: Value, p: usize) -> Cell
     ensures { result ≡ next_cell p s L x c }
 {
-    let q = c.reads;
-    let rest = pop(q);
-    let mut d = c;
-    d.copy = x;
-    d.reads = rest;
-    d.source = later(c.source, s.position);
-    d.loaded = s.position;
-    d.after_load = true;
-    d.after_assign = false;
-    d
+    Cell {
+        copy: x,
+        reads: pop(c.reads),
+        source: c.source.max(s.position),
+        loaded: s.position,
+        after_load: true,
+        after_assign: false,
+        ..c
+    }
 }
 
 fn has_read(c: Cell, s: Slot, x: Value, p: usize) -> Cell
     ensures { result ≡ next_cell p s R x c }
 {
-    let q = c.reads;
-    let more = push(q);
-    let mut d = c;
-    d.reads = more;
-    d
+    Cell {
+        reads: push(c.reads),
+        ..c
+    }
 }
 
 fn stored(c: Cell, x: Value, p: usize) -> Cell
     ensures { result ≡ next_cell p no_slot S x c }
 {
-    let q = c.stores;
-    let more = push(q);
-    let mut d = c;
-    d.fresh = false;
-    d.stores = more;
-    d.after_load = false;
-    d.after_assign = false;
-    d
+    Cell {
+        fresh: false,
+        stores: push(c.stores),
+        after_load: false,
+        after_assign: false,
+        ..c
+    }
 }
 
 fn prescient_stored(c: Cell, x: Value, p: usize) -> Cell
     ensures { result ≡ next_cell p no_slot P x c }
 {
-    let q = c.stores;
-    let more = push(q);
-    let mut d = c;
-    d.pending = true;
-    d.announced = x;
-    d.stores = more;
-    d.after_load = false;
-    d.after_assign = false;
-    d
+    Cell {
+        pending: true,
+        announced: x,
+        stores: push(c.stores),
+        after_load: false,
+        after_assign: false,
+        ..c
+    }
 }
 
 fn has_written(c: Cell, x: Value, p: usize) -> Cell
     ensures { result ≡ next_cell p no_slot W x c }
 {
-    let q = c.stores;
-    let rest = pop(q);
-    let mut d = c;
-    d.stores = rest;
-    d.written = p;
-    d
+    Cell {
+        stores: pop(c.stores),
+        written: p,
+        ..c
+    }
 }
 
 fn taken(a: Hold, t: usize) -> Hold
     ensures { result ≡ hold_for a no_wait t K }
 {
-    let n = depth_of(a, t);
-    if t < THREADS {
-        if a.depth < 2000 {
-            return Hold {
-                holder: t + 1,
-                depth: n + 1,
-            };
+    if t < THREADS && a.depth < 2000 {
+        Hold {
+            holder: t + 1,
+            depth: depth_of(a, t) + 1,
         }
+    } else {
+        a
     }
-    a
 }
 
 fn left(a: Hold, t: usize) -> Hold
     ensures { result ≡ hold_for a no_wait t N }
 {
     let n = depth_of(a, t);
-    if t < THREADS {
-        if a.depth < 2000 {
-            if n <= 1 {
-                return Hold {
-                    holder: 0,
-                    depth: 0,
-                };
-            }
-            return Hold {
-                holder: a.holder,
-                depth: n - 1,
-            };
+    if t < THREADS && a.depth < 2000 {
+        if n <= 1 {
+            Hold::default()
+        } else {
+            Hold { depth: n - 1, ..a }
         }
+    } else {
+        a
     }
-    a
 }
 
 // Y: no hold is left.
 fn given_up(a: Hold, t: usize) -> Hold
     ensures { result ≡ hold_for a no_wait t Y }
 {
-    if t < THREADS {
-        if a.depth < 2000 {
-            return Hold {
-                holder: 0,
-                depth: 0,
-            };
-        }
+    if t < THREADS && a.depth < 2000 {
+        Hold::default()
+    } else {
+        a
     }
-    a
 }
 
 // C: the holds that w remembers.
 fn taken_again(a: Hold, w: Waiting, t: usize) -> Hold
     ensures { result ≡ hold_for a w t C }
 {
-    if t < THREADS {
-        if a.depth < 2000 {
-            return Hold {
-                holder: t + 1,
-                depth: w.depth,
-            };
+    if t < THREADS && a.depth < 2000 {
+        Hold {
+            holder: t + 1,
+            depth: w.depth,
         }
+    } else {
+        a
     }
-    a
 }
 
 // Y on lock l: remembers the holds.
 fn waiting(w: Waiting, a: Hold, l: usize, t: usize) -> Waiting
     ensures { result ≡ wait_for w a l t Y }
 {
-    let n = depth_of(a, t);
     if l < LOCKS {
-        return Waiting {
+        Waiting {
             lock: l + 1,
-            depth: n,
+            depth: depth_of(a, t),
             notified: false,
-        };
+        }
+    } else {
+        w
     }
-    w
 }
 
 fn notified(w: Waiting, l: usize) -> Waiting
     ensures { result ≡ wait_for w no_hold l 0 F }
 {
     if l < LOCKS {
-        return Waiting {
-            lock: w.lock,
-            depth: w.depth,
+        Waiting {
             notified: true,
-        };
+            ..w
+        }
+    } else {
+        w
     }
-    w
 }
 
 fn back(w: Waiting, l: usize) -> Waiting
     ensures { result ≡ wait_for w no_hold l 0 C }
 {
-    if l < LOCKS {
-        return Waiting {
-            lock: 0,
-            depth: 0,
-            notified: false,
-        };
-    }
-    w
+    if l < LOCKS { Waiting::default() } else { w }
 }
 
 // ---- The turns. A letter that is none of a turn's breaks nothing there and leaves everything.
@@ -746,31 +657,28 @@ fn back(w: Waiting, l: usize) -> Waiting
 pub fn use_rule(c: Cell, locked: usize, x: Value) -> u8
     ensures { result ≡ use_rule c locked x }
 {
-    let b = use_checks(c, locked, x);
-    let row = row_at(0);
-    first_of(b, row)
+    first_of(use_checks(c, locked, x), ROWS[0])
 }
 
 // U, A, B: the cell alone.
 pub fn cell_turn(c: Cell, locked: usize, k: u8, x: Value, p: usize) -> CellTurn
     ensures { result ≡ cell_turn c locked k x p }
 {
-    let mut turn = CellTurn { rule: 0, cell: c };
-    if k == b'U' {
-        turn.rule = use_rule(c, locked, x);
-        turn.cell = used(c);
-    } else if k == b'A' {
-        let b = assign_checks(c);
-        let row = row_at(1);
-        turn.rule = first_of(b, row);
-        turn.cell = assigned(c, x, p);
-    } else if k == b'B' {
-        let b = prescient_assign_checks(c, x);
-        let row = row_at(9);
-        turn.rule = first_of(b, row);
-        turn.cell = prescient_assigned(c, x, p);
+    match k {
+        b'U' => CellTurn {
+            rule: use_rule(c, locked, x),
+            cell: used(c),
+        },
+        b'A' => CellTurn {
+            rule: first_of(assign_checks(c), ROWS[1]),
+            cell: assigned(c, x, p),
+        },
+        b'B' => CellTurn {
+            rule: first_of(prescient_assign_checks(c, x), ROWS[9]),
+            cell: prescient_assigned(c, x, p),
+        },
+        _ => CellTurn { rule: 0, cell: c },
     }
-    turn
 }
 
 // R, L: the reads of the cell. `front` is the slot at the queue's first place, `behind` the one behind its last.
@@ -785,33 +693,31 @@ pub fn reads_turn(
 ) -> ReadsTurn
     ensures { result ≡ reads_turn c front behind main k x p }
 {
-    let q = c.reads;
-    let s = oldest(q, front);
-    let mut turn = ReadsTurn {
-        rule: 0,
-        cell: c,
-        slot: behind,
-    };
-    if k == b'L' {
-        let b = load_checks(c, s, x);
-        let row = row_at(2);
-        turn.rule = first_of(b, row);
-        turn.cell = loaded(c, s, x, p);
-    } else if k == b'R' {
-        let b = read_checks(c, main, x);
-        let row = row_at(4);
-        let new = Slot {
-            value: x,
-            position: p,
-        };
-        turn.rule = first_of(b, row);
-        turn.cell = has_read(c, s, x, p);
-        turn.slot = new;
+    let s = oldest(c.reads, front);
+    match k {
+        b'L' => ReadsTurn {
+            rule: first_of(load_checks(c, s, x), ROWS[2]),
+            cell: loaded(c, s, x, p),
+            slot: behind,
+        },
+        b'R' => ReadsTurn {
+            rule: first_of(read_checks(c, main, x), ROWS[4]),
+            cell: has_read(c, s, x, p),
+            slot: Slot {
+                value: x,
+                position: p,
+            },
+        },
+        _ => ReadsTurn {
+            rule: 0,
+            cell: c,
+            slot: behind,
+        },
     }
-    turn
 }
 
 // S, P, W: the stores of the cell, and its variable in main memory. S has the position of its assign.
+// Kept: one record that the arms change; with a record of its own in each arm it stays a call, 7 % more instructions (docs/PERFORMANCE.md).
 pub fn stores_turn(
     c: Cell,
     front: Slot,
@@ -828,37 +734,31 @@ pub fn stores_turn(
         rule: 0,
         cell: c,
         slot: behind,
-        main: main,
+        main,
     };
-    if k == b'W' {
-        let q = c.stores;
-        let s = oldest(q, front);
-        let b = write_checks(c, s, x);
-        let row = row_at(5);
-        turn.rule = first_of(b, row);
-        turn.cell = has_written(c, x, p);
-        let m = Main { value: x };
-        turn.main = m;
-    } else if k == b'S' {
-        let b = store_checks(c, locked, x);
-        let row = row_at(3);
-        let new = Slot {
-            value: x,
-            position: c.assigned,
-        };
-        turn.rule = first_of(b, row);
-        turn.cell = stored(c, x, p);
-        turn.slot = new;
-    } else if k == b'P' {
-        let b = prescient_store_checks(c);
-        let row = row_at(8);
-        let new = Slot {
-            value: x,
-            position: p,
-        };
-        turn.rule = first_of(b, row);
-        turn.cell = prescient_stored(c, x, p);
-        turn.slot = new;
+    match k {
+        b'W' => {
+            turn.rule = first_of(write_checks(c, oldest(c.stores, front), x), ROWS[5]);
+            turn.cell = has_written(c, x, p);
+            turn.main = Main { value: x };
+        }
+        b'S' => {
+            turn.rule = first_of(store_checks(c, locked, x), ROWS[3]);
+            turn.cell = stored(c, x, p);
+            turn.slot = Slot {
+                value: x,
+                position: c.assigned,
+            };
+        }
+        b'P' => {
+            turn.rule = first_of(prescient_store_checks(c), ROWS[8]);
+            turn.cell = prescient_stored(c, x, p);
+            turn.slot = Slot {
+                value: x,
+                position: p,
+            };
+        }
+        _ => {}
     }
     turn
 }
@@ -876,32 +776,22 @@ pub fn lock_turn(
 ) -> LockTurn
     ensures { result ≡ lock_turn a locked threads any t k p }
 {
-    if k == b'K' {
-        let b = lock_checks(a, threads, any, t);
-        let row = row_at(6);
-        let rule = first_of(b, row);
-        let h = taken(a, t);
-        return LockTurn {
-            rule: rule,
-            hold: h,
+    match k {
+        b'K' => LockTurn {
+            rule: first_of(lock_checks(a, threads, any, t), ROWS[6]),
+            hold: taken(a, t),
             locked: p,
-        };
-    }
-    if k == b'N' {
-        let b = unlock_checks(a, any, t);
-        let row = row_at(7);
-        let rule = first_of(b, row);
-        let h = left(a, t);
-        return LockTurn {
-            rule: rule,
-            hold: h,
-            locked: locked,
-        };
-    }
-    LockTurn {
-        rule: 0,
-        hold: a,
-        locked: locked,
+        },
+        b'N' => LockTurn {
+            rule: first_of(unlock_checks(a, any, t), ROWS[7]),
+            hold: left(a, t),
+            locked,
+        },
+        _ => LockTurn {
+            rule: 0,
+            hold: a,
+            locked,
+        },
     }
 }
 
@@ -919,32 +809,32 @@ pub fn wait_turn(
 ) -> WaitTurn
     ensures { result ≡ wait_turn a w locked threads any t l k p }
 {
-    let mut turn = WaitTurn {
-        rule: 0,
-        hold: a,
-        wait: w,
-        locked: locked,
-    };
-    if k == b'C' {
-        let b = lock_checks(a, threads, any, t);
-        let row = row_at(12);
-        turn.rule = first_of(b, row);
-        turn.hold = taken_again(a, w, t);
-        turn.wait = back(w, l);
-        turn.locked = p;
-    } else if k == b'Y' {
-        let b = unlock_checks(a, any, t);
-        let row = row_at(10);
-        turn.rule = first_of(b, row);
-        turn.hold = given_up(a, t);
-        turn.wait = waiting(w, a, l, t);
-    } else if k == b'F' {
-        let b = notify_checks(a, t);
-        let row = row_at(11);
-        turn.rule = first_of(b, row);
-        turn.wait = notified(w, l);
+    match k {
+        b'C' => WaitTurn {
+            rule: first_of(lock_checks(a, threads, any, t), ROWS[12]),
+            hold: taken_again(a, w, t),
+            wait: back(w, l),
+            locked: p,
+        },
+        b'Y' => WaitTurn {
+            rule: first_of(unlock_checks(a, any, t), ROWS[10]),
+            hold: given_up(a, t),
+            wait: waiting(w, a, l, t),
+            locked,
+        },
+        b'F' => WaitTurn {
+            rule: first_of(notify_checks(a, t), ROWS[11]),
+            hold: a,
+            wait: notified(w, l),
+            locked,
+        },
+        _ => WaitTurn {
+            rule: 0,
+            hold: a,
+            wait: w,
+            locked,
+        },
     }
-    turn
 }
 
 // ---- An event of any letter.
@@ -1001,29 +891,29 @@ pub fn any_turn(
 ) -> Turn
     ensures { result ≡ turn_of a n any t l k x p }
 {
-    let q = a.reads;
-    let o = a.stores;
     let lock = lock_turn(a.hold, a.locked, n, any, t, k, p);
     let waits = wait_turn(lock.hold, a.wait, lock.locked, n, any, t, l, k, p);
     let alone = cell_turn(a.cell, a.locked, k, x, p);
-    let read = reads_turn(alone.cell, q.front, q.behind, a.main, k, x, p);
-    let store = stores_turn(read.cell, o.front, o.behind, a.main, a.locked, k, x, p);
+    let read = reads_turn(alone.cell, a.reads.front, a.reads.behind, a.main, k, x, p);
+    let store = stores_turn(
+        read.cell,
+        a.stores.front,
+        a.stores.behind,
+        a.main,
+        a.locked,
+        k,
+        x,
+        p,
+    );
     let locks = either(lock.rule, waits.rule);
-    let rule = either(either(locks, alone.rule), either(read.rule, store.rule));
-    let cell = store.cell;
-    let slot = read.slot;
-    let sent = store.slot;
-    let main = store.main;
-    let hold = waits.hold;
-    let wait = waits.wait;
     Turn {
-        rule: rule,
-        cell: cell,
-        read: slot,
-        store: sent,
-        main: main,
-        hold: hold,
-        wait: wait,
+        rule: either(either(locks, alone.rule), either(read.rule, store.rule)),
+        cell: store.cell,
+        read: read.slot,
+        store: store.slot,
+        main: store.main,
+        hold: waits.hold,
+        wait: waits.wait,
         locked: waits.locked,
     }
 }

@@ -5,8 +5,8 @@ use Rattle.judging.proofs.barred_rule.Goals as goal
 
 pub returns-then-is_barred : goal.returns-then-is_barred
 unfolding barred_rule
-returns-then-is_barred c = rw (← c.is_barred.ensures, c.if-is_barred.true, c.lead_at.ensures) refl
+returns-then-is_barred c = rw (← c.is_barred.ensures, c.if-is_barred.true) refl
 
-pub returns : goal.returns
+pub returns-else-is_barred : goal.returns-else-is_barred
 unfolding barred_rule
-returns c = rw (← c.is_barred.ensures, c.if-is_barred.false) refl
+returns-else-is_barred c = rw (← c.is_barred.ensures, c.if-is_barred.false) refl

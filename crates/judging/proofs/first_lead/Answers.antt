@@ -1,11 +1,12 @@
 -- `judging::first_lead` meets its contract.
+use mathlib.Core.Path.{refl}
 use Rattle.judging.proofs.first_lead.Goals as goal
 
 pub returns-then-b : goal.returns-then-b
-returns-then-b c = rw c.if-b.true c.lead_at.ensures
+returns-then-b c = rw c.if-b.true refl
 
 pub returns-then-b-2 : goal.returns-then-b-2
-returns-then-b-2 c = rw (c.if-b.false, c.if-b-2.true) c.lead_at-then-b-2.ensures
+returns-then-b-2 c = rw (c.if-b.false, c.if-b-2.true) refl
 
 pub returns-then-b-3 : goal.returns-then-b-3
-returns-then-b-3 c = rw (c.if-b.false, c.if-b-2.false, c.if-b-3.true) c.lead_at-then-b-3.ensures
+returns-then-b-3 c = rw (c.if-b.false, c.if-b-2.false, c.if-b-3.true) refl

@@ -17,5 +17,5 @@ returns-then-b-4 c = rw (c.if-b.false, c.if-b-2.false, c.if-b-3.false, c.if-b-4.
 pub returns-then-b-5 : goal.returns-then-b-5
 returns-then-b-5 c = rw (c.if-b.false, c.if-b-2.false, c.if-b-3.false, c.if-b-4.false, c.if-b-5.true) refl
 
-pub returns : goal.returns
-returns c = rw (c.if-b.false, c.if-b-2.false, c.if-b-3.false, c.if-b-4.false, c.if-b-5.false) refl
+pub returns-else-b-5 : goal.returns-else-b-5
+returns-else-b-5 c = rw (c.if-b.false, c.if-b-2.false, c.if-b-3.false, c.if-b-4.false, c.if-b-5.false) refl

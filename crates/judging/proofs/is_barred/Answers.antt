@@ -10,4 +10,4 @@ returns-then-w-eq0 c = sym (rw (c.if-w-eq0.true, and-false) refl)
 
 pub returns : goal.returns
 unfolding is_barred
-returns c = rw c.is_waiting-waits.ensures refl
+returns c = rw c.is_waiting.ensures refl

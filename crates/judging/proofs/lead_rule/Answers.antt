@@ -5,4 +5,4 @@ use Rattle.judging.proofs.lead_rule.Goals as goal
 
 pub returns : goal.returns
 unfolding lead_rule
-returns c = rw (c.first_lead.ensures, c.lead_checks-b.ensures) refl
+returns c = rw (c.first_lead.ensures, c.lead_checks.ensures) refl

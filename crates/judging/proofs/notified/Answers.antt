@@ -9,6 +9,6 @@ pub returns-then-l-lt-LOCKS : goal.returns-then-l-lt-LOCKS
 unfolding wait_for wait_after
 returns-then-l-lt-LOCKS c = rw (lt-ltb _ _ c.if-l-lt-LOCKS.true) refl
 
-pub returns : goal.returns
+pub returns-else-l-lt-LOCKS : goal.returns-else-l-lt-LOCKS
 unfolding wait_for wait_after
-returns c = rw (le-ltb _ _ c.if-l-lt-LOCKS.false) refl
+returns-else-l-lt-LOCKS c = rw (le-ltb _ _ c.if-l-lt-LOCKS.false) refl

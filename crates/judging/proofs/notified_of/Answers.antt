@@ -8,6 +8,6 @@ pub returns-then-l-w : goal.returns-then-l-w
 unfolding notified_of
 returns-then-l-w c = refl
 
-pub returns : goal.returns
+pub returns-else-l-w : goal.returns-else-l-w
 unfolding notified_of
-returns c = rw (not_above c.if-l-w.false) refl
+returns-else-l-w c = rw (not_above c.if-l-w.false) refl

@@ -8,6 +8,6 @@ pub returns-then-q-eq0 : goal.returns-then-q-eq0
 unfolding oldest_of
 returns-then-q-eq0 c = rw (eq-eqb _ _ c.if-q-eq0.true) refl
 
-pub returns : goal.returns
+pub returns-else-q-eq0 : goal.returns-else-q-eq0
 unfolding oldest_of
-returns c = rw (ne_eqb _ _ c.if-q-eq0.false) refl
+returns-else-q-eq0 c = rw (ne_eqb _ _ c.if-q-eq0.false) refl

@@ -8,6 +8,6 @@ pub returns-then-t-lt-THREADS : goal.returns-then-t-lt-THREADS
 unfolding others_hold
 returns-then-t-lt-THREADS c = rw (lt-ltb _ _ c.if-t-lt-THREADS.true) refl
 
-pub returns : goal.returns
+pub returns-else-t-lt-THREADS : goal.returns-else-t-lt-THREADS
 unfolding others_hold
-returns c = rw (le-ltb _ _ c.if-t-lt-THREADS.false) refl
+returns-else-t-lt-THREADS c = rw (le-ltb _ _ c.if-t-lt-THREADS.false) refl

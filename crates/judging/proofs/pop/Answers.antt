@@ -9,8 +9,5 @@ use Rattle.judging.proofs.pop.Goals as goal
 same : (q : Ring) {f n : ℕ} → f ≡ (q.first + 1) % 8 → n ≡ q.len - 1 → ◌≡◌ {A = Ring} (record { first = f; len = n }) (popped q)
 same q e d = rw (e, d) refl
 
-pub returns-then-n-gt0 : goal.returns-then-n-gt0
-returns-then-n-gt0 c = same c.args.q (omega arith) (omega arith)
-
 pub returns : goal.returns
-returns c = same c.args.q (omega arith) (omega arith)
+returns c = same c.args.q (omega arith) (omega (arith, c.saturating_sub.ensures))

@@ -6,18 +6,19 @@ use Rattle.state.proofs.LeafLaws.{depth_under}
 use native.Mathlib.Omega.{arith}
 use mathlib.Core.Path.{refl}
 use Rattle.judging.proofs.taken.Goals as goal
+use Rattle.judging.proofs.taken.Goals.{else-t-lt-THREADS-via-then-t-lt-THREADS+else-a-lt2000, else-t-lt-THREADS-via-else-t-lt-THREADS}
 
 pub overflow_add-result-then-a-lt2000 : goal.overflow_add-result-then-a-lt2000
-overflow_add-result-then-a-lt2000 c = let low = depth_under c.args.a c.args.t in omega arith
+overflow_add-result-then-a-lt2000 c = let low = depth_under c.args.a c.args.t in omega (arith, c.depth_of.ensures)
 
 pub returns-then-a-lt2000 : goal.returns-then-a-lt2000
 unfolding hold_for hold_after
-returns-then-a-lt2000 c = rw (← c.depth_of-n.ensures, lt-ltb _ _ c.if-t-lt-THREADS.true, lt-ltb _ _ c.if-a-lt2000.true) refl
-
-pub returns-else-a-lt2000 : goal.returns-else-a-lt2000
-unfolding hold_for hold_after
-returns-else-a-lt2000 c = rw (lt-ltb _ _ c.if-t-lt-THREADS.true, le-ltb _ _ c.if-a-lt2000.false) refl
+returns-then-a-lt2000 c = rw (← c.depth_of.ensures, lt-ltb _ _ c.if-t-lt-THREADS.true, lt-ltb _ _ c.if-a-lt2000.true) refl
 
 pub returns-else-t-lt-THREADS : goal.returns-else-t-lt-THREADS
 unfolding hold_for hold_after
-returns-else-t-lt-THREADS c = rw (le-ltb _ _ c.if-t-lt-THREADS.false) refl
+returns-else-t-lt-THREADS c =
+    elim c.else-t-lt-THREADS.branch [
+      | else-t-lt-THREADS-via-then-t-lt-THREADS+else-a-lt2000 w ↦ rw (lt-ltb _ _ w.if-t-lt-THREADS.true, le-ltb _ _ w.if-a-lt2000.false) refl
+      | else-t-lt-THREADS-via-else-t-lt-THREADS w ↦ rw (le-ltb _ _ w.if-t-lt-THREADS.false) refl
+    ]

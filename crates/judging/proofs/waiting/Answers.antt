@@ -7,8 +7,8 @@ use Rattle.judging.proofs.waiting.Goals as goal
 
 pub returns-then-l-lt-LOCKS : goal.returns-then-l-lt-LOCKS
 unfolding wait_for wait_after
-returns-then-l-lt-LOCKS c = rw (← c.depth_of-n.ensures, lt-ltb _ _ c.if-l-lt-LOCKS.true) refl
+returns-then-l-lt-LOCKS c = rw (← c.depth_of.ensures, lt-ltb _ _ c.if-l-lt-LOCKS.true) refl
 
-pub returns : goal.returns
+pub returns-else-l-lt-LOCKS : goal.returns-else-l-lt-LOCKS
 unfolding wait_for wait_after
-returns c = rw (le-ltb _ _ c.if-l-lt-LOCKS.false) refl
+returns-else-l-lt-LOCKS c = rw (le-ltb _ _ c.if-l-lt-LOCKS.false) refl

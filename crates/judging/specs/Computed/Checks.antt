@@ -1,5 +1,5 @@
 -- The checks of each row, from the parts of a state that an event looks at.
-use Rattle.std.specs.Prelude.{ℕ, ◌+◌, ◌-◌, Bool, false, not, cond, ◌&&◌, ◌||◌, List, [], ◌∷◌, ◌++◌, map, eqb, ltb, leb, ℤ, length, get_or, replicate}
+use Rattle.std.specs.Prelude.{ℕ, ◌+◌, ◌-◌, Bool, false, not, cond, ◌&&◌, ◌||◌, List, [], ◌∷◌, ◌++◌, eqb, ltb, leb, ℤ, length, get_or, replicate}
 use Rattle.rules.specs.declared.Slot.{Slot}
 use Rattle.rules.specs.Events.{eq_z}
 use Rattle.rules.specs.Limits.{most}
@@ -79,12 +79,9 @@ lead = 29 ∷ 30 ∷ 26 ∷ 27 ∷ 28 ∷ []
 abbrev pub filled : List ℕ → List ℕ
 filled ns = ns ++ replicate (5 - length ns) 0
 
--- the row of a letter behind them, and the table of all rows
+-- the row of a letter behind them
 unfoldable pub row_of : ℕ → List ℕ
 row_of k = filled (row_in (rows_behind []) k)
-
-unfoldable pub table : List (List ℕ)
-table = map (λ r. filled r.checks) (rows_behind [])
 
 -- the rule of a row at its first broken check; 0 where none is
 abbrev pub first_of : Checks → List ℕ → ℕ
