@@ -35,6 +35,7 @@ const LINE_ROOM: usize = 128;
 // ---- A line.
 
 // A line of a word and at most three numbers.
+// Kept: two functions, since one with an `Option<Value>` is no plainer: two more definitions in its clauses, and a `None` at each of five calls.
 fn row_line(out: &mut [u8], word: &[u8], ns: &[usize]) -> usize
     requires { (length word.now ≤ 16) × (length ns.now ≤ 3) }
     ensures { Wrote (room line_room (ended (word_row word.now ns.now))) out.old result out.new }
@@ -146,49 +147,37 @@ fn write_section(out: &mut [u8], w: u64) -> usize
 // ---- Lines one after the other.
 
 // The values of the first n variables in main memory.
-fn write_mains(out: &mut [u8], main: [Main; VARIABLES], n: usize) -> usize
+fn write_mains(out: &mut [u8], main: &[Main; VARIABLES], n: usize) -> usize
     requires { n ≤ 16 }
-    ensures { Wrote (write_all (main_lines (each (main_at main) (below n)))) out.old result out.new }
+    ensures { Wrote (write_all (main_lines (each (main_at main.now) (below n)))) out.old result out.new }
 {
-    let mut a: usize = 0;
-    let mut v: usize = 0;
-    while v < n {
-        let m = main[v];
-        let k = write_main(&mut out[a..], v, m);
-        a += k;
-        v += 1;
+    let mut a = 0;
+    for v in 0..n {
+        a += write_main(&mut out[a..], v, main[v]);
     }
     a
 }
 
 // The usable copies of thread t, of the first n variables.
-fn write_thread(out: &mut [u8], copies: [Cached; CELLS], t: usize, n: usize) -> usize
+fn write_thread(out: &mut [u8], copies: &[Cached; CELLS], t: usize, n: usize) -> usize
     requires { (t < 8) × (n ≤ 16) }
-    ensures { Wrote (write_all (copy_lines (each (copy_at copies t) (below n)))) out.old result out.new }
+    ensures { Wrote (write_all (copy_lines (each (copy_at copies.now t) (below n)))) out.old result out.new }
 {
-    let mut a: usize = 0;
-    let mut v: usize = 0;
-    while v < n {
-        let i = VARIABLES * t + v;
-        let c = copies[i];
-        let b = write_copy(&mut out[a..], t, v, c);
-        a += b;
-        v += 1;
+    let mut a = 0;
+    for v in 0..n {
+        a += write_copy(&mut out[a..], t, v, copies[VARIABLES * t + v]);
     }
     a
 }
 
 // The usable copies of the first m threads, by thread then variable, of the first n variables.
-fn write_copies(out: &mut [u8], copies: [Cached; CELLS], n: usize, m: usize) -> usize
+fn write_copies(out: &mut [u8], copies: &[Cached; CELLS], n: usize, m: usize) -> usize
     requires { (n ≤ 16) × (m ≤ 8) }
-    ensures { Wrote (write_all (copy_lines (each (copies_at copies n) (below m)))) out.old result out.new }
+    ensures { Wrote (write_all (copy_lines (each (copies_at copies.now n) (below m)))) out.old result out.new }
 {
-    let mut a: usize = 0;
-    let mut t: usize = 0;
-    while t < m {
-        let b = write_thread(&mut out[a..], copies, t, n);
-        a += b;
-        t += 1;
+    let mut a = 0;
+    for t in 0..m {
+        a += write_thread(&mut out[a..], copies, t, n);
     }
     a
 }
@@ -200,11 +189,9 @@ pub fn write_memories(out: &mut [u8], n: usize, h: Counts, m: Memories) -> usize
     if !rules::is_allowed(Course::Full, h) {
         return 0;
     }
-    let main = m.main;
-    let copies = m.copies;
     let a = write_accepted(out, n);
-    let b = write_mains(&mut out[a..], main, h.variables);
-    let c = write_copies(&mut out[a + b..], copies, h.variables, h.threads);
+    let b = write_mains(&mut out[a..], &m.main, h.variables);
+    let c = write_copies(&mut out[a + b..], &m.copies, h.variables, h.threads);
     a + b + c
 }
 
@@ -212,12 +199,9 @@ pub fn write_memories(out: &mut [u8], n: usize, h: Counts, m: Memories) -> usize
 pub fn write_sections(out: &mut [u8], entries: &[u64]) -> usize
     ensures { Wrote (write_all (entry_lines entries.now)) out.old result out.new }
 {
-    let mut a: usize = 0;
-    let mut i: usize = 0;
-    while i < entries.len() {
-        let k = write_section(&mut out[a..], entries[i]);
-        a += k;
-        i += 1;
+    let mut a = 0;
+    for w in entries {
+        a += write_section(&mut out[a..], *w);
     }
     a
 }

@@ -16,20 +16,14 @@ slice_bounds-write_thread-start c = listed_place _ _ _ _ _ _ c.loop-t.invariant
 pub overflow_add-a : goal.overflow_add-a
 overflow_add-a c =
     let l = c.loop-t in
-    let w = c.write_thread-b in
+    let w = c.write_thread-a in
     let n = listed_step _ _ _ _ _ _ l.invariant (omega arith) _ (copies_more _ l.t) (fit_copies _) w.new.out w.result w.ensures in
     omega (arith, listed_place _ _ _ _ _ _ n, listed_length _ _ _ _ _ _ n)
-
-pub overflow_add-t : goal.overflow_add-t
-overflow_add-t c = omega arith
-
-pub loop-t-smaller : goal.loop-t-smaller
-loop-t-smaller c = omega arith
 
 pub loop-t-preserved : goal.loop-t-preserved
 loop-t-preserved c =
     let l = c.loop-t in
-    let w = c.write_thread-b in
+    let w = c.write_thread-a in
     listed_step _ _ _ _ _ _ l.invariant (omega arith) _ (copies_more _ l.t) (fit_copies _) w.new.out w.result w.ensures
 
 pub shape_of-out : goal.shape_of-out

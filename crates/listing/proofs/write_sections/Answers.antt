@@ -6,38 +6,32 @@ use Rattle.listing.proofs.LineLaws.{listed_start, listed_place, listed_length, l
 use Rattle.listing.proofs.ListLaws.{entries_none, entries_more, entries_all, fit_sections}
 use Rattle.listing.proofs.write_sections.Goals as goal
 
-pub loop-i-init : goal.loop-i-init
-loop-i-init c = listed_start _ _ _ (fit_sections _) (entries_none c.args.entries.now)
+pub loop-w-init : goal.loop-w-init
+loop-w-init c = listed_start _ _ _ (fit_sections _) (entries_none c.args.entries.now)
 
 pub slice_bounds-write_section-count : goal.slice_bounds-write_section-count
-slice_bounds-write_section-count c = listed_place _ _ _ _ _ _ c.loop-i.invariant
+slice_bounds-write_section-count c = listed_place _ _ _ _ _ _ c.loop-w.invariant
 
 pub slice_bounds-write_section-start : goal.slice_bounds-write_section-start
-slice_bounds-write_section-start c = listed_place _ _ _ _ _ _ c.loop-i.invariant
+slice_bounds-write_section-start c = listed_place _ _ _ _ _ _ c.loop-w.invariant
 
 pub overflow_add-a : goal.overflow_add-a
 overflow_add-a c =
-    let l = c.loop-i in
-    let w = c.write_section-k in
-    let n = listed_step _ _ _ _ _ _ l.invariant (omega arith) _ (entries_more _ l.i (omega arith)) (fit_sections _) w.new.out w.result (wrote_one _ _ _ _ w.ensures) in
+    let l = c.loop-w in
+    let w = c.write_section-a in
+    let n = listed_step _ _ _ _ _ _ l.invariant (omega arith) _ (entries_more _ l.w-index (omega arith)) (fit_sections _) w.new.out w.result (wrote_one _ _ _ _ w.ensures) in
     omega (arith, listed_place _ _ _ _ _ _ n, listed_length _ _ _ _ _ _ n)
 
-pub overflow_add-i : goal.overflow_add-i
-overflow_add-i c = omega arith
-
-pub loop-i-smaller : goal.loop-i-smaller
-loop-i-smaller c = omega arith
-
-pub loop-i-preserved : goal.loop-i-preserved
-loop-i-preserved c =
-    let l = c.loop-i in
-    let w = c.write_section-k in
-    listed_step _ _ _ _ _ _ l.invariant (omega arith) _ (entries_more _ l.i (omega arith)) (fit_sections _) w.new.out w.result (wrote_one _ _ _ _ w.ensures)
+pub loop-w-preserved : goal.loop-w-preserved
+loop-w-preserved c =
+    let l = c.loop-w in
+    let w = c.write_section-a in
+    listed_step _ _ _ _ _ _ l.invariant (omega arith) _ (entries_more _ l.w-index (omega arith)) (fit_sections _) w.new.out w.result (wrote_one _ _ _ _ w.ensures)
 
 pub shape_of-out : goal.shape_of-out
-shape_of-out c = listed_length _ _ _ _ _ _ c.loop-i.invariant
+shape_of-out c = listed_length _ _ _ _ _ _ c.loop-w.invariant
 
 pub returns : goal.returns
 returns c =
     let ws = c.args.entries.now in
-    wrote_as (entry_lines (take (length ws) ws)) (entry_lines ws) _ _ _ (entries_all ws) (listed_end _ _ _ _ _ _ c.loop-i.invariant (omega arith))
+    wrote_as (entry_lines (take (length ws) ws)) (entry_lines ws) _ _ _ (entries_all ws) (listed_end _ _ _ _ _ _ c.loop-w.invariant (omega arith))

@@ -16,20 +16,14 @@ slice_bounds-write_copy-start c = listed_place _ _ _ _ _ _ c.loop-v.invariant
 pub overflow_add-a : goal.overflow_add-a
 overflow_add-a c =
     let l = c.loop-v in
-    let w = c.write_copy-b in
+    let w = c.write_copy-a in
     let n = listed_step _ _ _ _ _ _ l.invariant (omega arith) _ (copies_more _ l.v) (fit_copies _) w.new.out w.result w.ensures in
     omega (arith, listed_place _ _ _ _ _ _ n, listed_length _ _ _ _ _ _ n)
-
-pub overflow_add-v : goal.overflow_add-v
-overflow_add-v c = omega arith
-
-pub loop-v-smaller : goal.loop-v-smaller
-loop-v-smaller c = omega arith
 
 pub loop-v-preserved : goal.loop-v-preserved
 loop-v-preserved c =
     let l = c.loop-v in
-    let w = c.write_copy-b in
+    let w = c.write_copy-a in
     listed_step _ _ _ _ _ _ l.invariant (omega arith) _ (copies_more _ l.v) (fit_copies _) w.new.out w.result w.ensures
 
 pub shape_of-out : goal.shape_of-out
