@@ -1,2 +1,4 @@
+pub mod WalkLaws
 pub mod VolatileLaws
 pub mod TraceLaws
+pub mod Exits

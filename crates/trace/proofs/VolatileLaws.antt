@@ -1,62 +1,33 @@
--- Laws of the `V` line: the walk along its numbers, what a right one names, and counts with these volatile variables.
-use mathlib.Core.Path.{◌≡◌, refl, sym, ap, ◌∙◌}
-use mathlib.Core.Bool.{Bool, true, false, not, cond, ◌&&◌, false≢true}
+-- Laws of the `V` line: what a right one names, and counts with these volatile variables.
+use mathlib.Core.Path.{◌≡◌, refl, sym, ap, ◌∙◌, subst}
+use mathlib.Core.Bool.{Bool, true, false, not, cond, ◌&&◌}
 use mathlib.Core.List.{List, [], ◌∷◌}
 use mathlib.Core.Logic.{⊎_elim}
 use Prim.Native.Nat.{ℕ, zero, suc, ◌≤◌, ◌<◌, ◌+◌}
 use native.Mathlib.Omega.{arith}
-use native.Mathlib.Numerals.{add-one}
 use borrow.Author.Tests.{le-leb, leb-true, ltb-true}
 use lib.Dec.{eqb, ltb, leb}
-use lib.ListN.{length, get_or, drop, set, length-set, length-drop, drop_of_length-le, get_or-replicate, get_or-eq_default}
-use lib.Seq.{drop-cons, get_or-set_same, get_or-set_other}
+use lib.ListN.{length, get_or, drop, set, length-set, get_or-replicate, get_or-eq_default}
+use lib.Seq.{get_or-set_same, get_or-set_other}
+use Rattle.std.proofs.Common.{Option, Some, None}
 use Rattle.rules.specs.declared.Counts.{Counts}
 use Rattle.rules.specs.Limits.{Limits, full, no_volatiles, with_flags, volatile, any_volatile, stray_volatile, allowed}
 use Rattle.rules.proofs.Laws.{some_has, some_none, none_some}
 use Rattle.rules.proofs.Bounds.{declares}
-use Rattle.lines.specs.Lines.{split_on, letter}
+use Rattle.lines.specs.Lines.{letter}
 use Rattle.lines.proofs.PartLaws.{lt_or_le}
-use Rattle.lines.proofs.FieldLaws.{Along, along_more, split_some}
-use Rattle.decimal.specs.declared.Natural.{Natural}
-use Rattle.decimal.specs.declared.Natural.TheVariants as natural
 use Rattle.decimal.specs.Decimal.{natural_of}
-use Rattle.trace.specs.declared.VolatileLine.{VolatileLine}
-use Rattle.trace.specs.Trace.{bad_volatiles, flag_line, rising_of, with_variable, volatiles_from, volatiles_of}
-
--- ---- the numbers of a line with the fields fs, of which the first is the letter
-
-module _ (v low : ℕ) (g : List Bool) (i : ℕ) (fs : List (List ℕ)) where
-  pub flags_step : (n : ℕ) → i + 1 < length fs → rising_of v low (natural_of (get_or fs (i + 1) [])) ≡ natural.Of n
-      → volatiles_from v low g (drop (i + 1) fs) ≡ volatiles_from v (n + 1) (set g n true) (drop (i + 1 + 1) fs)
-  unfolding volatiles_from
-  flags_step n h e = rw (drop-cons fs (i + 1) [] h, e, add-one (i + 1))
-
-  pub flags_bad : i + 1 < length fs → rising_of v low (natural_of (get_or fs (i + 1) [])) ≡ natural.Bad → volatiles_from v low g (drop (i + 1) fs) ≡ bad_volatiles
-  unfolding volatiles_from
-  flags_bad h e = rw (drop-cons fs (i + 1) [] h, e)
-
-  pub flags_end : length fs ≤ i + 1 → volatiles_from v low g (drop (i + 1) fs) ≡ flag_line g
-  unfolding volatiles_from
-  flags_end h = rw (drop_of_length-le fs {i = i + 1} h)
-
--- a walk along the fields is at one of them, and at the last where it is at the end
-pub along_at : (s : List ℕ) (i e : ℕ) → Along s i e → i < length (split_on 32 s)
-along_at s i e w =
-    let f = split_some 32 (drop w.start s) in
-    omega (arith, ap length (w.fields ∙ f.2), length-drop i (split_on 32 s))
-
-pub along_last : (s : List ℕ) (i e : ℕ) → Along s i e → length s ≤ e → length (split_on 32 s) ≤ i + 1
-along_last s i e w h = ⊎_elim (λ l. let k = along_more s i e w l in absurd (omega arith)) (λ l. l) (lt_or_le (i + 1) (length (split_on 32 s)))
+use Rattle.trace.specs.Trace.{number_within, with_number, volatiles_from, volatiles_of}
 
 -- a number of the line is a declared variable
-pub rising_below : (v low : ℕ) (x : Natural) (n : ℕ) → rising_of v low x ≡ natural.Of n → n < v
-rising_below v low natural.Bad n h = absurd (let z : ◌≡◌ {A = ℕ} 0 1 = cc in omega arith)
-rising_below v low (natural.Of k) n h = by (leb low k) (ltb k v) refl h
+number_below : (low high : ℕ) (x : Option ℕ) (n : ℕ) → number_within low high x ≡ Some n → n < high
+number_below low high None n h = cc
+number_below low high (Some k) n h = by (leb low k) (ltb k high) refl h
   where
-    by : (p q : Bool) → ltb k v ≡ q → cond (p && q) (natural.Of k) natural.Bad ≡ natural.Of n → n < v
-    by true true e h = let z : k ≡ n = cc in omega (arith, z, ltb-true k v e)
-    by true false e h = absurd (let z : ◌≡◌ {A = ℕ} 0 1 = cc in omega arith)
-    by false q e h = absurd (let z : ◌≡◌ {A = ℕ} 0 1 = cc in omega arith)
+    by : (p q : Bool) → ltb k high ≡ q → cond (p && q) (Some k) None ≡ Some n → n < high
+    by true true e h = let z : k ≡ n = cc in omega (arith, z, ltb-true k high e)
+    by true false e h = cc
+    by false q e h = cc
 
 -- ---- the flags: one for each variable that a trace may have, none of them for one that is not declared
 
@@ -76,33 +47,31 @@ flags_set v n g h w = record {
   stray = λ i k. get_or-set_other g n i true false (λ e. omega arith) ∙ w.stray i k;
 }
 
-flags_from : (v low : ℕ) (g : List Bool) (fs : List (List ℕ)) → Flags v g → Flags v (volatiles_from v low g fs).volatiles
+flags_from : (v low : ℕ) (g : List Bool) (fs : List (List ℕ)) → Flags v g → (r : List Bool) → volatiles_from v low g fs ≡ Some r → Flags v r
 unfolding volatiles_from
-flags_from v low g [] w = w
-flags_from v low g (f ∷ fs) w =
-    by (rising_of v low (natural_of f)) (rising_below v low (natural_of f)) (λ n h. flags_from v (n + 1) (set g n true) fs (flags_set v n g h w))
+flags_from v low g [] w r e = let q : g ≡ r = cc in subst (Flags v) q w
+flags_from v low g (f ∷ fs) w r e =
+    by (number_within low v (natural_of f)) (number_below low v (natural_of f)) (λ n h. flags_from v (n + 1) (set g n true) fs (flags_set v n g h w) r) e
   where
-    by : (x : Natural) → ((n : ℕ) → x ≡ natural.Of n → n < v) → ((n : ℕ) → n < v → Flags v (volatiles_from v (n + 1) (set g n true) fs).volatiles)
-        → Flags v (with_variable x (λ n. volatiles_from v (n + 1) (set g n true) fs)).volatiles
-    by natural.Bad b r = flags_none v
-    by (natural.Of n) b r = r n (b n refl)
+    by : (x : Option ℕ) → ((n : ℕ) → x ≡ Some n → n < v) → ((n : ℕ) → n < v → volatiles_from v (n + 1) (set g n true) fs ≡ Some r → Flags v r)
+        → with_number x (λ n. volatiles_from v (n + 1) (set g n true) fs) ≡ Some r → Flags v r
+    by None b k e = cc
+    by (Some n) b k e = k n (b n refl) e
 
-pub volatiles_flags : (v : ℕ) (fs : List (List ℕ)) → Flags v (volatiles_of v fs).volatiles
+-- the flags of a right line
+pub volatiles_flags : (v : ℕ) (fs : List (List ℕ)) (r : List Bool) → volatiles_of v fs ≡ Some r → Flags v r
 unfolding volatiles_of
-volatiles_flags v fs = by (eqb (letter (get_or fs 0 [])) 86) (ltb 1 (length fs)) (volatiles_from v 0 no_volatiles (drop 1 fs)) (flags_from v 0 no_volatiles (drop 1 fs) (flags_none v))
+volatiles_flags v fs r e = by (eqb (letter (get_or fs 0 [])) 86) (ltb 1 (length fs)) e
   where
-    by : (p q : Bool) (r : VolatileLine) → Flags v r.volatiles → Flags v (cond p (cond q r bad_volatiles) bad_volatiles).volatiles
-    by true true r w = w
-    by true false r w = flags_none v
-    by false q r w = flags_none v
+    by : (p q : Bool) → cond p (cond q (volatiles_from v 0 no_volatiles (drop 1 fs)) None) None ≡ Some r → Flags v r
+    by true true e = flags_from v 0 no_volatiles (drop 1 fs) (flags_none v) r e
+    by true false e = cc
+    by false q e = cc
 
 -- ---- a right line names a variable
 
-abbrev pub Named : VolatileLine → Type 0
-Named r = r.ok ≡ true → (k : ℕ) × (k < full.variables) × (get_or r.volatiles k false ≡ true)
-
-named_bad : Named bad_volatiles
-named_bad e = absurd (false≢true e)
+abbrev pub Named : List Bool → Type 0
+Named r = (k : ℕ) × (k < full.variables) × (get_or r k false ≡ true)
 
 -- a flag that is set stays set
 set_kept : (g : List Bool) (n k : ℕ) → get_or g k false ≡ true → get_or (set g n true) k false ≡ true
@@ -112,35 +81,35 @@ set_kept (b ∷ bs) zero (suc k) h = h
 set_kept (b ∷ bs) (suc n) zero h = h
 set_kept (b ∷ bs) (suc n) (suc k) h = set_kept bs n k h
 
-named_from : (v low k : ℕ) (g : List Bool) (fs : List (List ℕ)) → k < full.variables → get_or g k false ≡ true → Named (volatiles_from v low g fs)
+named_from : (v low k : ℕ) (g : List Bool) (fs : List (List ℕ)) → k < full.variables → get_or g k false ≡ true → (r : List Bool) → volatiles_from v low g fs ≡ Some r → Named r
 unfolding volatiles_from
-named_from v low k g [] h t = λ e. (k, h, t)
-named_from v low k g (f ∷ fs) h t = by (rising_of v low (natural_of f)) (λ n. named_from v (n + 1) k (set g n true) fs h (set_kept g n k t))
+named_from v low k g [] h t r e = let q : g ≡ r = cc in subst Named q (k, h, t)
+named_from v low k g (f ∷ fs) h t r e = by (number_within low v (natural_of f)) (λ n. named_from v (n + 1) k (set g n true) fs h (set_kept g n k t) r) e
   where
-    by : (x : Natural) → ((n : ℕ) → Named (volatiles_from v (n + 1) (set g n true) fs)) → Named (with_variable x (λ n. volatiles_from v (n + 1) (set g n true) fs))
-    by natural.Bad r = named_bad
-    by (natural.Of n) r = r n
+    by : (x : Option ℕ) → ((n : ℕ) → volatiles_from v (n + 1) (set g n true) fs ≡ Some r → Named r) → with_number x (λ n. volatiles_from v (n + 1) (set g n true) fs) ≡ Some r → Named r
+    by None k e = cc
+    by (Some n) k e = k n e
 
-named_some : (v : ℕ) → v ≤ full.variables → (fs : List (List ℕ)) → 1 < length fs → Named (volatiles_from v 0 no_volatiles (drop 1 fs))
+named_some : (v : ℕ) → v ≤ full.variables → (fs : List (List ℕ)) → 1 < length fs → (r : List Bool) → volatiles_from v 0 no_volatiles (drop 1 fs) ≡ Some r → Named r
 unfolding volatiles_from
-named_some v l [] h = absurd (omega arith)
-named_some v l (f ∷ []) h = absurd (omega arith)
-named_some v l (f ∷ f' ∷ fs) h = by (rising_of v 0 (natural_of f')) (rising_below v 0 (natural_of f'))
+named_some v l [] h r e = absurd (omega arith)
+named_some v l (f ∷ []) h r e = absurd (omega arith)
+named_some v l (f ∷ f' ∷ fs) h r e = by (number_within 0 v (natural_of f')) (number_below 0 v (natural_of f')) e
   where
-    by : (x : Natural) → ((n : ℕ) → x ≡ natural.Of n → n < v) → Named (with_variable x (λ n. volatiles_from v (n + 1) (set no_volatiles n true) fs))
-    by natural.Bad b = named_bad
-    by (natural.Of n) b =
+    by : (x : Option ℕ) → ((n : ℕ) → x ≡ Some n → n < v) → with_number x (λ n. volatiles_from v (n + 1) (set no_volatiles n true) fs) ≡ Some r → Named r
+    by None b e = cc
+    by (Some n) b e =
         let k : n < full.variables = omega (arith, b n refl) in
-        named_from v (n + 1) n (set no_volatiles n true) fs k (get_or-set_same no_volatiles n true false k)
+        named_from v (n + 1) n (set no_volatiles n true) fs k (get_or-set_same no_volatiles n true false k) r e
 
-pub volatiles_named : (v : ℕ) → v ≤ full.variables → (fs : List (List ℕ)) → Named (volatiles_of v fs)
+pub volatiles_named : (v : ℕ) → v ≤ full.variables → (fs : List (List ℕ)) (r : List Bool) → volatiles_of v fs ≡ Some r → Named r
 unfolding volatiles_of
-volatiles_named v l fs = by (eqb (letter (get_or fs 0 [])) 86) (ltb 1 (length fs)) refl
+volatiles_named v l fs r e = by (eqb (letter (get_or fs 0 [])) 86) (ltb 1 (length fs)) refl e
   where
-    by : (p q : Bool) → ltb 1 (length fs) ≡ q → Named (cond p (cond q (volatiles_from v 0 no_volatiles (drop 1 fs)) bad_volatiles) bad_volatiles)
-    by true true e = named_some v l fs (ltb-true 1 (length fs) e)
-    by true false e = named_bad
-    by false q e = named_bad
+    by : (p q : Bool) → ltb 1 (length fs) ≡ q → cond p (cond q (volatiles_from v 0 no_volatiles (drop 1 fs)) None) None ≡ Some r → Named r
+    by true true z e = named_some v l fs (ltb-true 1 (length fs) z) r e
+    by true false z e = cc
+    by false q z e = cc
 
 -- ---- counts with these flags
 

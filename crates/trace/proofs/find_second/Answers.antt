@@ -1,28 +1,33 @@
--- `trace::find_second` meets its contract: line 2.
-use mathlib.Core.Path.{sym, ap, ◌∙◌}
-use Prim.Native.Nat.{◌+◌}
-use native.Mathlib.Omega.{arith}
-use lib.Seq.{length-take-le}
-use Rattle.trace.specs.declared.GuardLine.{GuardLine}
-use Rattle.trace.specs.Trace.{with_guards}
+use Rattle.std.proofs.Common.{sym, ap, ◌∙◌, drop, length, Err}
+use Rattle.std.proofs.lemmas.Result.{err_from_is_err_and}
+use Rattle.lines.proofs.PartLaws.{rest}
+use Rattle.trace.proofs.Exits.{none_at_err, some_at_ok}
 use Rattle.trace.proofs.TraceLaws.{second_none, second_some}
 use Rattle.trace.proofs.find_second.Goals as goal
 
-pub returns-then-s-b : goal.returns-then-s-b
-returns-then-s-b c =
+pub returns-then-rest-b : goal.returns-then-rest-b
+returns-then-rest-b c =
     let a = c.args in
-    let f = c.find-b in
-    c.refuse.ensures ∙ second_none a.s.now a.at a.e f.result a.h f.ensures c.if-s-b.true
+    let s = a.s.now in
+    let e = rest a.at s in
+    second_none (drop a.at s) a.at (length s) c.find-b.result a.head (rw e at c.find-b.ensures) (rw e at c.if-rest-b.true)
 
-pub slice_bounds-read_guards-end : goal.slice_bounds-read_guards-end
-slice_bounds-read_guards-end c =
+pub returns-in_err-guards : goal.returns-in_err-guards
+returns-in_err-guards c =
     let a = c.args in
-    sym (length-take-le c.find-b.result a.s.now (omega arith))
+    let s = a.s.now in
+    let e = rest a.at s in
+    let w = second_some (drop a.at s) a.at (length s) c.find-b.result a.head (rw e at c.find-b.ensures) (rw e at c.if-rest-b.false) in
+    let o = none_at_err c.read_guards.result _ _ _ c.in_err-guards.was c.ok_or.ensures.value in
+    let g = sym (rw e at c.read_guards.ensures) ∙ o.0 in
+    let p = err_from_is_err_and c.from_residual.result c.from_residual.ensures.1 in
+    rw (p.1, p.2) (ap Err o.1 ∙ (rw g at w))
 
 pub returns : goal.returns
 returns c =
     let a = c.args in
-    let f = c.find-b in
-    c.with_guards.ensures
-    ∙ ap (λ (g : GuardLine). with_guards (a.at + f.result + 1) a.e a.h g) c.read_guards-g.ensures
-    ∙ second_some a.s.now a.at a.e f.result a.h f.ensures (omega arith)
+    let s = a.s.now in
+    let e = rest a.at s in
+    let w = second_some (drop a.at s) a.at (length s) c.find-b.result a.head (rw e at c.find-b.ensures) (rw e at c.if-rest-b.false) in
+    let g = sym (rw e at c.read_guards.ensures) ∙ some_at_ok c.read_guards.result _ _ _ c.in_ok-guards.was c.ok_or.ensures.value in
+    rw g at w

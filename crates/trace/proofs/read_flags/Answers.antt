@@ -1,88 +1,48 @@
--- `trace::read_flags` meets its contract: at each turn the i-th field, for some i, ends at `e`, and what it and those before it name is stored.
-use mathlib.Core.Path.{refl, sym, ap, ◌∙◌}
-use mathlib.Core.List.{List}
-use Prim.Native.Nat.{ℕ, ◌<◌, ◌+◌, ◌-◌}
-use native.Mathlib.Omega.{arith}
-use lib.ListN.{length, take, drop}
+use Rattle.std.proofs.Common.{◌≡◌, rules, tests, sym, ap, ◌∙◌, arith, nat_eq, length, drop, set, List, true, length-set}
+use Rattle.std.proofs.lemmas.List.{length_push}
+use Rattle.std.proofs.lemmas.Iterator.Adapters.{YieldsList-from_skip}
+use Rattle.std.proofs.lemmas.Iterator.Consumers.{YieldsList-at, YieldsList-turn, YieldsList-end}
+use Rattle.std.proofs.lemmas.Iterator.Splits.{YieldsList-from_slice_split}
 use Rattle.lines.specs.Lines.{split_on}
-use Rattle.decimal.specs.Decimal.{natural_of}
-use Rattle.trace.specs.Trace.{rising_of}
-use Rattle.trace.proofs.VolatileLaws.{flags_step, flags_bad, flags_end, along_at, along_last, rising_below}
-use Rattle.lines.proofs.FieldLaws.{along_start, along_next, along_field, inside}
+use Rattle.lines.proofs.StdLaws.{split_is}
+use Rattle.trace.proofs.WalkLaws.{set_past, volatiles_some, volatiles_none, volatiles_end}
 use Rattle.trace.proofs.read_flags.Goals as goal
+use Rattle.trace.proofs.read_flags.Goals.{then-n-lt-VARIABLES, else-n-lt-VARIABLES}
 
-pub loop-e-init : goal.loop-e-init
-loop-e-init c = (0, along_start c.args.s.now c.space_from-e.result c.space_from-e.ensures, refl)
-
-pub slice_bounds-read_rising-count : goal.slice_bounds-read_rising-count
-slice_bounds-read_rising-count c =
+pub returns-in_err-n : goal.returns-in_err-n
+returns-in_err-n c =
     let s = c.args.s.now in
-    let l = c.loop-e in
-    omega (arith, c.space_from-e-in-loop-e.ensures, inside 32 s (l.e + 1) c.space_from-e-in-loop-e.result c.space_from-e-in-loop-e.ensures (omega arith))
+    let ys = drop 1 (split_on 32 s) in
+    let l = c.loop-field in
+    let k = c.skip-field-items.ensures in
+    let p = c.split.ensures in
+    let i = c.into_iter-field-iterator.ensures.into_iter_gives in
+    let t = YieldsList-turn (YieldsList-at i (YieldsList-from_skip 1 (YieldsList-at k.source (YieldsList-from_slice_split _ (λ x. nat_eq x 32) s p.rest p.done p.closure (λ x b q k. search (rules, tests)))) k.count)) l.yielded _ l.yielded_by _ _ c.in-Some.field c.in-Some.is c.next.ensures.steps in
+    let f = volatiles_none c.args.variables l.low (length l.yielded) l.volatiles ys c.in-Some.field.now (rw (← split_is 32 s) at t) (sym c.read_within.ensures ∙ c.in_err-n.was) in
+    c.from_residual.ensures ∙ sym (l.invariant.same ∙ f)
 
-pub slice_bounds-read_rising-start : goal.slice_bounds-read_rising-start
-slice_bounds-read_rising-start c =
+pub loop-field-preserved : goal.loop-field-preserved
+loop-field-preserved c =
     let s = c.args.s.now in
-    let l = c.loop-e in
-    omega (arith, c.space_from-e-in-loop-e.ensures, inside 32 s (l.e + 1) c.space_from-e-in-loop-e.result c.space_from-e-in-loop-e.ensures (omega arith))
-
-pub slice_bounds-read_rising-end : goal.slice_bounds-read_rising-end
-slice_bounds-read_rising-end c =
-    let s = c.args.s.now in
-    let l = c.loop-e in
-    omega (arith, c.space_from-e-in-loop-e.ensures, inside 32 s (l.e + 1) c.space_from-e-in-loop-e.result c.space_from-e-in-loop-e.ensures (omega arith))
-
-pub returns-in_default : goal.returns-in_default
-returns-in_default c =
-    let a = c.args in
-    let l = c.loop-e in
-    let s = a.s.now in
-    let more : l.e < length s = c.loop-e-test.true in
-    let f = c.space_from-e-in-loop-e in
-    let i = l.invariant.0 in
-    let k = along_field s i l.e l.invariant.1 more f.result f.ensures in
-    let n = along_at s (i + 1) f.result (along_next s i l.e l.invariant.1 more f.result f.ensures) in
-    let e = sym (c.read_rising.ensures ∙ ap (λ (t : List ℕ). rising_of a.v l.low (natural_of t)) (sym k)) ∙ c.in_default.is in
-    c.bad_volatiles.ensures ∙ sym (l.invariant.2 ∙ flags_bad a.v l.low l.g i (split_on 32 s) n e)
-
-pub bounds-g-n : goal.bounds-g-n
-bounds-g-n c =
-    let a = c.args in
-    let l = c.loop-e in
-    let f = c.space_from-e-in-loop-e.result in
-    let n = c.in-Of in
-    let k = rising_below a.v l.low (natural_of (take (f - (l.e + 1)) (drop (l.e + 1) a.s.now))) n.n (sym c.read_rising.ensures ∙ n.is) in
-    omega (arith, k)
-
-pub overflow_add-low : goal.overflow_add-low
-overflow_add-low c =
-    let a = c.args in
-    let l = c.loop-e in
-    let f = c.space_from-e-in-loop-e.result in
-    let n = c.in-Of in
-    let k = rising_below a.v l.low (natural_of (take (f - (l.e + 1)) (drop (l.e + 1) a.s.now))) n.n (sym c.read_rising.ensures ∙ n.is) in
-    omega (arith, k)
-
-pub loop-e-smaller : goal.loop-e-smaller
-loop-e-smaller c = omega (arith, c.space_from-e-in-loop-e.ensures)
-
-pub loop-e-preserved : goal.loop-e-preserved
-loop-e-preserved c =
-    let a = c.args in
-    let l = c.loop-e in
-    let s = a.s.now in
-    let more : l.e < length s = c.loop-e-test.true in
-    let f = c.space_from-e-in-loop-e in
-    let i = l.invariant.0 in
-    let k = along_field s i l.e l.invariant.1 more f.result f.ensures in
-    let w = along_next s i l.e l.invariant.1 more f.result f.ensures in
-    let n = c.in-Of in
-    let e = sym (c.read_rising.ensures ∙ ap (λ (t : List ℕ). rising_of a.v l.low (natural_of t)) (sym k)) ∙ n.is in
-    (i + 1, w, l.invariant.2 ∙ flags_step a.v l.low l.g i (split_on 32 s) n.n (along_at s (i + 1) f.result w) e)
+    let ys = drop 1 (split_on 32 s) in
+    let l = c.loop-field in
+    let k = c.skip-field-items.ensures in
+    let p = c.split.ensures in
+    let i = c.into_iter-field-iterator.ensures.into_iter_gives in
+    let t = YieldsList-turn (YieldsList-at i (YieldsList-from_skip 1 (YieldsList-at k.source (YieldsList-from_slice_split _ (λ x. nat_eq x 32) s p.rest p.done p.closure (λ x b q k. search (rules, tests)))) k.count)) l.yielded _ l.yielded_by _ _ c.in-Some.field c.in-Some.is c.next.ensures.steps in
+    let n = c.in_ok-n.n in
+    let g : c.if-n-lt-VARIABLES.volatiles ≡ set l.volatiles n true =
+    elim c.if-n-lt-VARIABLES.branch [ then-n-lt-VARIABLES w ↦ w.volatiles-is | else-n-lt-VARIABLES w ↦ w.volatiles-is ∙ set_past l.volatiles n true (omega (arith, l.invariant.size)) ] in
+    let f = volatiles_some c.args.variables l.low (length l.yielded) l.volatiles ys c.in-Some.field.now (rw (← split_is 32 s) at t) n c.if-n-lt-VARIABLES.volatiles (sym c.read_within.ensures ∙ c.in_ok-n.was) g in
+    record { can = search rules; finite = search rules; size = ap length g ∙ length-set l.volatiles n true ∙ l.invariant.size; same = rw (length_push l.yielded c.in-Some.field) (l.invariant.same ∙ f) }
 
 pub returns : goal.returns
 returns c =
-    let a = c.args in
-    let l = c.loop-e in
-    let s = a.s.now in
-    sym (l.invariant.2 ∙ flags_end a.v l.low l.g l.invariant.0 (split_on 32 s) (along_last s l.invariant.0 l.e l.invariant.1 c.loop-e-test.false))
+    let s = c.args.s.now in
+    let ys = drop 1 (split_on 32 s) in
+    let l = c.loop-field in
+    let k = c.skip-field-items.ensures in
+    let p = c.split.ensures in
+    let i = c.into_iter-field-iterator.ensures.into_iter_gives in
+    let t = YieldsList-end (YieldsList-at i (YieldsList-from_skip 1 (YieldsList-at k.source (YieldsList-from_slice_split _ (λ x. nat_eq x 32) s p.rest p.done p.closure (λ x b q k. search (rules, tests)))) k.count)) l.yielded _ l.yielded_by _ _ c.in-None.is c.next.ensures.steps in
+    volatiles_end c.args.variables l.low (length l.yielded) l.volatiles ys (omega (arith, t.1, ap (λ (u : List (List _)). length (drop 1 u)) (split_is 32 s))) ∙ sym l.invariant.same

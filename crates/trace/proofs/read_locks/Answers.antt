@@ -1,107 +1,68 @@
--- `trace::read_locks` meets its contract: after i turns the first i locks are stored, and the i-th field ends at `e`.
-use mathlib.Core.Path.{refl, sym, ap, ◌∙◌}
-use mathlib.Core.List.{List}
-use Prim.Native.Nat.{ℕ, ◌<◌, ◌+◌}
-use native.Mathlib.Omega.{arith}
-use lib.ListN.{length}
+use Rattle.std.proofs.Common.{rules, tests, sym, ap, ◌∙◌, arith, nat_eq, length, drop, set, List, ℕ, length-set}
+use Rattle.std.specs.List.{slice_split}
+use Rattle.std.proofs.lemmas.List.{length_push}
+use Rattle.std.proofs.lemmas.List.FromFn.{length-enumerate_from}
+use Rattle.std.proofs.lemmas.Iterator.Adapters.{YieldsList-from_skip}
+use Rattle.std.proofs.lemmas.Iterator.Consumers.{YieldsList-at, YieldsList-from_enumerate, YieldsList-turn, YieldsList-end}
+use Rattle.std.proofs.lemmas.Iterator.Splits.{YieldsList-from_slice_split}
 use Rattle.lines.specs.Lines.{split_on}
-use Rattle.decimal.specs.Decimal.{natural_of}
-use Rattle.trace.specs.Trace.{lock_of}
-use Rattle.trace.proofs.TraceLaws.{locks_step, locks_bad, locks_end}
-use Rattle.lines.proofs.FieldLaws.{along_start, along_more, along_next, along_field, inside}
+use Rattle.lines.proofs.StdLaws.{split_is}
+use Rattle.trace.proofs.WalkLaws.{numbered, set_past, locks_some, locks_none, locks_end}
 use Rattle.trace.proofs.read_locks.Goals as goal
 
-pub loop-i-init : goal.loop-i-init
-loop-i-init c = (omega arith, along_start c.args.s.now c.space_from-e.result c.space_from-e.ensures, refl)
-
-pub overflow_add-a : goal.overflow_add-a
-overflow_add-a c =
-    let a = c.args in
+pub returns-in_err-lock : goal.returns-in_err-lock
+returns-in_err-lock c =
+    let s = c.args.s.now in
+    let ys = drop 1 (split_on 32 s) in
     let l = c.loop-i in
-    let s = a.s.now in
-    let p = c.requires in
-    let b = c.loop-i-test.true in
-    let more : l.e < length s = along_more s l.i l.e l.invariant.1 (omega arith) in
-    omega arith
+    let e = c.enumerate-i-items.ensures in
+    let k = c.skip.ensures in
+    let p = c.split.ensures in
+    let i = c.into_iter-i-iterator.ensures.into_iter_gives in
+    let t = YieldsList-turn (YieldsList-at i (YieldsList-from_enumerate (YieldsList-at e.source (YieldsList-from_skip 1 (YieldsList-at k.source (YieldsList-from_slice_split _ (λ x. nat_eq x 32) s p.rest p.done p.closure (λ x b q k. search (rules, tests)))) k.count)) e.count)) l.yielded _ l.yielded_by _ _ (c.in-Some.i, c.in-Some.field) c.in-Some.is c.next.ensures.steps in
+    let t' = numbered ys (length l.yielded) c.in-Some.i c.in-Some.field.now (rw (← split_is 32 s) at t) in
+    let f = locks_none c.args.locks (length l.yielded) l.guards ys c.in-Some.field.now (t'.1, t'.2) (sym c.read_within.ensures ∙ c.in_err-lock.was) in
+    c.from_residual.ensures ∙ sym (l.invariant.same ∙ f)
 
-pub space_from-e-requires-in-loop-i : goal.space_from-e-requires-in-loop-i
-space_from-e-requires-in-loop-i c =
-    let a = c.args in
+pub loop-i-preserved-then-i-lt-VARIABLES : goal.loop-i-preserved-then-i-lt-VARIABLES
+loop-i-preserved-then-i-lt-VARIABLES c =
+    let s = c.args.s.now in
+    let ys = drop 1 (split_on 32 s) in
     let l = c.loop-i in
-    let s = a.s.now in
-    let p = c.requires in
-    let b = c.loop-i-test.true in
-    let more : l.e < length s = along_more s l.i l.e l.invariant.1 (omega arith) in
-    omega arith
-
-pub slice_bounds-read_lock-count : goal.slice_bounds-read_lock-count
-slice_bounds-read_lock-count c =
-    let a = c.args in
-    let l = c.loop-i in
-    let s = a.s.now in
-    let p = c.requires in
-    let b = c.loop-i-test.true in
-    let more : l.e < length s = along_more s l.i l.e l.invariant.1 (omega arith) in
-    omega (arith, c.space_from-e-in-loop-i.ensures, inside 32 s (l.e + 1) c.space_from-e-in-loop-i.result c.space_from-e-in-loop-i.ensures (omega arith))
-
-pub slice_bounds-read_lock-start : goal.slice_bounds-read_lock-start
-slice_bounds-read_lock-start c =
-    let a = c.args in
-    let l = c.loop-i in
-    let s = a.s.now in
-    let p = c.requires in
-    let b = c.loop-i-test.true in
-    let more : l.e < length s = along_more s l.i l.e l.invariant.1 (omega arith) in
-    omega (arith, c.space_from-e-in-loop-i.ensures, inside 32 s (l.e + 1) c.space_from-e-in-loop-i.result c.space_from-e-in-loop-i.ensures (omega arith))
-
-pub slice_bounds-read_lock-end : goal.slice_bounds-read_lock-end
-slice_bounds-read_lock-end c =
-    let a = c.args in
-    let l = c.loop-i in
-    let s = a.s.now in
-    let p = c.requires in
-    let b = c.loop-i-test.true in
-    let more : l.e < length s = along_more s l.i l.e l.invariant.1 (omega arith) in
-    omega (arith, c.space_from-e-in-loop-i.ensures, inside 32 s (l.e + 1) c.space_from-e-in-loop-i.result c.space_from-e-in-loop-i.ensures (omega arith))
-
-pub returns-in_default : goal.returns-in_default
-returns-in_default c =
-    let a = c.args in
-    let l = c.loop-i in
-    let s = a.s.now in
-    let p = c.requires in
-    let b = c.loop-i-test.true in
-    let more : l.e < length s = along_more s l.i l.e l.invariant.1 (omega arith) in
-    let q = c.space_from-e-in-loop-i.ensures in
-    let k = along_field s l.i l.e l.invariant.1 more c.space_from-e-in-loop-i.result q in
-    let e = sym (c.read_lock.ensures ∙ ap (λ (f : List ℕ). lock_of a.l (natural_of f)) (sym k)) ∙ c.in_default.is in
-    c.bad_line.ensures ∙ sym (l.invariant.2 ∙ locks_bad l.i l.g a.l (split_on 32 s) (omega arith) e)
-
-pub bounds-g-i : goal.bounds-g-i
-bounds-g-i c = omega arith
-
-pub overflow_add-i : goal.overflow_add-i
-overflow_add-i c = omega arith
-
-pub loop-i-smaller : goal.loop-i-smaller
-loop-i-smaller c = omega arith
+    let e = c.enumerate-i-items.ensures in
+    let k = c.skip.ensures in
+    let p = c.split.ensures in
+    let i = c.into_iter-i-iterator.ensures.into_iter_gives in
+    let t = YieldsList-turn (YieldsList-at i (YieldsList-from_enumerate (YieldsList-at e.source (YieldsList-from_skip 1 (YieldsList-at k.source (YieldsList-from_slice_split _ (λ x. nat_eq x 32) s p.rest p.done p.closure (λ x b q k. search (rules, tests)))) k.count)) e.count)) l.yielded _ l.yielded_by _ _ (c.in-Some.i, c.in-Some.field) c.in-Some.is c.next.ensures.steps in
+    let t' = numbered ys (length l.yielded) c.in-Some.i c.in-Some.field.now (rw (← split_is 32 s) at t) in
+    let n = c.in_ok-lock.lock in
+    let f = locks_some c.args.locks (length l.yielded) l.guards ys c.in-Some.field.now (t'.1, t'.2) n (set l.guards c.in-Some.i n) (sym c.read_within.ensures ∙ c.in_ok-lock.was) (ap (λ (j : ℕ). set l.guards j n) t'.0) in
+    record { can = search rules; finite = search rules; size = length-set l.guards c.in-Some.i n ∙ l.invariant.size; same = rw (length_push l.yielded (c.in-Some.i, c.in-Some.field)) (l.invariant.same ∙ f) }
 
 pub loop-i-preserved : goal.loop-i-preserved
 loop-i-preserved c =
-    let a = c.args in
+    let s = c.args.s.now in
+    let ys = drop 1 (split_on 32 s) in
     let l = c.loop-i in
-    let s = a.s.now in
-    let p = c.requires in
-    let b = c.loop-i-test.true in
-    let more : l.e < length s = along_more s l.i l.e l.invariant.1 (omega arith) in
-    let q = c.space_from-e-in-loop-i.ensures in
-    let k = along_field s l.i l.e l.invariant.1 more c.space_from-e-in-loop-i.result q in
-    let n = c.in-Of in
-    let e = sym (c.read_lock.ensures ∙ ap (λ (f : List ℕ). lock_of a.l (natural_of f)) (sym k)) ∙ n.is in
-    (omega arith, along_next s l.i l.e l.invariant.1 more c.space_from-e-in-loop-i.result q, l.invariant.2 ∙ locks_step l.i l.g a.l (split_on 32 s) n.n (omega arith) e)
+    let e = c.enumerate-i-items.ensures in
+    let k = c.skip.ensures in
+    let p = c.split.ensures in
+    let i = c.into_iter-i-iterator.ensures.into_iter_gives in
+    let t = YieldsList-turn (YieldsList-at i (YieldsList-from_enumerate (YieldsList-at e.source (YieldsList-from_skip 1 (YieldsList-at k.source (YieldsList-from_slice_split _ (λ x. nat_eq x 32) s p.rest p.done p.closure (λ x b q k. search (rules, tests)))) k.count)) e.count)) l.yielded _ l.yielded_by _ _ (c.in-Some.i, c.in-Some.field) c.in-Some.is c.next.ensures.steps in
+    let t' = numbered ys (length l.yielded) c.in-Some.i c.in-Some.field.now (rw (← split_is 32 s) at t) in
+    let n = c.in_ok-lock.lock in
+    let g = set_past l.guards (length l.yielded) n (omega (arith, l.invariant.size, t'.0)) in
+    let f = locks_some c.args.locks (length l.yielded) l.guards ys c.in-Some.field.now (t'.1, t'.2) n l.guards (sym c.read_within.ensures ∙ c.in_ok-lock.was) g in
+    record { can = search rules; finite = search rules; size = l.invariant.size; same = rw (length_push l.yielded (c.in-Some.i, c.in-Some.field)) (l.invariant.same ∙ f) }
 
 pub returns : goal.returns
 returns c =
-    let a = c.args in
+    let s = c.args.s.now in
+    let ys = drop 1 (split_on 32 s) in
     let l = c.loop-i in
-    sym (l.invariant.2 ∙ locks_end l.i l.g a.l (split_on 32 a.s.now) (omega arith))
+    let e = c.enumerate-i-items.ensures in
+    let k = c.skip.ensures in
+    let p = c.split.ensures in
+    let i = c.into_iter-i-iterator.ensures.into_iter_gives in
+    let t = YieldsList-end (YieldsList-at i (YieldsList-from_enumerate (YieldsList-at e.source (YieldsList-from_skip 1 (YieldsList-at k.source (YieldsList-from_slice_split _ (λ x. nat_eq x 32) s p.rest p.done p.closure (λ x b q k. search (rules, tests)))) k.count)) e.count)) l.yielded _ l.yielded_by _ _ c.in-None.is c.next.ensures.steps in
+    locks_end c.args.locks (length l.yielded) l.guards ys (omega (arith, t.1, ap (λ (u : List (List ℕ)). length (drop 1 u)) (split_is 32 s), length-enumerate_from 0 (drop 1 (slice_split (λ x. nat_eq x 32) s)))) ∙ sym l.invariant.same

@@ -1,8 +1,0 @@
--- `trace::with_volatiles` meets its contract.
-use Rattle.trace.proofs.with_volatiles.Goals as goal
-
-pub returns-then-r : goal.returns-then-r
-returns-then-r c = rw c.if-r.true
-
-pub returns-else-r : goal.returns-else-r
-returns-else-r c = rw c.if-r.false c.refuse.ensures
