@@ -91,6 +91,7 @@ fn oldest(q: Ring, s: Slot) -> Slot
     }
 }
 
+// A queue with one more behind; the same where it is full.
 fn push(q: Ring) -> Ring
     ensures { result ≡ pushed q }
 {
@@ -104,6 +105,7 @@ fn push(q: Ring) -> Ring
     }
 }
 
+// A queue without its oldest.
 fn pop(q: Ring) -> Ring
     ensures { result ≡ popped q }
 {
@@ -132,6 +134,7 @@ const NONE: Checks = Checks {
     fifth: false,
 };
 
+// U.
 fn use_checks(c: Cell, locked: usize, x: Value) -> Checks
     ensures { result ≡ use_checks c locked x }
 {
@@ -142,6 +145,7 @@ fn use_checks(c: Cell, locked: usize, x: Value) -> Checks
     }
 }
 
+// A.
 fn assign_checks(c: Cell) -> Checks
     ensures { result ≡ assign_checks c }
 {
@@ -151,6 +155,7 @@ fn assign_checks(c: Cell) -> Checks
     }
 }
 
+// L; s is the oldest outstanding read.
 fn load_checks(c: Cell, s: Slot, x: Value) -> Checks
     ensures { result ≡ load_checks c s x }
 {
@@ -163,6 +168,7 @@ fn load_checks(c: Cell, s: Slot, x: Value) -> Checks
     }
 }
 
+// S.
 fn store_checks(c: Cell, locked: usize, x: Value) -> Checks
     ensures { result ≡ store_checks c locked x }
 {
@@ -175,6 +181,7 @@ fn store_checks(c: Cell, locked: usize, x: Value) -> Checks
     }
 }
 
+// R.
 fn read_checks(c: Cell, m: Main, x: Value) -> Checks
     ensures { result ≡ read_checks c m x }
 {
@@ -186,6 +193,7 @@ fn read_checks(c: Cell, m: Main, x: Value) -> Checks
     }
 }
 
+// W; s is the oldest outstanding store.
 fn write_checks(c: Cell, s: Slot, x: Value) -> Checks
     ensures { result ≡ write_checks c s x }
 {
@@ -218,6 +226,7 @@ fn others_hold(a: Hold, n: usize, t: usize) -> bool
     }
 }
 
+// K and C, of n threads; w is what some variable of the thread has.
 fn lock_checks(a: Hold, n: usize, w: OnSome, t: usize) -> Checks
     ensures { result ≡ lock_checks a n w t }
 {
@@ -228,6 +237,7 @@ fn lock_checks(a: Hold, n: usize, w: OnSome, t: usize) -> Checks
     }
 }
 
+// N and Y.
 fn unlock_checks(a: Hold, w: OnSome, t: usize) -> Checks
     ensures { result ≡ unlock_checks a w t }
 {
@@ -239,6 +249,7 @@ fn unlock_checks(a: Hold, w: OnSome, t: usize) -> Checks
     }
 }
 
+// F.
 fn notify_checks(a: Hold, t: usize) -> Checks
     ensures { result ≡ notify_checks a t }
 {
@@ -248,6 +259,7 @@ fn notify_checks(a: Hold, t: usize) -> Checks
     }
 }
 
+// P.
 fn prescient_store_checks(c: Cell) -> Checks
     ensures { result ≡ prescient_store_checks c }
 {
@@ -259,6 +271,7 @@ fn prescient_store_checks(c: Cell) -> Checks
     }
 }
 
+// B.
 fn prescient_assign_checks(c: Cell, x: Value) -> Checks
     ensures { result ≡ prescient_assign_checks c x }
 {
@@ -272,6 +285,7 @@ fn prescient_assign_checks(c: Cell, x: Value) -> Checks
 // ---- The rows.
 
 // The numbers that lead each row.
+// Kept: here and in what is read from the rows a number, 0 for none, as `judge` in the specs of rules gives it.
 const LEAD: [u8; 5] = [29, 30, 26, 27, 28];
 
 // The rows of U, A, L, S, R, W, K, N, P, B, Y, F, C behind them; 0 fills a row.
@@ -477,6 +491,7 @@ pub fn used(c: Cell) -> Cell
     }
 }
 
+// A.
 fn assigned(c: Cell, x: Value, p: usize) -> Cell
     ensures { result ≡ next_cell p no_slot Assign x c }
 {
@@ -491,6 +506,7 @@ fn assigned(c: Cell, x: Value, p: usize) -> Cell
     }
 }
 
+// B.
 fn prescient_assigned(c: Cell, x: Value, p: usize) -> Cell
     ensures { result ≡ next_cell p no_slot B x c }
 {
@@ -505,7 +521,7 @@ fn prescient_assigned(c: Cell, x: Value, p: usize) -> Cell
     }
 }
 
-// `s` is the oldest outstanding read.
+// L; s is the oldest outstanding read.
 fn loaded(c: Cell, s: Slot, x: Value, p: usize) -> Cell
     ensures { result ≡ next_cell p s L x c }
 {
@@ -520,6 +536,7 @@ fn loaded(c: Cell, s: Slot, x: Value, p: usize) -> Cell
     }
 }
 
+// R.
 fn has_read(c: Cell, s: Slot, x: Value, p: usize) -> Cell
     ensures { result ≡ next_cell p s R x c }
 {
@@ -529,6 +546,7 @@ fn has_read(c: Cell, s: Slot, x: Value, p: usize) -> Cell
     }
 }
 
+// S.
 fn stored(c: Cell, x: Value, p: usize) -> Cell
     ensures { result ≡ next_cell p no_slot S x c }
 {
@@ -541,6 +559,7 @@ fn stored(c: Cell, x: Value, p: usize) -> Cell
     }
 }
 
+// P.
 fn prescient_stored(c: Cell, x: Value, p: usize) -> Cell
     ensures { result ≡ next_cell p no_slot P x c }
 {
@@ -554,6 +573,7 @@ fn prescient_stored(c: Cell, x: Value, p: usize) -> Cell
     }
 }
 
+// W.
 fn has_written(c: Cell, x: Value, p: usize) -> Cell
     ensures { result ≡ next_cell p no_slot W x c }
 {
@@ -564,6 +584,7 @@ fn has_written(c: Cell, x: Value, p: usize) -> Cell
     }
 }
 
+// K: one hold more.
 fn taken(a: Hold, t: usize) -> Hold
     ensures { result ≡ hold_for a no_wait t K }
 {
@@ -577,6 +598,7 @@ fn taken(a: Hold, t: usize) -> Hold
     }
 }
 
+// N: one hold less.
 fn left(a: Hold, t: usize) -> Hold
     ensures { result ≡ hold_for a no_wait t N }
 {
@@ -632,6 +654,7 @@ fn waiting(w: Waiting, a: Hold, l: usize, t: usize) -> Waiting
     }
 }
 
+// F on lock l.
 fn notified(w: Waiting, l: usize) -> Waiting
     ensures { result ≡ wait_for w no_hold l 0 F }
 {
@@ -645,6 +668,7 @@ fn notified(w: Waiting, l: usize) -> Waiting
     }
 }
 
+// C on lock l: waits no longer.
 fn back(w: Waiting, l: usize) -> Waiting
     ensures { result ≡ wait_for w no_hold l 0 C }
 {
@@ -859,6 +883,7 @@ pub struct Parts {
 }
 
 // 0 or the number of the first check of the event's row that is broken, and what the event leaves of each part.
+// Kept: a number, 0 where nothing is broken, as `judge` in the specs of rules gives it.
 #[derive(Clone, Copy)]
 pub struct Turn {
     pub rule: u8,

@@ -128,6 +128,7 @@ pub fn slot_place(i: usize, q: Ring, j: u8) -> usize
 
 // ---- Refusal 8.
 
+// Whether a lock is in range, of so many threads, after n events.
 fn hold_ok(threads: usize, n: u32, a: Hold) -> bool
     ensures { result ≡ hold_ok threads n a }
 {
@@ -137,6 +138,7 @@ fn hold_ok(threads: usize, n: u32, a: Hold) -> bool
         & ((a.holder == 0) | (a.depth != 0))
 }
 
+// All locks.
 fn holds_ok(s: &State) -> bool
     ensures { result ≡ holds_ok s.now }
 {
@@ -145,12 +147,14 @@ fn holds_ok(s: &State) -> bool
         .all(|a| hold_ok(s.counts.threads, s.events, *a))
 }
 
+// Whether the waiting of a thread is in range, of so many locks, after n events. Nothing is asked of one that does not wait.
 fn wait_ok(locks: usize, n: u32, w: Waiting) -> bool
     ensures { result ≡ wait_ok locks n w }
 {
     (w.lock == 0) | ((w.lock <= locks) & (0 < w.depth) & (w.depth <= n))
 }
 
+// All threads: their waiting, and the positions of their last locks.
 fn threads_ok(s: &State) -> bool
     ensures { result ≡ threads_ok s.now }
 {
@@ -158,6 +162,7 @@ fn threads_ok(s: &State) -> bool
         & (*at <= s.events as usize))
 }
 
+// Whether the positions of a cell are at most n.
 fn cell_ok(n: u32, c: Cell) -> bool
     ensures { result ≡ cell_ok n c }
 {
@@ -165,6 +170,7 @@ fn cell_ok(n: u32, c: Cell) -> bool
     (c.source <= m) & (c.written <= m) & (c.loaded <= m) & (c.used <= m) & (c.assigned <= m)
 }
 
+// All cells.
 fn cells_ok(s: &State) -> bool
     ensures { result ≡ cells_ok s.now }
 {

@@ -23,5 +23,4 @@ overflow_add-result c =
 
 pub returns : goal.returns
 returns c =
-    let s = c in
     wrote_both 32 1 (47 ∷ natural_text c.args.b) (10 ∷ []) c.args.out.now _ _ _ _ (omega (arith, text_short c.args.b)) c.requires c.write_number-m.ensures c.write_byte-n.ensures

@@ -26,5 +26,4 @@ overflow_add-result c =
 
 pub returns : goal.returns
 returns c =
-    let s = c in
     wrote_both 5 32 word (32 ∷ natural_text c.args.a) c.args.out.now _ _ _ _ (omega arith) c.requires c.write_bytes-m.ensures c.write_number-n.ensures

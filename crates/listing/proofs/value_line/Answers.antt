@@ -19,7 +19,6 @@ returns-then-out-lt-LINE_ROOM c =
 
 pub returns : goal.returns
 returns c =
-    let s = c in
     let a = c.args in
     let f : ℤ → List ℕ = λ x. ended (word_value a.word.now a.ns.now x) in
     wrote_line (length a.word.now + 32 * length a.ns.now + 33) line_room _ (f a.x) a.out.now _ _ (omega arith) (omega arith) (ap f (to_z-of_z value_width a.x c.ranges.x)) c.write_value_line.ensures
