@@ -7,3 +7,4 @@ pub mod Running
 pub mod Copies
 pub mod RowMarks
 pub mod Courses
+pub mod Arms

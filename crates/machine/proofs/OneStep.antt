@@ -10,7 +10,9 @@ use Rattle.rules.specs.declared.Event.{Event}
 use Rattle.rules.specs.declared.Kind.{Kind}
 use Rattle.rules.specs.Events.{letter, place, value, among, subject_of, subject, lock_letters, is_lock_letter}
 use Rattle.rules.specs.Limits.{Limits, UpToFull, full, line_after, declared}
-use Rattle.rules.specs.Rules.{judge, answer, accepted, refused, said}
+use Rattle.rules.specs.declared.Refusal.{Refusal}
+use Rattle.rules.specs.Rules.{judge, answer, accepted, refused, said, unless, Verdict}
+use Rattle.std.specs.Prelude.{Ok, Err}
 use Rattle.rules.proofs.Letters.{lock_among}
 use Rattle.rules.proofs.Bounds.{allowed_bounds}
 use Rattle.state.specs.declared.State.{State}
@@ -26,10 +28,14 @@ use Rattle.judging.specs.Computed.Leads.{ahead_rule, ahead_at, lead_with, lead_a
 use Rattle.judging.specs.Computed.Turns.{parts_at, either_of, turn_of, some_of}
 use Rattle.judging.proofs.AnyTurn.{at, cell_found, turn_in, any_rule, any_put}
 use Rattle.machine.specs.declared.Answer.{Answer}
-use Rattle.machine.specs.declared.Judged.{Judged}
 use Rattle.machine.specs.Stepped.{unchanged, step_with, stepped}
-use Rattle.machine.specs.Computed.Walk.{Turnable}
+use Rattle.machine.specs.Computed.Walk.{Turnable, answer_of}
 use Rattle.machine.proofs.Steps.{step_ranged}
+
+-- a verdict that refuses nothing
+pub none_broken : (n line : ℕ) {u : Unit {0}} → ◌≡◌ {A = Verdict} (Ok u) (said (unless n line accepted)) → n ≡ 0
+none_broken zero line q = refl
+none_broken (suc n) line q = cc
 
 -- 8
 pub step_out : (m : Limits) (s : State) (e : Event) → in_range m s ≡ false → unchanged s (refused 8 0) ≡ stepped m s e
@@ -62,27 +68,33 @@ module _ (m : Limits) (s : State) (e : Event) (u : UpToFull m) (r : in_range m s
       row = unfold answer words_in in rw (lt-leb m.events s.events h, d) refl
 
       -- the row
-      pub step_broken : (n : ℕ) → n ≡ judge s.counts (words_in s) e → (n ≡ 0 → ⊥) → unchanged s (refused n (line_after s.counts s.events)) ≡ stepped m s e
-      step_broken zero q z = absurd (z refl)
-      step_broken (suc n) q z = answered (suc n) (row ∙ sym q)
-
-      pub step_kept : (n : ℕ) → n ≡ judge s.counts (words_in s) e → n ≡ 0 → {s' : State} → s' ≡ step_state s e → ◌≡◌ {A = Answer} (record { verdict = said accepted; state = s' }) (stepped m s e)
-      step_kept n q z p = (λ j. record { verdict = said accepted; state = p j }) ∙ answered 0 (row ∙ sym q ∙ z)
+      pub step_row : step_with s e (judge s.counts (words_in s) e) ≡ stepped m s e
+      step_row = answered (judge s.counts (words_in s) e) row
 
 -- ---- a turn
+
+-- the first rule of its row that e breaks has number n; v says whether there is one
+module _ (s : State) (e : Event) (n : ℕ) {j : ℕ} (en : n ≡ j) where
+  pub turn_stops : {a : Refusal} → ◌≡◌ {A = Verdict} (Err a) (said (unless n (line_after s.counts s.events) accepted)) → answer_of s (Err a) ≡ step_with s e j
+  turn_stops = go n en
+    where
+      go : (n : ℕ) → n ≡ j → {a : Refusal} → ◌≡◌ {A = Verdict} (Err a) (said (unless n (line_after s.counts s.events) accepted)) → answer_of s (Err a) ≡ step_with s e j
+      go zero en q = cc
+      go (suc n) en {a} q =
+          let p : a ≡ record { number = suc n; line = line_after s.counts s.events } = cc in
+          ap (λ (z : Refusal). answer_of s (Err z)) p ∙ ap (step_with s e) en
+
+  pub turn_goes : {u : Unit {0}} → ◌≡◌ {A = Verdict} (Ok u) (said (unless n (line_after s.counts s.events) accepted)) → {s' : State} → s' ≡ step_state s e → answer_of s (Ok s') ≡ step_with s e j
+  turn_goes q p = ap (λ (z : State). answer_of s (Ok z)) p ∙ ap (step_with s e) (sym (none_broken n (line_after s.counts s.events) q) ∙ en)
 
 -- the variable and the lock of an event
 module _ (k : Kind) {c p : ℕ} {b : Bool} (ek : c ≡ letter k) (ep : p ≡ place k) (eb : b ≡ is_lock_letter c) where
   on_lock_law : b ≡ among lock_letters (letter k)
   on_lock_law = eb ∙ ap is_lock_letter ek ∙ lock_among (letter k)
 
-  pub var_asked : {v : ℕ} → v ≡ cond (not b) p 0 → v ≡ var_of k
+  pub var_asked : {v : ℕ} → v ≡ cond b 0 p → v ≡ var_of k
   unfolding var_of
-  var_asked e = e ∙ turned b ∙ (λ j. cond (on_lock_law j) 0 (ep j))
-    where
-      turned : (b : Bool) → cond (not b) p 0 ≡ cond b 0 p
-      turned true = refl
-      turned false = refl
+  var_asked e = e ∙ (λ j. cond (on_lock_law j) 0 (ep j))
 
   pub lock_asked : {l : ℕ} → l ≡ cond b p 0 → l ≡ lock_of k
   unfolding lock_of
@@ -99,8 +111,7 @@ module _ (s : State) (e : Event) (u : Turnable s e) {k v l y : ℕ} {x : ℤ} (e
   subject_is = ey ∙ (λ j. subject_of (ek j) t (ex j))
 
   module _ {a : Parts} {any : OnSome} {r : Turn} (ea : a ≡ parts_at s t v l y) (eo : any ≡ some_of s t s.counts.variables) (er : r ≡ turn_of a s.counts.threads any t l k x (s.events + 1))
-      {d m n : ℕ} (ed : d ≡ ahead_rule (get_or s.waits t no_wait) a.wait s.counts.locks l k) (em : m ≡ lead_with s.counts a.cell s.cells s.stores t v k) (en : n ≡ either_of d (either_of m r.rule))
-      {i rb sb : ℕ} (ei : i ≡ cell_place t v) (erb : rb ≡ slot_place i a.cell.reads a.cell.reads.len) (esb : sb ≡ slot_place i a.cell.stores a.cell.stores.len) where
+      {d m n : ℕ} (ed : d ≡ ahead_rule (get_or s.waits t no_wait) a.wait s.counts.locks l k) (em : m ≡ lead_with s.counts a.cell s.cells s.stores t v k) (en : n ≡ either_of d (either_of m r.rule)) where
     parts_are : a ≡ parts_at s t (var_of e.kind) (lock_of e.kind) (subject e)
     parts_are = ea ∙ (λ j. parts_at s t (ev j) (el j) (subject_is j))
 
@@ -113,18 +124,21 @@ module _ (s : State) (e : Event) (u : Turnable s e) {k v l y : ℕ} {x : ℤ} (e
     rule_is : n ≡ either_of (ahead_at s t (lock_of e.kind) (letter e.kind) (value e.kind)) (either_of (lead_at s t (var_of e.kind) (letter e.kind)) (turn_in s e).rule)
     rule_is = en ∙ (λ j. either_of (ahead_is j) (either_of ((em ∙ (λ l. lead_with s.counts (parts_are l).cell s.cells s.stores t (ev l) (ek l))) j) (turn_is j).rule))
 
-    place_is : i ≡ at s e
-    place_is = ei ∙ ap (cell_place t) ev
+    -- the first rule of its row that the event breaks
+    pub turn_rule : n ≡ judge s.counts (words_in s) e
+    turn_rule = rule_is ∙ any_rule s e u.within (bounds s e u).0 (bounds s e u).1
 
-    read_end : rb ≡ slot_place (at s e) (cell_found s e).reads (cell_found s e).reads.len
-    read_end = erb ∙ (λ j. slot_place (place_is j) (parts_are j).cell.reads (parts_are j).cell.reads.len)
+    module _ {i rb sb : ℕ} (ei : i ≡ cell_place t v) (erb : rb ≡ slot_place i a.cell.reads a.cell.reads.len) (esb : sb ≡ slot_place i a.cell.stores a.cell.stores.len) where
+      place_is : i ≡ at s e
+      place_is = ei ∙ ap (cell_place t) ev
 
-    store_end : sb ≡ slot_place (at s e) (cell_found s e).stores (cell_found s e).stores.len
-    store_end = esb ∙ (λ j. slot_place (place_is j) (parts_are j).cell.stores (parts_are j).cell.stores.len)
+      read_end : rb ≡ slot_place (at s e) (cell_found s e).reads (cell_found s e).reads.len
+      read_end = erb ∙ (λ j. slot_place (place_is j) (parts_are j).cell.reads (parts_are j).cell.reads.len)
 
-    pub turn_taken : ◌≡◌ {A = Judged} (record {
-      rule = n;
-      state = record {
+      store_end : sb ≡ slot_place (at s e) (cell_found s e).stores (cell_found s e).stores.len
+      store_end = esb ∙ (λ j. slot_place (place_is j) (parts_are j).cell.stores (parts_are j).cell.stores.len)
+
+      pub turn_put : record {
         counts = s.counts;
         events = s.events + 1;
         cells = set s.cells i r.cell;
@@ -134,11 +148,8 @@ module _ (s : State) (e : Event) (u : Turnable s e) {k v l y : ℕ} {x : ℤ} (e
         holds = set s.holds l r.hold;
         memory = set s.memory v r.main;
         waits = set s.waits y r.wait;
-      };
-    }) (record { rule = judge s.counts (words_in s) e; state = step_state s e })
-    turn_taken = (λ j. record {
-      rule = rule_is j;
-      state = record {
+      } ≡ step_state s e
+      turn_put = (λ j. record {
         counts = s.counts;
         events = s.events + 1;
         cells = set s.cells (place_is j) (turn_is j).cell;
@@ -148,5 +159,4 @@ module _ (s : State) (e : Event) (u : Turnable s e) {k v l y : ℕ} {x : ℤ} (e
         holds = set s.holds (el j) (turn_is j).hold;
         memory = set s.memory (ev j) (turn_is j).main;
         waits = set s.waits (subject_is j) (turn_is j).wait;
-      };
-    }) ∙ (λ j. record { rule = any_rule s e u.within (bounds s e u).0 (bounds s e u).1 j; state = any_put s e u.within (shallow s u.ranged u.room (lock_of e.kind) u.within.lock) j })
+      }) ∙ any_put s e u.within (shallow s u.ranged u.room (lock_of e.kind) u.within.lock)

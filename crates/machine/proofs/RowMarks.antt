@@ -8,11 +8,12 @@ use lib.ListN.{length, replicate}
 use borrow.Author.Tests.{eq-eqb, ne_eqb}
 use Rattle.rules.specs.declared.Counts.{Counts}
 use Rattle.rules.specs.declared.Course.TheVariants.{Full}
-use Rattle.rules.specs.declared.Verdict.{Verdict}
-use Rattle.rules.specs.declared.Verdict.TheVariants as verdict
+use Rattle.rules.specs.declared.Memories.{Memories}
+use Rattle.rules.specs.declared.Refusal.{Refusal}
+use Rattle.std.specs.Prelude.{Result, Ok, Err}
 use Rattle.rules.specs.Limits.{full, allowed}
-use Rattle.rules.specs.Memories.{memories_of, no_memories}
-use Rattle.rules.specs.Rules.{Words, words_of, Marked, accepted, refused, told, said, on_marked, mark_read, Accepted}
+use Rattle.rules.specs.Memories.{memories_of}
+use Rattle.rules.specs.Rules.{Words, words_of, Marked, accepted, refused, told, Verdict, mark_read, Accepted}
 use Rattle.rules.proofs.Bounds.{up_to_full}
 use Rattle.records.specs.Records.{row_lines}
 use Rattle.state.specs.declared.State.{State}
@@ -20,7 +21,6 @@ use Rattle.state.specs.State.{words_in, start}
 use Rattle.state.proofs.Kept.{in_range_law}
 use Rattle.state.proofs.Stands.{Stands, stands_start, start_shape}
 use Rattle.machine.specs.declared.Answer.{Answer}
-use Rattle.machine.specs.declared.Outcome.{Outcome}
 use Rattle.machine.specs.declared.Tally.{Tally}
 use Rattle.machine.specs.Rows.{row_marked, row_past, MarksRow}
 use Rattle.machine.specs.Computed.Walk.{walk, outcome_of}
@@ -36,19 +36,16 @@ ready_start h s a es ea ok = subst (λ (z : State). Ready z (replicate 8 a)) (sy
 })
 
 module _ (h : Counts) (ws : List ℕ) (xs : List ℤ) where
-  abbrev none_left : Verdict → Outcome
-  none_left v = record { verdict = v; memories = no_memories }
-
   -- 7
-  pub row_uneven : (length xs ≡ length ws → ⊥) → MarksRow h ws xs (none_left (said (refused 7 0)))
+  pub row_uneven : (length xs ≡ length ws → ⊥) → MarksRow h ws xs (Err (record { number = 7; line = 0 }))
   unfolding row_marked
-  row_uneven d = record { says = rw (ne_eqb _ _ d) refl; holds = rw (ne_eqb _ _ d) refl }
+  row_uneven d = record { says = rw (ne_eqb _ _ d) refl; holds = tt }
 
   module _ (even : length xs ≡ length ws) where
     -- 3
-    pub row_head : allowed full h ≡ false → MarksRow h ws xs (none_left (said (refused 3 1)))
+    pub row_head : allowed full h ≡ false → MarksRow h ws xs (Err (record { number = 3; line = 1 }))
     unfolding row_marked
-    row_head a = record { says = rw (eq-eqb _ _ even, a) refl; holds = rw (eq-eqb _ _ even, a) refl }
+    row_head a = record { says = rw (eq-eqb _ _ even, a) refl; holds = tt }
 
     module _ (ok : allowed full h ≡ true) {s : State} (es : s ≡ start h) where
       abbrev a : Answer
@@ -71,14 +68,12 @@ module _ (h : Counts) (ws : List ℕ) (xs : List ℤ) where
       unfolding row_past
       stood q = went.stands (sym marked_is ∙ sym q)
 
-      ended : (v : Verdict) → a.verdict ≡ v → MarksRow h ws xs (record { verdict = v; memories = elim v [ verdict.Accepted ↦ memories_of (words_in a.state) | verdict.Refused n l ↦ no_memories ] })
-      ended (verdict.Refused n l) v =
-          let q : refused n l ≡ row_marked full h ws xs = ap told (sym v) ∙ said_is in
-          record { says = q; holds = ap (λ (k : Marked). on_marked k (memories_of (words_of (row_past full h ws xs))) no_memories) q }
-      ended verdict.Accepted v =
+      ended : (v : Verdict) → a.verdict ≡ v → MarksRow h ws xs (outcome_of (record { verdict = v; state = a.state }))
+      ended (Err r) v = record { says = ap told (sym v) ∙ said_is; holds = tt }
+      ended (Ok tt) v =
           let q : accepted ≡ row_marked full h ws xs = ap told (sym v) ∙ said_is in
-          record { says = q; holds = ap (λ (w : Words). memories_of w) (stood q).words ∙ ap (λ (k : Marked). on_marked k (memories_of (words_of (row_past full h ws xs))) no_memories) q }
+          record { says = q; holds = ap (λ (w : Words). memories_of w) (stood q).words }
 
       -- 4, 9, 5 and the row, line by line
-      pub row_run : {r : Outcome} → r ≡ outcome_of a → MarksRow h ws xs r
+      pub row_run : {r : Result Memories Refusal} → r ≡ outcome_of a → MarksRow h ws xs r
       row_run er = subst (MarksRow h ws xs) (sym er) (ended a.verdict refl)

@@ -7,6 +7,7 @@ use mathlib.Core.Path.{◌≡◌, refl, sym, ap, ◌∙◌, subst}
 use mathlib.Core.Bool.{Bool, true, false, cond, ◌&&◌, ◌||◌}
 use mathlib.Core.List.{List, [], ◌∷◌}
 use lib.Dec.{T, eqb, ltb}
+use mir.Val.{bool_byte}
 use lib.IntN.{ℤ}
 use lib.ListN.{length, get_or, set, replicate, length-set}
 use lib.Seq.{get_or-set_same, get_or-set_other, set-get_or}
@@ -36,6 +37,11 @@ pub one_le : (b : Bool) → cond b 1 0 ≤ 1
 one_le true = omega arith
 one_le false = omega arith
 
+-- a flag as a number
+byte_is : (b : Bool) → bool_byte b ≡ cond b 1 0
+byte_is true = refl
+byte_is false = refl
+
 pub number_le : (n : ℕ) (f : ℕ → Bool) → number n f ≤ n
 unfolding number
 number_le zero f = omega arith
@@ -45,13 +51,13 @@ pub number_none : (f : ℕ → Bool) → 0 ≡ number 0 f
 unfolding number
 number_none f = refl
 
-pub small_sum : (n : ℕ) (f : ℕ → Bool) {k m : ℕ} (b : Bool) → k ≡ cond b 1 0 → m ≡ number n f → k + m ≤ n + 1
-small_sum n f b q p = omega (arith, number_le n f, one_le b)
+pub small_sum : (n : ℕ) (f : ℕ → Bool) {k m : ℕ} (b : Bool) → k ≡ bool_byte b → m ≡ number n f → m + k ≤ n + 1
+small_sum n f b q p = omega (arith, number_le n f, one_le b, byte_is b)
 
 -- one number more
-pub number_more : (n : ℕ) (f : ℕ → Bool) {k m : ℕ} {b : Bool} → k ≡ cond b 1 0 → b ≡ f n → m ≡ number n f → k + m ≡ number (n + 1) f
+pub number_more : (n : ℕ) (f : ℕ → Bool) {k m : ℕ} {b : Bool} → k ≡ bool_byte b → b ≡ f n → m ≡ number n f → m + k ≡ number (n + 1) f
 unfolding number
-number_more n f q e p = rw (add-one n, q, e, p) refl
+number_more n f {k} {m} {b} q e p = let z : m + k ≡ k + m = omega arith in z ∙ rw (add-one n, q ∙ byte_is b, e, p) refl
 
 number_some : (n : ℕ) (f : ℕ → Bool) → ltb 0 (number n f) ≡ some n f
 unfolding number some
@@ -85,6 +91,9 @@ number_moved (suc n) v f g h e = by (eqb n v) refl (λ k. number_moved n v f g k
         rw (e n d) (omega (arith, r k))
 
 -- ---- the tallies of all threads
+
+pub tally_zero : {a : Tally} → a.pending ≡ 0 → a.fresh ≡ 0 → a.stored ≡ 0 → a ≡ no_tally
+tally_zero p f s = λ j. record { pending = p j; fresh = f j; stored = s j }
 
 pub record Tallied (s : State) (ts : List Tally) : Type 0 where
   pub eight : length ts ≡ 8
@@ -139,10 +148,9 @@ small s t a m e = subst Small (sym e) (unfold tally_of in record {
 })
 
 -- a tally counted over all declared variables
-pub tally_is : (s : State) (t : ℕ) {a b c n : ℕ} → n ≡ s.counts.variables → a ≡ number n (λ v. (cell_at s t v).pending) → b ≡ number n (λ v. (cell_at s t v).fresh) → c ≡ number n (λ v. awaits_write (cell_at s t v))
-    → record { pending = a; fresh = b; stored = c } ≡ tally_of s t
+pub tally_is : (s : State) (t : ℕ) {a : Tally} {n : ℕ} → n ≡ s.counts.variables → a.pending ≡ number n (λ v. (cell_at s t v).pending) → a.fresh ≡ number n (λ v. (cell_at s t v).fresh) → a.stored ≡ number n (λ v. awaits_write (cell_at s t v)) → a ≡ tally_of s t
 unfolding tally_of
-tally_is s t n p q r = rw (p, q, r, n) refl
+tally_is s t n p q r = λ j. record { pending = (p ∙ ap (λ (m : ℕ). number m (λ v. (cell_at s t v).pending)) n) j; fresh = (q ∙ ap (λ (m : ℕ). number m (λ v. (cell_at s t v).fresh)) n) j; stored = (r ∙ ap (λ (m : ℕ). number m (λ v. awaits_write (cell_at s t v))) n) j }
 
 -- ---- after a cell has changed
 

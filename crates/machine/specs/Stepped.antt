@@ -1,7 +1,6 @@
 -- One step over a state that a caller keeps: 8, 9 (25 in the short course), 5, then the row; and a sequence of steps.
-use Rattle.std.specs.Prelude.{ℕ, zero, suc, cond, List, [], ◌∷◌}
+use Rattle.std.specs.Prelude.{ℕ, zero, suc, cond, List, [], ◌∷◌, Ok, Err}
 use Rattle.rules.specs.declared.Event.{Event}
-use Rattle.rules.specs.declared.Verdict.TheVariants as verdict
 use Rattle.rules.specs.Limits.{Limits, line_after}
 use Rattle.rules.specs.Rules.{answer, Marked, accepted, refused, said}
 use Rattle.state.specs.declared.State.{State}
@@ -26,7 +25,7 @@ stepped m s e = cond (in_range m s) (step_with s e (answer m s.counts (words_in 
 
 -- on from an accepted step
 abbrev pub onwards : Answer → (State → Answer) → Answer
-onwards a go = elim a.verdict [ verdict.Accepted ↦ go a.state | verdict.Refused n l ↦ unchanged a.state (refused n l) ]
+onwards a go = elim a.verdict [ Ok u ↦ go a.state | Err r ↦ unchanged a.state (refused r.number r.line) ]
 
 -- steps over a list of events from a state, up to the first refusal
 unfoldable pub steps : Limits → State → List Event → Answer

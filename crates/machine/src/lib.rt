@@ -2,23 +2,24 @@
 // state that the caller keeps, by value.
 #![tactic(auto)]
 
-ghost use Rattle.std.specs.Prelude.{◌≡◌, cond, ◌≤◌, ◌<◌, [], length};
+ghost use Rattle.std.specs.Prelude.{◌≡◌, ◌≤◌, ◌<◌, [], length};
 ghost use Rattle.rules.specs.Limits.{full, limits_of, line_after};
-ghost use Rattle.rules.specs.Rules.{judge, accepted, refused, said};
-ghost use Rattle.rules.specs.Memories.{memories_of, no_memories};
+ghost use Rattle.rules.specs.Rules.{judge, accepted, said, unless};
+ghost use Rattle.rules.specs.Memories.{memories_of};
 ghost use Rattle.state.specs.State.{words_in};
 ghost use Rattle.state.specs.Step.{step_state};
-ghost use Rattle.judging.specs.Computed.Leads.{order_at, lead_with};
+ghost use Rattle.judging.specs.Computed.Leads.{bars_at, order_at, lead_with};
 ghost use Rattle.judging.specs.Computed.Turns.{parts_at, awaits_write};
 ghost use Rattle.records.specs.Records.{row_lines};
-ghost use Rattle.machine.specs.Stepped.{unchanged, stepped};
+ghost use Rattle.machine.specs.Stepped.{step_with, stepped};
 ghost use Rattle.machine.specs.Rows.{MarksRow};
-ghost use Rattle.machine.specs.Computed.Walk.{walk, state_of, outcome_of, Turnable};
-ghost use Rattle.machine.specs.Computed.Tallies.{no_tally, moved, tally_after, tally_of, Small, some_in, Ready};
+ghost use Rattle.machine.specs.Computed.Walk.{walk, state_of, outcome_of, answer_of, Turnable};
+ghost use Rattle.machine.specs.Computed.Tallies.{moved, tally_after, tally_of, Small, some_in, Ready};
 
 use judging::{Ends, OnSome, Parts};
 use rules::{
-    CELLS, Cached, Counts, Course, Event, Main, Memories, Slot, THREADS, VARIABLES, Value, Verdict,
+    CELLS, Cached, Counts, Course, Event, Memories, Refusal, Slot, THREADS, VARIABLES, Value,
+    Verdict,
 };
 use state::{Cell, SLOTS, State};
 
@@ -29,15 +30,8 @@ pub struct Answer {
     pub state: State,
 }
 
-// What is said of a row of events from the initial state, and the memories after the last.
-#[derive(Clone, Copy)]
-pub struct Outcome {
-    pub verdict: Verdict,
-    pub memories: Memories,
-}
-
 // How many of a thread's declared variables have a pending prescient store, a fresh assign, an outstanding store that N and Y count.
-#[derive(Clone, Copy)]
+#[derive(Clone, Copy, Default)]
 pub struct Tally {
     pub pending: u32,
     pub fresh: u32,
@@ -46,19 +40,11 @@ pub struct Tally {
 
 // ---- What lock events ask for.
 
-fn one(b: bool) -> u32
-    ensures { result ≡ cond b 1 0 }
-{
-    if b { 1 } else { 0 }
-}
-
 // Whether a store that N and Y count is outstanding: with an assign owed the latest is left aside.
-fn awaits_write(c: Cell) -> bool
-    ensures { result ≡ awaits_write c }
+fn awaits_write(c: &Cell) -> bool
+    ensures { result ≡ awaits_write c.now }
 {
-    let o = c.stores;
-    let n = o.len as u32;
-    one(c.pending) < n
+    u8::from(c.pending) < c.stores.len
 }
 
 // n things have it, of which one had it or not and has it or not now.
@@ -66,22 +52,18 @@ fn moved(n: u32, was: bool, is: bool) -> u32
     requires { n ≤ 16 }
     ensures { result ≡ moved n was is }
 {
-    let w = one(was);
-    let m = n + one(is);
-    if m < w { 0 } else { m - w }
+    (n + u32::from(is)).saturating_sub(u32::from(was))
 }
 
 // A tally after a cell of its thread, c, became d.
-fn tally_after(a: Tally, c: Cell, d: Cell) -> Tally
+fn tally_after(a: Tally, c: &Cell, d: &Cell) -> Tally
     requires { Small a }
-    ensures { result ≡ tally_after a c d }
+    ensures { result ≡ tally_after a c.now d.now }
 {
-    let was = awaits_write(c);
-    let is = awaits_write(d);
     Tally {
         pending: moved(a.pending, c.pending, d.pending),
         fresh: moved(a.fresh, c.fresh, d.fresh),
-        stored: moved(a.stored, was, is),
+        stored: moved(a.stored, awaits_write(c), awaits_write(d)),
     }
 }
 
@@ -97,501 +79,347 @@ fn some_in(a: Tally) -> OnSome
 }
 
 // The tally of thread t.
-fn tally_of(s: State, t: usize) -> Tally
+fn tally_of(s: &State, t: usize) -> Tally
     requires thread { t < 8 }
-    requires variables { s.counts.variables ≤ 16 }
-    ensures { result ≡ tally_of s t }
+    requires variables { s.now.counts.variables ≤ 16 }
+    ensures { result ≡ tally_of s.now t }
 {
-    let h = s.counts;
-    let mut pending: u32 = 0;
-    let mut fresh: u32 = 0;
-    let mut stored: u32 = 0;
-    let mut v: usize = 0;
-    while v < h.variables {
-        let i = state::cell_place(t, v);
-        let c = s.cells[i];
-        let waits = awaits_write(c);
-        pending = one(c.pending) + pending;
-        fresh = one(c.fresh) + fresh;
-        stored = one(waits) + stored;
-        v += 1;
+    let mut tally = Tally::default();
+    for v in 0..s.counts.variables {
+        let c = &s.cells[state::cell_place(t, v)];
+        tally.pending += u32::from(c.pending);
+        tally.fresh += u32::from(c.fresh);
+        tally.stored += u32::from(awaits_write(c));
     }
-    Tally {
-        pending: pending,
-        fresh: fresh,
-        stored: stored,
-    }
-}
-
-fn no_tally() -> Tally
-    ensures { result ≡ no_tally }
-{
-    Tally {
-        pending: 0,
-        fresh: 0,
-        stored: 0,
-    }
+    tally
 }
 
 // ---- What volatile variables ask for.
 
+// Whether volatile variable u bars letter k of thread t on volatile variable v.
+fn bars_at(
+    cells: &[Cell; CELLS],
+    stores: &[Slot; SLOTS],
+    t: usize,
+    v: usize,
+    k: u8,
+    u: usize,
+) -> bool
+    ensures { result ≡ bars_at cells.now stores.now t v k u }
+{
+    let at = state::cell_place(t, v);
+    let c = cells[at];
+    let front = stores[state::slot_place(at, c.stores, 0)];
+    let i = state::cell_place(t, u);
+    let other = cells[i];
+    let first = stores[state::slot_place(i, other.stores, 0)];
+    judging::bars_event(c, front, other, first, k)
+}
+
 // 27: whether a volatile variable bars letter k of thread t on volatile variable v.
 fn volatile_order(
-    h: Counts,
-    cells: [Cell; CELLS],
-    stores: [Slot; SLOTS],
+    h: &Counts,
+    cells: &[Cell; CELLS],
+    stores: &[Slot; SLOTS],
     t: usize,
     v: usize,
     k: u8,
 ) -> bool
-    ensures { result ≡ order_at h cells stores t v k }
+    ensures { result ≡ order_at h.now cells.now stores.now t v k }
 {
-    let at = state::cell_place(t, v);
-    let c = cells[at];
-    let q = c.stores;
-    let place = state::slot_place(at, q, 0);
-    let front = stores[place];
-    let n = h.variables;
-    let mut any = false;
-    let mut u: usize = 0;
-    while u < n {
-        let i = state::cell_place(t, u);
-        let other = cells[i];
-        let o = other.stores;
-        let j = state::slot_place(i, o, 0);
-        let first = stores[j];
-        let bars = judging::bars_event(c, front, other, first, k);
-        any = (rules::is_volatile(h, u) & bars) | any;
-        u += 1;
-    }
-    any
+    (0..h.variables).any(|u| rules::is_volatile(*h, u) & bars_at(cells, stores, t, v, k, u))
 }
 
 // What letter k of thread t on variable v breaks of the checks that lead its row; c is the cell of both.
 fn lead_of(
-    h: Counts,
-    c: Cell,
-    cells: [Cell; CELLS],
-    stores: [Slot; SLOTS],
+    h: &Counts,
+    c: &Cell,
+    cells: &[Cell; CELLS],
+    stores: &[Slot; SLOTS],
     t: usize,
     v: usize,
     k: u8,
 ) -> u8
-    ensures { result ≡ lead_with h c cells stores t v k }
+    ensures { result ≡ lead_with h.now c.now cells.now stores.now t v k }
 {
-    if rules::is_volatile(h, v) {
-        if (k == b'U') | (k == b'W') {
-            let order = volatile_order(h, cells, stores, t, v, k);
-            return judging::lead_rule(c, order, k);
-        }
-        return judging::lead_rule(c, false, k);
+    if !rules::is_volatile(*h, v) {
+        return 0;
     }
-    0
+    if (k == b'U') | (k == b'W') {
+        let order = volatile_order(h, cells, stores, t, v, k);
+        return judging::lead_rule(*c, order, k);
+    }
+    judging::lead_rule(*c, false, k)
 }
 
 // ---- A row of events.
 
-// A refusal gives number and line and nothing else.
-fn refuse(number: u8, line: usize) -> Outcome
-    ensures { result ≡ record { verdict = said (refused number line); memories = no_memories } }
+// The refusal with this number of the event after n events.
+fn refusal_after(number: u8, h: &Counts, n: u32) -> Refusal
+    ensures { result ≡ record { number = number; line = line_after h.now n } }
 {
-    let zero = Main { value: 0 };
-    let none = Cached {
-        value: 0,
-        usable: false,
-    };
-    let memories = Memories {
-        main: [zero; VARIABLES],
-        copies: [none; CELLS],
-    };
-    let refused = Verdict::Refused(number, line);
-    Outcome {
-        verdict: refused,
-        memories: memories,
+    Refusal {
+        number,
+        line: rules::line_after(*h, n),
     }
 }
 
-// The refusal of the event after n events.
-fn refuse_after(number: u8, h: Counts, n: u32) -> Outcome
-    ensures { result ≡ record { verdict = said (refused number (line_after h n)); memories = no_memories } }
+// Refuses the event after n events by the rule with this number; 0 stands for none.
+fn refuse_if(rule: u8, h: &Counts, n: u32) -> Verdict
+    ensures { result ≡ said (unless rule (line_after h.now n) accepted) }
 {
-    let line = rules::line_after(h, n);
-    refuse(number, line)
+    if rule == 0 {
+        return Ok(());
+    }
+    Err(refusal_after(rule, h, n))
 }
 
 // The copies in the cells of a state, where these are the positions of the threads' last locks.
-fn copies_of(cells: [Cell; CELLS], locked: [usize; THREADS]) -> [Cached; CELLS]
-    ensures { result ≡ (memories_of (words_in (state_of cells locked []))).copies }
+fn copies_of(cells: &[Cell; CELLS], locked: &[usize; THREADS]) -> [Cached; CELLS]
+    ensures { result ≡ (memories_of (words_in (state_of cells.now locked.now []))).copies }
 {
-    let none = Cached {
-        value: 0,
-        usable: false,
-    };
-    let mut r = [none; CELLS];
-    let mut i: usize = 0;
-    while i < CELLS {
-        let c = cells[i];
-        let last = locked[i / VARIABLES];
-        let copy = Cached {
-            value: c.copy,
-            usable: last < c.source,
-        };
-        r[i] = copy;
-        i += 1;
-    }
-    r
-}
-
-// All is accepted, with these memories.
-fn accept(main: [Main; VARIABLES], copies: [Cached; CELLS]) -> Outcome
-    ensures { result ≡ record { verdict = said accepted; memories = record { main = main; copies = copies } } }
-{
-    let memories = Memories {
-        main: main,
-        copies: copies,
-    };
-    let all = Verdict::Accepted;
-    Outcome {
-        verdict: all,
-        memories: memories,
-    }
+    std::array::from_fn(|i| Cached {
+        value: cells[i].copy,
+        usable: locked[i / VARIABLES] < cells[i].source,
+    })
 }
 
 // The records of two rows, one after the other, from a state in range: line by line 4, 9, 5 and the row of its letter.
-fn run(start: State, counted: [Tally; THREADS], what: &[u32], value: &[Value]) -> Outcome
-    requires ready { Ready start counted }
+fn run(
+    mut s: State,
+    mut tallies: [Tally; THREADS],
+    what: &[u32],
+    value: &[Value],
+) -> Result<Memories, Refusal>
+    requires ready { Ready s tallies }
     requires as_many { length value.now ≡ length what.now }
-    ensures { result ≡ outcome_of (walk full start (row_lines start.counts what.now value.now)) }
+    ensures { result ≡ outcome_of (walk full s (row_lines s.counts what.now value.now)) }
 {
     // The declared counts, copied once: read from the state they would be copied at each event.
-    let declared = start.counts;
-    let mut s = start;
-    let mut tallies = counted;
-    let mut i: usize = 0;
-    while i < what.len() {
+    let declared = s.counts;
+    for i in 0..what.len() {
         let w = what[i];
         let x = value[i];
         let k = records::letter_in(w);
         let t = records::thread_in(w);
         let v = records::place_in(w);
-        let h = s.counts;
         let n = s.events;
         if !rules::is_letter(k) {
-            return refuse_after(4, declared, n);
+            return Err(refusal_after(4, &declared, n));
         }
         if 2000 <= n {
-            return refuse_after(9, declared, n);
+            return Err(refusal_after(9, &declared, n));
         }
-        if h.threads <= t {
-            return refuse_after(5, declared, n);
+        if s.counts.threads <= t {
+            return Err(refusal_after(5, &declared, n));
         }
-        let events = n + 1;
-        let p = events as usize;
+        s.events = n + 1;
+        let p = n as usize + 1;
+        let own = s.waits[t];
+        let last = s.locked[t];
         if rules::is_lock_letter(k) {
-            if h.locks <= v {
-                return refuse_after(5, declared, n);
+            if s.counts.locks <= v {
+                return Err(refusal_after(5, &declared, n));
             }
-            let hold = s.holds[v];
-            let last = s.locked[t];
-            let tally = tallies[t];
-            let any = some_in(tally);
-            let own = s.waits[t];
+            let any = some_in(tallies[t]);
             if (k == b'K') | (k == b'N') {
                 // K, N: a lock, and what the variables of the thread have.
-                let barred = judging::barred_rule(own, h.locks, k);
-                if barred != 0 {
-                    return refuse_after(barred, declared, n);
-                }
-                let lock = judging::lock_turn(hold, last, h.threads, any, t, k, p);
-                if lock.rule != 0 {
-                    return refuse_after(lock.rule, declared, n);
-                }
-                let held = lock.hold;
-                s.events = events;
-                s.locked[t] = lock.locked;
-                s.holds[v] = held;
-                i += 1;
+                refuse_if(judging::barred_rule(own, s.counts.locks, k), &declared, n)?;
+                let turn = judging::lock_turn(s.holds[v], last, s.counts.threads, any, t, k, p);
+                refuse_if(turn.rule, &declared, n)?;
+                s.locked[t] = turn.locked;
+                s.holds[v] = turn.hold;
             } else {
                 // Y, F, C: these, and who waits.
                 let subject = rules::subject_of(k, t, x);
-                if h.threads <= subject {
-                    return refuse_after(5, declared, n);
+                if s.counts.threads <= subject {
+                    return Err(refusal_after(5, &declared, n));
                 }
                 let wait = s.waits[subject];
-                let ahead = judging::ahead_rule(own, wait, h.locks, v, k);
-                if ahead != 0 {
-                    return refuse_after(ahead, declared, n);
-                }
-                let turn = judging::wait_turn(hold, wait, last, h.threads, any, t, v, k, p);
-                if turn.rule != 0 {
-                    return refuse_after(turn.rule, declared, n);
-                }
-                let held = turn.hold;
-                let waits = turn.wait;
-                s.events = events;
+                let ahead = judging::ahead_rule(own, wait, s.counts.locks, v, k);
+                refuse_if(ahead, &declared, n)?;
+                let turn = judging::wait_turn(
+                    s.holds[v],
+                    wait,
+                    last,
+                    s.counts.threads,
+                    any,
+                    t,
+                    v,
+                    k,
+                    p,
+                );
+                refuse_if(turn.rule, &declared, n)?;
                 s.locked[t] = turn.locked;
-                s.holds[v] = held;
-                s.waits[subject] = waits;
-                i += 1;
+                s.holds[v] = turn.hold;
+                s.waits[subject] = turn.wait;
             }
         } else {
-            if h.variables <= v {
-                return refuse_after(5, declared, n);
+            if s.counts.variables <= v {
+                return Err(refusal_after(5, &declared, n));
             }
-            let own = s.waits[t];
-            let barred = judging::barred_rule(own, h.locks, k);
-            if barred != 0 {
-                return refuse_after(barred, declared, n);
-            }
-            if declared.volatiles[v] {
-                // What leads the row of an event on a volatile variable.
-                let place = state::cell_place(t, v);
-                let cell = s.cells[place];
-                let lead = lead_of(declared, cell, s.cells, s.stores, t, v, k);
-                if lead != 0 {
-                    return refuse_after(lead, declared, n);
-                }
-            }
+            refuse_if(judging::barred_rule(own, s.counts.locks, k), &declared, n)?;
             let at = state::cell_place(t, v);
             let c = s.cells[at];
+            if declared.volatiles[v] {
+                // What leads the row of an event on a volatile variable.
+                let lead = lead_of(&declared, &c, &s.cells, &s.stores, t, v, k);
+                refuse_if(lead, &declared, n)?;
+            }
             if k == b'U' {
                 // The cell alone, and nothing that is tallied; one that leaves the cell as it is writes nothing.
-                let last = s.locked[t];
-                let rule = judging::use_rule(c, last, x);
-                if rule != 0 {
-                    return refuse_after(rule, declared, n);
-                }
-                if judging::is_used(c) {
-                    s.events = events;
-                    i += 1;
-                } else {
-                    let cell = judging::used(c);
-                    s.events = events;
-                    s.cells[at] = cell;
-                    i += 1;
+                refuse_if(judging::use_rule(c, last, x), &declared, n)?;
+                if !judging::is_used(c) {
+                    s.cells[at] = judging::used(c);
                 }
             } else if (k == b'R') | (k == b'L') {
                 // The reads of the cell.
-                let q = c.reads;
-                let first = state::slot_place(at, q, 0);
-                let end = state::slot_place(at, q, q.len);
-                let front = s.reads[first];
-                let behind = s.reads[end];
-                let main = s.memory[v];
-                let read = judging::reads_turn(c, front, behind, main, k, x, p);
-                if read.rule != 0 {
-                    return refuse_after(read.rule, declared, n);
-                }
-                let cell = read.cell;
-                let slot = read.slot;
-                s.events = events;
-                s.cells[at] = cell;
-                s.reads[end] = slot;
-                i += 1;
+                let front = s.reads[state::slot_place(at, c.reads, 0)];
+                let end = state::slot_place(at, c.reads, c.reads.len);
+                let turn = judging::reads_turn(c, front, s.reads[end], s.memory[v], k, x, p);
+                refuse_if(turn.rule, &declared, n)?;
+                s.cells[at] = turn.cell;
+                s.reads[end] = turn.slot;
             } else if (k == b'S') | ((k == b'P') | (k == b'W')) {
                 // The stores of the cell, and the variable in main memory.
-                let q = c.stores;
-                let first = state::slot_place(at, q, 0);
-                let end = state::slot_place(at, q, q.len);
-                let front = s.stores[first];
-                let behind = s.stores[end];
-                let main = s.memory[v];
-                let last = s.locked[t];
-                let store = judging::stores_turn(c, front, behind, main, last, k, x, p);
-                if store.rule != 0 {
-                    return refuse_after(store.rule, declared, n);
-                }
-                let cell = store.cell;
-                let slot = store.slot;
-                let left = store.main;
-                let tally = tallies[t];
-                let tallied = tally_after(tally, c, cell);
-                s.events = events;
-                s.cells[at] = cell;
-                s.stores[end] = slot;
-                s.memory[v] = left;
-                tallies[t] = tallied;
-                i += 1;
+                let front = s.stores[state::slot_place(at, c.stores, 0)];
+                let end = state::slot_place(at, c.stores, c.stores.len);
+                let turn = judging::stores_turn(
+                    c,
+                    front,
+                    s.stores[end],
+                    s.memory[v],
+                    last,
+                    k,
+                    x,
+                    p,
+                );
+                refuse_if(turn.rule, &declared, n)?;
+                tallies[t] = tally_after(tallies[t], &c, &turn.cell);
+                s.cells[at] = turn.cell;
+                s.stores[end] = turn.slot;
+                s.memory[v] = turn.main;
             } else {
                 // The cell alone.
-                let last = s.locked[t];
-                let alone = judging::cell_turn(c, last, k, x, p);
-                if alone.rule != 0 {
-                    return refuse_after(alone.rule, declared, n);
-                }
-                let cell = alone.cell;
-                let tally = tallies[t];
-                let tallied = tally_after(tally, c, cell);
-                s.events = events;
-                s.cells[at] = cell;
-                tallies[t] = tallied;
-                i += 1;
+                let turn = judging::cell_turn(c, last, k, x, p);
+                refuse_if(turn.rule, &declared, n)?;
+                tallies[t] = tally_after(tallies[t], &c, &turn.cell);
+                s.cells[at] = turn.cell;
             }
         }
     }
-    let cells = s.cells;
-    let locked = s.locked;
-    let main = s.memory;
-    let copies = copies_of(cells, locked);
-    accept(main, copies)
+    Ok(Memories {
+        main: s.memory,
+        copies: copies_of(&s.cells, &s.locked),
+    })
 }
 
 // Marks two rows of records, with these counts declared.
-pub fn mark_row(h: Counts, what: &[u32], value: &[Value]) -> Outcome
+pub fn mark_row(h: Counts, what: &[u32], value: &[Value]) -> Result<Memories, Refusal>
     ensures { MarksRow h what.now value.now result }
 {
     if value.len() != what.len() {
-        return refuse(7, 0);
+        return Err(Refusal { number: 7, line: 0 });
     }
     if !rules::is_allowed(Course::Full, h) {
-        return refuse(3, 1);
+        return Err(Refusal { number: 3, line: 1 });
     }
-    let s = state::initial(h);
-    let none = no_tally();
-    run(s, [none; THREADS], what, value)
+    run(state::initial(h), [Tally::default(); THREADS], what, value)
 }
 
 // ---- One step.
 
-fn unchanged(s: State, number: u8, line: usize) -> Answer
-    ensures { result ≡ unchanged s (refused number line) }
-{
-    let refused = Verdict::Refused(number, line);
-    Answer {
-        verdict: refused,
-        state: s,
-    }
-}
-
-// n, where it is asked for.
-fn asked(b: bool, n: usize) -> usize
-    ensures { result ≡ cond b n 0 }
-{
-    if b { n } else { 0 }
-}
-
 // The parts of a state that an event of thread t on variable v or lock l, with subject u, looks at.
-fn parts_of(s: State, t: usize, v: usize, l: usize, u: usize) -> Parts
+fn parts_of(s: &State, t: usize, v: usize, l: usize, u: usize) -> Parts
     requires thread { t < 8 }
     requires variable { v < 16 }
     requires lock { l < 8 }
     requires subject { u < 8 }
-    ensures { result ≡ parts_at s t v l u }
+    ensures { result ≡ parts_at s.now t v l u }
 {
     let at = state::cell_place(t, v);
-    let c = s.cells[at];
-    let q = c.reads;
-    let o = c.stores;
-    let read_first = state::slot_place(at, q, 0);
-    let read_end = state::slot_place(at, q, q.len);
-    let store_first = state::slot_place(at, o, 0);
-    let store_end = state::slot_place(at, o, o.len);
-    let read_front = s.reads[read_first];
-    let read_behind = s.reads[read_end];
-    let store_front = s.stores[store_first];
-    let store_behind = s.stores[store_end];
-    let main = s.memory[v];
-    let hold = s.holds[l];
-    let wait = s.waits[u];
+    let cell = s.cells[at];
     Parts {
-        cell: c,
+        cell,
         reads: Ends {
-            front: read_front,
-            behind: read_behind,
+            front: s.reads[state::slot_place(at, cell.reads, 0)],
+            behind: s.reads[state::slot_place(at, cell.reads, cell.reads.len)],
         },
         stores: Ends {
-            front: store_front,
-            behind: store_behind,
+            front: s.stores[state::slot_place(at, cell.stores, 0)],
+            behind: s.stores[state::slot_place(at, cell.stores, cell.stores.len)],
         },
-        main: main,
-        hold: hold,
-        wait: wait,
+        main: s.memory[v],
+        hold: s.holds[l],
+        wait: s.waits[u],
         locked: s.locked[t],
     }
 }
 
-// What an event breaks, and the state after it.
-#[derive(Clone, Copy)]
-struct Judged {
-    rule: u8,
-    state: State,
-}
-
-fn take_turn(s: State, e: Event) -> Judged
-    requires { Turnable s e }
-    ensures { result ≡ record { rule = judge s.counts (words_in s) e; state = step_state s e } }
+// The state after an event, or the refusal by the first rule of its row that it breaks.
+fn take_turn(s: &State, e: Event) -> Result<State, Refusal>
+    requires { Turnable s.now e }
+    ensures { answer_of s.now result ≡ step_with s.now e (judge s.now.counts (words_in s.now) e) }
 {
-    let kind = e.kind;
-    let k = rules::letter_of(kind);
-    let place = rules::place_of(kind);
+    let k = rules::letter_of(e.kind);
+    let place = rules::place_of(e.kind);
     let on_lock = rules::is_lock_letter(k);
-    let v = asked(!on_lock, place);
-    let l = asked(on_lock, place);
+    let v = if on_lock { 0 } else { place };
+    let l = if on_lock { place } else { 0 };
     let t = e.thread;
-    let x = rules::value_of(kind);
+    let x = rules::value_of(e.kind);
     let u = rules::subject_of(k, t, x);
-    let h = s.counts;
-    let events = s.events + 1;
-    let p = events as usize;
     let parts = parts_of(s, t, v, l, u);
+    let cell = parts.cell;
     let any = some_in(tally_of(s, t));
-    let turn = judging::any_turn(parts, h.threads, any, t, l, k, x, p);
-    let own = s.waits[t];
-    let ahead = judging::ahead_rule(own, parts.wait, h.locks, l, k);
-    let c = parts.cell;
-    let cells = s.cells;
-    let stores = s.stores;
-    let lead = lead_of(h, c, cells, stores, t, v, k);
-    let q = c.reads;
-    let o = c.stores;
+    let p = s.events as usize + 1;
+    let turn = judging::any_turn(parts, s.counts.threads, any, t, l, k, x, p);
+    let ahead = judging::ahead_rule(s.waits[t], parts.wait, s.counts.locks, l, k);
+    let lead = lead_of(&s.counts, &cell, &s.cells, &s.stores, t, v, k);
+    let rule = judging::either(ahead, judging::either(lead, turn.rule));
+    refuse_if(rule, &s.counts, s.events)?;
     let at = state::cell_place(t, v);
-    let read_end = state::slot_place(at, q, q.len);
-    let store_end = state::slot_place(at, o, o.len);
-    let cell = turn.cell;
-    let read = turn.read;
-    let store = turn.store;
-    let hold = turn.hold;
-    let main = turn.main;
-    let wait = turn.wait;
-    let mut next = s;
-    next.events = events;
-    next.cells[at] = cell;
-    next.reads[read_end] = read;
-    next.stores[store_end] = store;
+    let mut next = *s;
+    next.events += 1;
+    next.cells[at] = turn.cell;
+    next.reads[state::slot_place(at, cell.reads, cell.reads.len)] = turn.read;
+    next.stores[state::slot_place(at, cell.stores, cell.stores.len)] = turn.store;
     next.locked[t] = turn.locked;
-    next.holds[l] = hold;
-    next.memory[v] = main;
-    next.waits[u] = wait;
-    Judged {
-        rule: judging::either(ahead, judging::either(lead, turn.rule)),
-        state: next,
-    }
+    next.holds[l] = turn.hold;
+    next.memory[v] = turn.main;
+    next.waits[u] = turn.wait;
+    Ok(next)
 }
 
-// One event: 8, then 9 or in the short course 25, 5, then its row. A refused step hands the state back as it was.
+// The state after one event: 8, then 9 or in the short course 25, 5, then its row.
+fn next_state(course: Course, s: &State, e: Event) -> Result<State, Refusal>
+    ensures { answer_of s.now result ≡ stepped (limits_of course) s.now e }
+{
+    if !state::in_range(course, *s) {
+        return Err(Refusal { number: 8, line: 0 });
+    }
+    if rules::most_events(course) <= s.events {
+        let excess = rules::excess_of(course);
+        return Err(refusal_after(excess, &s.counts, s.events));
+    }
+    if !rules::is_declared(s.counts, e) {
+        return Err(refusal_after(5, &s.counts, s.events));
+    }
+    take_turn(s, e)
+}
+
+// One event. A refused step hands the state back as it was.
 pub fn step(course: Course, s: State, e: Event) -> Answer
     ensures { result ≡ stepped (limits_of course) s e }
 {
-    if !state::in_range(course, s) {
-        return unchanged(s, 8, 0);
-    }
-    let h = s.counts;
-    let n = s.events;
-    let line = rules::line_after(h, n);
-    if rules::most_events(course) <= n {
-        return unchanged(s, rules::excess_of(course), line);
-    }
-    if !rules::is_declared(h, e) {
-        return unchanged(s, 5, line);
-    }
-    let turn = take_turn(s, e);
-    if turn.rule != 0 {
-        return unchanged(s, turn.rule, line);
-    }
-    let next = turn.state;
-    let all = Verdict::Accepted;
-    Answer {
-        verdict: all,
-        state: next,
+    match next_state(course, &s, e) {
+        Ok(state) => Answer {
+            verdict: Ok(()),
+            state,
+        },
+        Err(refusal) => Answer {
+            verdict: Err(refusal),
+            state: s,
+        },
     }
 }

@@ -1,15 +1,15 @@
 -- `some` over the flags of a list is a search of the list; and the letters that name a kind.
-use Prim.Native.Nat.{ℕ, zero, suc, ◌≤◌, ◌<◌}
+use Prim.Native.Nat.{ℕ, zero, suc, ◌+◌, ◌≤◌, ◌<◌}
 use native.Mathlib.Omega.{arith}
 use native.Mathlib.Numerals.{add-one}
 use mathlib.Core.Path.{◌≡◌, refl, sym, ap, ◌∙◌}
-use mathlib.Core.Bool.{Bool, true, false, cond, ◌&&◌, ◌||◌, or-false}
+use mathlib.Core.Bool.{Bool, true, false, cond, ◌&&◌, ◌||◌, or-false, or_assoc}
 use mathlib.Core.List.{List, [], ◌∷◌, ◌++◌}
 use lib.Dec.{eqb, leb}
 use lib.IntN.{ℤ}
 use lib.ListN.{length, get_or, take, drop, length-take}
 use Rattle.std.specs.Prelude.{Option, Some, None, is_some}
-use Rattle.std.specs.List.{list_any}
+use Rattle.std.specs.List.{list_any, range_with_len}
 use Rattle.std.proofs.Math.Bool.{or_comm}
 use Rattle.std.proofs.Math.ListN.{drop_of_length-le}
 use Rattle.std.proofs.lemmas.List.{take_more, drop-append-le}
@@ -55,6 +55,21 @@ any_within k xs (suc n) h = let before = any_within k xs n (omega arith) in case
 
 pub any_from : (k : ℕ) (xs : List Bool) → list_any (λ b. b) (drop k xs) ≡ set_from k xs (length xs)
 any_from k xs = ap (λ l. list_any (λ b. b) (drop k l)) (sym (take_all (length xs) xs (omega arith))) ∙ any_within k xs (length xs) (omega arith)
+
+-- a search of the numbers from a on, and those below a beside it
+any_on : (f : ℕ → Bool) (a n : ℕ) → (some a f || list_any f (range_with_len a n)) ≡ some (a + n) f
+unfolding some
+any_on f a zero = rw or-false (ap (λ (m : ℕ). some m f) (let z : a ≡ a + 0 = omega arith in z))
+any_on f a (suc n) =
+    let z : a + 1 + n ≡ a + suc n = omega arith in
+    sym (or_assoc (some a f) (f a) (list_any f (range_with_len (a + 1) n)))
+    ∙ ap (λ (b : Bool). b || list_any f (range_with_len (a + 1) n)) (or_comm (some a f) (f a) ∙ (let y : suc a ≡ a + 1 = omega arith in ap (λ (m : ℕ). some m f) y))
+    ∙ any_on f (a + 1) n ∙ ap (λ (m : ℕ). some m f) z
+
+-- a search of the numbers below n
+pub any_below : (n : ℕ) (f : ℕ → Bool) → list_any f (range_with_len 0 n) ≡ some n f
+unfolding some
+any_below n f = any_on f 0 n ∙ ap (λ (m : ℕ). some m f) (let z : 0 + n ≡ n = omega arith in z)
 
 -- ---- letters
 

@@ -1,11 +1,6 @@
 -- `machine::run` meets its contract: `Running` holds at each record. Assumes nothing.
-use Prim.Native.Nat.{◌-◌}
-use lib.ListN.{length}
 use Rattle.machine.proofs.Running.{Running}
 use Rattle.machine.proofs.run.Given as goal
 
 abbrev pub invariant-loop-i : goal.invariant-loop-i
 invariant-loop-i l = Running l.initial.s l.what l.value l.s l.tallies l.i
-
-abbrev pub decreases-loop-i : goal.decreases-loop-i
-decreases-loop-i l = length l.what - l.i

@@ -5,4 +5,4 @@ use Rattle.machine.proofs.tally_after.Goals as goal
 
 pub returns : goal.returns
 unfolding tally_after
-returns c = rw (c.moved.ensures, c.moved-2.ensures, c.moved-3.ensures, c.awaits_write-is.ensures, c.awaits_write-was.ensures) refl
+returns c = rw (c.moved.ensures, c.moved-2.ensures, c.moved-3.ensures, c.awaits_write-2.ensures, c.awaits_write.ensures) refl

@@ -1,5 +1,4 @@
 -- `machine::tally_of` meets its contract: after v turns the numbers are those of the first v variables. Assumes nothing.
-use Prim.Native.Nat.{◌≤◌, ◌-◌}
 use mathlib.Core.Path.{◌≡◌}
 use Rattle.state.specs.State.{cell_at}
 use Rattle.judging.specs.Computed.Turns.{awaits_write}
@@ -8,7 +7,4 @@ use Rattle.machine.proofs.tally_of.Given as goal
 
 abbrev pub invariant-loop-v : goal.invariant-loop-v
 invariant-loop-v l =
-    (l.v ≤ l.h.variables) × (l.pending ≡ number l.v (λ w. (cell_at l.s l.t w).pending)) × (l.fresh ≡ number l.v (λ w. (cell_at l.s l.t w).fresh)) × (l.stored ≡ number l.v (λ w. awaits_write (cell_at l.s l.t w)))
-
-abbrev pub decreases-loop-v : goal.decreases-loop-v
-decreases-loop-v l = l.h.variables - l.v
+    (l.tally.pending ≡ number l.v (λ w. (cell_at l.s l.t w).pending)) × (l.tally.fresh ≡ number l.v (λ w. (cell_at l.s l.t w).fresh)) × (l.tally.stored ≡ number l.v (λ w. awaits_write (cell_at l.s l.t w)))

@@ -1,11 +1,12 @@
 -- Steps over the lines of a row, each an event or none, up to the first refusal; and what one step rests on.
-use Rattle.std.specs.Prelude.{ℕ, ◌<◌, ◌≡◌, true, List, [], ◌∷◌}
+use Rattle.std.specs.Prelude.{ℕ, ◌<◌, ◌≡◌, true, List, [], ◌∷◌, Result, Ok, Err}
 use Rattle.std.proofs.Math.Option.{Option, none, some}
 use Rattle.rules.specs.declared.Event.{Event}
 use Rattle.rules.specs.declared.Main.{Main}
-use Rattle.rules.specs.declared.Verdict.TheVariants as verdict
+use Rattle.rules.specs.declared.Memories.{Memories}
+use Rattle.rules.specs.declared.Refusal.{Refusal}
 use Rattle.rules.specs.Limits.{Limits, full, no_volatiles, line_after}
-use Rattle.rules.specs.Memories.{memories_of, no_memories}
+use Rattle.rules.specs.Memories.{memories_of}
 use Rattle.rules.specs.Rules.{accepted, refused}
 use Rattle.state.specs.declared.Cell.{Cell}
 use Rattle.state.specs.declared.State.{State}
@@ -13,7 +14,6 @@ use Rattle.state.specs.Range.{in_range}
 use Rattle.state.specs.State.{words_in}
 use Rattle.state.specs.Step.{Within}
 use Rattle.machine.specs.declared.Answer.{Answer}
-use Rattle.machine.specs.declared.Outcome.{Outcome}
 use Rattle.machine.specs.Stepped.{unchanged, stepped, onwards}
 
 unfoldable pub walk : Limits → State → List (Option Event) → Answer
@@ -22,8 +22,13 @@ walk m s (none ∷ rest) = unchanged s (refused 4 (line_after s.counts s.events)
 walk m s (some e ∷ rest) = onwards (stepped m s e) (λ z. walk m z rest)
 
 -- the memories in the state that is left, where nothing is refused
-abbrev pub outcome_of : Answer → Outcome
-outcome_of a = record { verdict = a.verdict; memories = elim a.verdict [ verdict.Accepted ↦ memories_of (words_in a.state) | verdict.Refused n l ↦ no_memories ] }
+abbrev pub outcome_of : Answer → Result Memories Refusal
+outcome_of a = elim a.verdict [ Ok u ↦ Ok (memories_of (words_in a.state)) | Err r ↦ Err r ]
+
+-- the state after a step from s, or s as it was beside its refusal
+abbrev pub answer_of : State → Result State Refusal → Answer
+answer_of s (Ok z) = record { verdict = Ok tt; state = z }
+answer_of s (Err r) = record { verdict = Err r; state = s }
 
 -- a state with these parts, on which alone its memories hang
 abbrev pub state_of : List Cell → List ℕ → List Main → State
