@@ -328,10 +328,14 @@ abbrev pub told : {A : Type 0} → Result A Refusal → Marked
 told (Ok a) = accepted
 told (Err r) = refused r.number r.line
 
+-- what is found where nothing is refused. A refusal gives number and line and nothing else.
+abbrev pub answered : {A : Type 0} → Marked → A → Result A Refusal
+answered accepted a = Ok a
+answered (refused number line) a = Err (record { number = number; line = line })
+
 -- the verdict that says this
 abbrev pub said : Marked → Verdict
-said accepted = Ok tt
-said (refused number line) = Err (record { number = number; line = line })
+said m = answered m tt
 
 -- 0 stands for no refusal
 abbrev pub number_in : Marked → ℕ
