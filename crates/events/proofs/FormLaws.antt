@@ -12,10 +12,9 @@ use Rattle.rules.specs.Limits.{value_width}
 use Rattle.rules.proofs.Letters.{capped_twice}
 use Rattle.lines.specs.Lines.{split_on}
 use Rattle.lines.specs.Lines as line
-use Rattle.decimal.specs.declared.Natural.{Natural}
-use Rattle.decimal.specs.declared.Natural.TheVariants as natural
-use Rattle.decimal.specs.declared.Integer.{Integer}
-use Rattle.decimal.specs.declared.Integer.TheVariants as integer
+use Rattle.std.proofs.Common.{Some, None, Result, Ok, Err}
+use Rattle.std.proofs.Common.{Option as Option'}
+use Rattle.decimal.specs.declared.NotValue.{NotValue}
 use Rattle.decimal.specs.Decimal.{natural_of, integer_of}
 use Rattle.records.specs.Records.{what_of, packed, value_in, or_read}
 use Rattle.records.proofs.RecordLaws.{kept_value, kinded}
@@ -27,14 +26,13 @@ abbrev pub Good : Fields → Type 0
 Good wrong = Unit {0}
 Good (right k t p x) = (is_letter k ≡ true) × (kept_value k x ≡ x)
 
-good_number : (n : Natural) (f : ℕ → Fields) → ((i : ℕ) → Good (f i)) → Good (on_number n f)
-good_number natural.Bad f g = tt
-good_number (natural.Of n) f g = g n
+good_number : (n : Option' ℕ) (f : ℕ → Fields) → ((i : ℕ) → Good (f i)) → Good (on_number n f)
+good_number None f g = tt
+good_number (Some n) f g = g n
 
-good_integer : (n : Integer) (f : ℤ → Fields) → ((z : ℤ) → Good (f z)) → Good (on_integer n f)
-good_integer integer.Bad f g = tt
-good_integer integer.Outside f g = tt
-good_integer (integer.Of z) f g = g z
+good_integer : (n : Result ℤ NotValue) (f : ℤ → Fields) → ((z : ℤ) → Good (f z)) → Good (on_integer n f)
+good_integer (Err e) f g = tt
+good_integer (Ok z) f g = g z
 
 good_field : (f : ℕ → List (List ℕ) → Fields) (fs : List (List ℕ)) → ((n : ℕ) (xs : List (List ℕ)) → Good (f n xs)) → Good (field f fs)
 good_field f [] g = tt

@@ -10,8 +10,9 @@ use mir.Syntax.{Width}
 use lib.Dec.{leb}
 use lib.ListN.{length, get_or}
 use Rattle.rules.specs.declared.Event.{Event}
-use Rattle.rules.specs.declared.Named.{Named}
-use Rattle.rules.specs.declared.Named.TheVariants as named
+use Rattle.rules.specs.declared.Kind.{Kind}
+use Rattle.std.proofs.Common.{Some, None}
+use Rattle.std.proofs.Common.{Option as Option'}
 use Rattle.rules.specs.Events.{kind_of, event_with}
 use Rattle.rules.specs.Limits.{Limits}
 use Rattle.rules.specs.Reading.{read_from}
@@ -21,12 +22,12 @@ pub event_line_law : (w : Width) (n : ℕ) (l : List ℕ) (e : Event) → event_
 unfolding event_of
 event_line_law w n l e q = by (line_of w l) q
   where
-    with_kind : (t : ℕ) (k : Named) → event_with n t k ≡ some e → e.line ≡ n
-    with_kind t named.Nothing q = absurd (let z : ◌≡◌ {A = ℕ} 0 1 = cc in omega arith)
-    with_kind t (named.Of k) q = let d : record { thread = t; line = n; kind = k } ≡ e = cc in ap (λ (x : Event). x.line) (sym d)
+    with_kind : (t : ℕ) (k : Option' Kind) → event_with n t k ≡ some e → e.line ≡ n
+    with_kind t None q = cc
+    with_kind t (Some k) q = let d : record { thread = t; line = n; kind = k } ≡ e = cc in ap (λ (x : Event). x.line) (sym d)
 
     by : (f : Fields) → event_in n f ≡ some e → e.line ≡ n
-    by wrong q = absurd (let z : ◌≡◌ {A = ℕ} 0 1 = cc in omega arith)
+    by wrong q = cc
     by (right k t p x) q = with_kind t (kind_of k p x) q
 
 -- events on the lines from the n-th on, one on each

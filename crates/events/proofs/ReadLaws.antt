@@ -12,14 +12,13 @@ use borrow.Table.Elements.{map_app}
 use Rattle.rules.specs.declared.Event.{Event}
 use Rattle.rules.specs.declared.Counts.{Counts}
 use Rattle.rules.specs.declared.Course.{Course}
-use Rattle.rules.specs.declared.Verdict.{Verdict}
-use Rattle.rules.specs.declared.Verdict.TheVariants.{Accepted, Refused}
+use Rattle.std.proofs.Common.{Some, None, Ok, Err}
 use Rattle.rules.specs.Limits.{full, limits_of, first_line, line_after, value_width}
-use Rattle.rules.specs.Rules.{told}
+use Rattle.rules.specs.Rules.{Verdict, refused, told}
 use Rattle.rules.specs.Reading.{read_from, stop_from}
 use Rattle.rules.proofs.Bounds.{up_to_full}
 use Rattle.decimal.specs.Text.{over}
-use Rattle.decimal.proofs.TextLaws.{over_next, over_length}
+use Rattle.decimal.proofs.TextLaws.{over_next}
 use Rattle.records.specs.Records.{what_of, packed, value_in}
 use Rattle.events.specs.declared.Line.{Line}
 use Rattle.events.specs.Events.{readings, part_lines}
@@ -33,9 +32,6 @@ row_next : {X : Type 0} (f : Event → X) (es : List Event) (e : Event) (row o :
 row_next {X} f es e row o n x q c h z =
     let k : n ≡ length (map f es) = sym c ∙ sym (length-map es f) in
     (λ i. set (q i) (k i) (z i)) ∙ over_next (map f es) o (f e) (omega (arith, k)) ∙ ap (λ (u : List X). over u o) (sym (map_app f es (e ∷ [])))
-
-row_length : {X : Type 0} (f : Event → X) (es : List Event) (row o : List X) → row ≡ over (map f es) o → length es ≤ length o → length row ≡ length o
-row_length f es row o q h = ap length q ∙ over_length (map f es) o (omega (arith, length-map es f))
 
 -- the lines from the n-th on
 abbrev left : Counts → List ℕ → ℕ → ℕ → List (Option Event)
@@ -65,34 +61,24 @@ turn_start course h s from what value =
     }
 
 module _ {course : Course} {h : Counts} {s what₀ what : List ℕ} {value₀ value : List ℤ} {from at n : ℕ} (t : Turn course h s from what₀ value₀ what value at n) where
-  pub turn_few : n ≤ full.events
-  turn_few = omega (arith, t.small, (up_to_full course).events)
-
-  -- the rows keep their lengths
-  pub turn_what : full.events ≤ length what₀ → length what ≡ length what₀
-  turn_what i = row_length packed t.past what what₀ t.what_is (omega (arith, t.count, turn_few))
-
-  pub turn_value : full.events ≤ length value₀ → length value ≡ length value₀
-  turn_value i = row_length value_in t.past value value₀ t.value_is (omega (arith, t.count, turn_few))
-
   -- the next line starts behind this one
-  pub turn_next : (l : Line) → l ≡ line_at s at → (l.letter ≡ 0 → ⊥) → at < l.next
-  turn_next l e z = omega (arith, (here (line_after h n) s at (λ y. z (ap (λ (l : Line). l.letter) e ∙ y))).more, ap (λ (l : Line). l.next) e)
+  pub turn_next : (l : Line) → line_at s at ≡ Some l → at < l.next
+  turn_next l e = (here (line_after h n) s at l e).more
 
   -- an event: one record more, and the next line
-  pub turn_more : (l : Line) (w : ℕ) (x : ℤ) → l ≡ line_at s at → (l.letter ≡ 0 → ⊥) → n < (limits_of course).events → full.events ≤ length what₀ → full.events ≤ length value₀
+  pub turn_more : (l : Line) (w : ℕ) (x : ℤ) → line_at s at ≡ Some l → n < (limits_of course).events → full.events ≤ length what₀ → full.events ≤ length value₀
       → w ≡ what_of l.letter l.thread l.place → x ≡ l.value → Turn course h s from what₀ value₀ (set what n w) (set value n x) l.next (n + 1)
-  turn_more l w x e z i a b p q = by (here (line_after h n) s at (λ y. z (ap (λ (l : Line). l.letter) e ∙ y)))
+  turn_more l w x e i a b p q = by (here (line_after h n) s at l e)
     where
-      by : Here (line_after h n) s at (line_at s at) → Turn course h s from what₀ value₀ (set what n w) (set value n x) l.next (n + 1)
+      by : Here (line_after h n) s at l → Turn course h s from what₀ value₀ (set what n w) (set value n x) l.next (n + 1)
       by v = record {
         past = t.past ++ (v.event ∷ []);
         count = length-append t.past (v.event ∷ []) ∙ ap (λ (k : ℕ). k + 1) t.count;
         small = omega arith;
         read = t.read ∙ ap (λ (ls : List Event). t.past ++ ls) (ap (read_from (limits_of course) n) next ∙ read_on) ∙ sym (append_assoc t.past (v.event ∷ []) (read_from (limits_of course) (n + 1) rest));
         stop = t.stop ∙ ap (stop_from (limits_of course) h n) next ∙ stop_on;
-        what_is = row_next packed t.past v.event what what₀ n w t.what_is t.count (omega (arith, (up_to_full course).events)) (p ∙ ap (λ (l : Line). what_of l.letter l.thread l.place) e ∙ sym v.what_is);
-        value_is = row_next value_in t.past v.event value value₀ n x t.value_is t.count (omega (arith, (up_to_full course).events)) (q ∙ ap (λ (l : Line). l.value) e ∙ sym v.value_is);
+        what_is = row_next packed t.past v.event what what₀ n w t.what_is t.count (omega (arith, (up_to_full course).events)) (p ∙ sym v.what_is);
+        value_is = row_next value_in t.past v.event value value₀ n x t.value_is t.count (omega (arith, (up_to_full course).events)) (q ∙ sym v.value_is);
       }
         where
           rest : List (Option Event)
@@ -101,7 +87,7 @@ module _ {course : Course} {h : Counts} {s what₀ what : List ℕ} {value₀ va
           next : left h s at n ≡ some v.event ∷ rest
           next =
               let k : suc (line_after h n) ≡ line_after h (n + 1) = omega arith in
-              v.lines ∙ (λ j. some v.event ∷ readings value_width (k j) (part_lines (drop (sym e j).next s)))
+              v.lines ∙ ap (λ (j : ℕ). some v.event ∷ readings value_width j (part_lines (drop l.next s))) k
 
           read_on : read_from (limits_of course) n (some v.event ∷ rest) ≡ v.event ∷ read_from (limits_of course) (n + 1) rest
           read_on = unfold read_from in rw (lt-leb (limits_of course).events n i, add-one n)
@@ -121,20 +107,20 @@ module _ {course : Course} {h : Counts} {s what₀ what : List ℕ} {value₀ va
         value_is = t.value_is ∙ ap (λ (es : List Event). over (map value_in es) value₀) (sym all);
       }
 
-  pub turn_end : length s ≤ at → Reads (limits_of course) h (drop from s) (record { count = n; verdict = Accepted }) what₀ what value₀ value
-  turn_end i = finish [] Accepted (ap (readings value_width (line_after h n)) (part_none s at i) ∙ (unfold readings in refl)) (unfold read_from in refl) (unfold stop_from in refl)
+  pub turn_end : length s ≤ at → Reads (limits_of course) h (drop from s) (record { count = n; verdict = Ok tt }) what₀ what value₀ value
+  turn_end i = finish [] (Ok tt) (ap (readings value_width (line_after h n)) (part_none s at i) ∙ (unfold readings in refl)) (unfold read_from in refl) (unfold stop_from in refl)
 
   -- a line that is no event
-  pub turn_wrong : (l : Line) (line : ℕ) → l ≡ line_at s at → at < length s → l.letter ≡ 0 → line ≡ line_after h n
-      → Reads (limits_of course) h (drop from s) (record { count = n; verdict = Refused 4 line }) what₀ what value₀ value
-  turn_wrong l line e i z k =
-      let v = wrong_here (line_after h n) s at i (sym (ap (λ (l : Line). l.letter) e) ∙ z) in
-      finish (none ∷ v.rest) (Refused 4 line) v.lines (unfold read_from in refl) (unfold stop_from in ap (λ (j : ℕ). told (Refused 4 j)) k)
+  pub turn_wrong : (line : ℕ) → line_at s at ≡ None → at < length s → line ≡ line_after h n
+      → Reads (limits_of course) h (drop from s) (record { count = n; verdict = Err (record { number = 4; line = line }) }) what₀ what value₀ value
+  turn_wrong line e i k =
+      let v = wrong_here (line_after h n) s at i e in
+      finish (none ∷ v.rest) (Err (record { number = 4; line = line })) v.lines (unfold read_from in refl) (unfold stop_from in ap (refused 4) k)
 
   -- an event more than there may be
-  pub turn_full : (l : Line) (number line : ℕ) → l ≡ line_at s at → (l.letter ≡ 0 → ⊥) → (limits_of course).events ≤ n → number ≡ (limits_of course).excess → line ≡ line_after h n
-      → Reads (limits_of course) h (drop from s) (record { count = n; verdict = Refused number line }) what₀ what value₀ value
-  turn_full l number line e z i x k =
-      let v = here (line_after h n) s at (λ y. z (ap (λ (l : Line). l.letter) e ∙ y)) in
-      finish (some v.event ∷ readings value_width (suc (line_after h n)) (part_lines (drop (line_at s at).next s))) (Refused number line) v.lines
-      (unfold read_from in rw (le-leb (limits_of course).events n i)) (unfold stop_from in rw (le-leb (limits_of course).events n i) (λ j. told (Refused (x j) (k j))))
+  pub turn_full : (l : Line) (number line : ℕ) → line_at s at ≡ Some l → (limits_of course).events ≤ n → number ≡ (limits_of course).excess → line ≡ line_after h n
+      → Reads (limits_of course) h (drop from s) (record { count = n; verdict = Err (record { number = number; line = line }) }) what₀ what value₀ value
+  turn_full l number line e i x k =
+      let v = here (line_after h n) s at l e in
+      finish (some v.event ∷ readings value_width (suc (line_after h n)) (part_lines (drop l.next s))) (Err (record { number = number; line = line })) v.lines
+      (unfold read_from in rw (le-leb (limits_of course).events n i)) (unfold stop_from in rw (le-leb (limits_of course).events n i) (λ j. refused (x j) (k j)))

@@ -9,16 +9,17 @@ use borrow.Author.Tests.{lt-ltb, le-ltb, eqb-true}
 use lib.Dec.{eqb, ltb}
 use lib.ListN.{length, get_or, take, drop, length-drop}
 use lib.Seq.{drop-drop, get_or-take, length-take-le}
-use Rattle.decimal.specs.declared.Natural.{Natural}
-use Rattle.decimal.specs.declared.Natural.TheVariants as natural
+use Rattle.std.proofs.Common.{Option, Some, None}
+use Rattle.decimal.specs.declared.Reached.{Reached}
 use Rattle.decimal.specs.Decimal.{is_digit, natural_of}
 use Rattle.lines.proofs.PartLaws.{lt_or_le}
 use Rattle.lines.specs.Lines.{before, split_on}
 use Rattle.lines.proofs.FieldLaws.{before_le, split_some}
-use Rattle.decimal.proofs.NumberLaws.{natural_bad, bad_not, Got, got}
-use Rattle.decimal.specs.Computed.Forward.{nowhere, reached, number_until}
+use Rattle.decimal.proofs.NumberLaws.{natural_bad, Got, got}
+use Rattle.decimal.specs.Computed.Forward.{reached, number_until}
+use Rattle.events.specs.declared.Line.{Line}
 use Rattle.events.specs.Events.{Fields, wrong, on_number, field, last}
-use Rattle.events.specs.Computed.Lines.{placed, no_line, front, stage}
+use Rattle.events.specs.Computed.Lines.{placed, front, stage}
 
 -- the byte that was looked for
 pub get_d_before : (b : ℕ) (t : List ℕ) → before b t < length t → get_or t (before b t) 0 ≡ b
@@ -76,35 +77,35 @@ fields_one (x ∷ xs) h = by (eqb x 32) (eqb x 10) refl h (fields_one xs)
     by true false e h r = absurd (omega arith)
     by false false e h r = rw (e, r (omega arith))
 
-none_either : (q : Bool) → cond q no_line no_line ≡ no_line
+none_either : (q : Bool) → ◌≡◌ {A = Option Line} (cond q None None) None
 none_either true = refl
 none_either false = refl
 
-none_number : (m : Natural) (f : ℕ → Fields) → ((n : ℕ) → f n ≡ wrong) → on_number m f ≡ wrong
-none_number natural.Bad f h = refl
-none_number (natural.Of n) f h = h n
+none_number : (m : Option ℕ) (f : ℕ → Fields) → ((n : ℕ) → f n ≡ wrong) → on_number m f ≡ wrong
+none_number None f h = refl
+none_number (Some n) f h = h n
 
-reached_number : (e : ℕ) (m : Natural) → (reached e m).number ≡ m
-reached_number e natural.Bad = refl
-reached_number e (natural.Of n) = refl
+reached_none : (e : ℕ) (m : Option ℕ) → reached e m ≡ None → m ≡ None
+reached_none e None h = refl
+reached_none e (Some n) h = cc
 
 -- a field that is no number: no event line
 pub stage_bad : (f : ℕ → List (List ℕ) → Fields) → ((n : ℕ) → f n [] ≡ wrong) → (at : ℕ) (t : List ℕ)
-    → (number_until 32 at t).number ≡ natural.Bad → stage (field f) at t ≡ no_line
+    → number_until 32 at t ≡ None → stage (field f) at t ≡ None
 unfolding stage number_until
 stage_bad f z at t h = ⊎_elim
     (λ a.
-    let e : natural_of (take (before 32 t) t) ≡ natural.Bad =
-    sym (reached_number (at + before 32 t + 1) (natural_of (take (before 32 t) t)))
-    ∙ ap (λ (q : Bool). (cond q (reached (at + before 32 t + 1) (natural_of (take (before 32 t) t))) nowhere).number)
-    (sym (lt-ltb (before 32 t) (length t) (omega (arith, before_le 10 t)))) ∙ h in
+    let e : natural_of (take (before 32 t) t) ≡ None =
+    reached_none (at + before 32 t + 1) (natural_of (take (before 32 t) t))
+    (ap (λ (q : Bool). cond q (reached (at + before 32 t + 1) (natural_of (take (before 32 t) t))) None)
+    (sym (lt-ltb (before 32 t) (length t) (omega (arith, before_le 10 t)))) ∙ h) in
     rw (fields_more t a, e) (none_either (ltb (before 10 t) (length t))))
     (λ a. rw (fields_one t a, none_number (natural_of (front t)) (λ n. f n []) z) (none_either (ltb (before 10 t) (length t))))
     (lt_or_le (before 32 t) (before 10 t))
 
 -- a number up to a space stands in the line
-got_in_line : (at : ℕ) (t : List ℕ) (n : ℕ) → Got 32 at t n → before 32 t < before 10 t
-got_in_line at t n g = ⊎_elim (λ a. a)
+got_in_line : (at : ℕ) (t : List ℕ) (r : Reached) → Got 32 at t r → before 32 t < before 10 t
+got_in_line at t r g = ⊎_elim (λ a. a)
     (λ a.
     let x : get_or t (before 10 t) 0 ≡ 10 = get_d_before 10 t (omega (arith, g.inside)) in
     let y : get_or t (before 32 t) 0 ≡ 32 = get_d_before 32 t g.inside in
@@ -113,18 +114,17 @@ got_in_line at t n g = ⊎_elim (λ a. a)
     let b : get_or (take (before 32 t) t) (before 10 t) 0 ≡ 10 = get_or-take (before 32 t) t (before 10 t) 0 lt ∙ x in
     let k : is_digit (get_or (take (before 32 t) t) (before 10 t) 0) ≡ false = rw (b) in
     let l : before 10 t < length (take (before 32 t) t) = rw (length-take-le (before 32 t) t (omega (arith, g.inside))) lt in
-    absurd (bad_not n (sym (natural_bad (before 10 t) (take (before 32 t) t) l k) ∙ g.is)))
+    let w : None ≡ Some r.number = sym (natural_bad (before 10 t) (take (before 32 t) t) l k) ∙ g.is in cc)
     (lt_or_le (before 32 t) (before 10 t))
 
 -- a number up to a space: the fields behind it
-pub stage_number : (f : ℕ → List (List ℕ) → Fields) (at : ℕ) (s : List ℕ) (n : ℕ)
-    → (number_until 32 at (drop at s)).number ≡ natural.Of n
-    → stage (field f) at (drop at s) ≡ stage (f n) (number_until 32 at (drop at s)).next (drop (number_until 32 at (drop at s)).next s)
+pub stage_number : (f : ℕ → List (List ℕ) → Fields) (at : ℕ) (s : List ℕ) (r : Reached)
+    → number_until 32 at (drop at s) ≡ Some r → stage (field f) at (drop at s) ≡ stage (f r.number) r.next (drop r.next s)
 unfolding stage
-stage_number f at s n h =
+stage_number f at s r h =
     let t = drop at s in
-    let g = got 32 at t n h in
-    let a = got_in_line at t n g in
+    let g = got 32 at t r h in
+    let a = got_in_line at t r g in
     let m : at + before 32 t + 1 ≡ at + (before 32 t + 1) = omega arith in
     let d : drop (at + before 32 t + 1) s ≡ drop (before 32 t + 1) t = ap (λ (i : ℕ). drop i s) m ∙ sym (drop-drop (before 32 t + 1) at s) in
     let u = drop (before 32 t + 1) t in
@@ -147,7 +147,7 @@ front_byte t a = get_or-take (before 10 t) t (before 32 t) 0 a ∙ get_d_before 
 
 -- the last field
 pub stage_last : (g : List ℕ → Fields) → ((x : List ℕ) (i : ℕ) → i < length x → get_or x i 0 ≡ 32 → g x ≡ wrong) → (at : ℕ) (t : List ℕ)
-    → stage (last g) at t ≡ cond (ltb (before 10 t) (length t)) (placed (at + before 10 t + 1) (g (front t))) no_line
+    → stage (last g) at t ≡ cond (ltb (before 10 t) (length t)) (placed (at + before 10 t + 1) (g (front t))) None
 unfolding stage
 stage_last g z at t = ⊎_elim
     (λ a.

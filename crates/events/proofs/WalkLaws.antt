@@ -2,8 +2,10 @@
 use Prim.Native.Nat.{ℕ, zero, suc, ◌≤◌, ◌<◌, ◌+◌}
 use native.Mathlib.Omega.{arith}
 use native.Mathlib.Nat.{not-suc-le-zero}
-use mathlib.Core.Path.{◌≡◌, refl, sym, ap, ◌∙◌}
-use mathlib.Core.Bool.{Bool, true, false, cond, false≢true}
+use mathlib.Core.Path.{◌≡◌, refl, sym, ap, ◌∙◌, subst}
+use Rattle.std.proofs.Common.{Some, None}
+use Rattle.std.proofs.Common.{Option as Option'}
+use mathlib.Core.Bool.{Bool, true, false, cond}
 use mathlib.Core.List.{List, [], ◌∷◌}
 use mathlib.Core.Option.{Option, none, some}
 use mathlib.Core.Logic.{⊎_elim}
@@ -13,14 +15,13 @@ use lib.ListN.{length, take, drop, length-drop, drop_of_length-le}
 use lib.Seq.{drop-drop}
 use Rattle.rules.specs.Limits.{value_width}
 use Rattle.rules.specs.declared.Event.{Event}
-use Rattle.rules.specs.Events.{is_letter}
 use Rattle.lines.specs.Lines.{before, up_to, split_on, ended, letter, lines_of}
 use Rattle.lines.proofs.PartLaws.{lt_or_le}
 use Rattle.lines.proofs.FieldLaws.{split_more, split_last, split_some, ended_drop, ended_before, lines_more}
 use Rattle.records.specs.Records.{what_of, packed, value_in}
 use Rattle.events.specs.declared.Line.{Line}
 use Rattle.events.specs.Events.{Fields, wrong, right, line_of, event_in, event_of, readings, part_lines}
-use Rattle.events.specs.Computed.Lines.{no_line, placed, front, stage, line_at}
+use Rattle.events.specs.Computed.Lines.{placed, front, stage, line_at}
 use Rattle.events.proofs.LineLaws.{zero_none}
 use Rattle.events.proofs.FormLaws.{Good, good, made}
 
@@ -67,13 +68,13 @@ part_within (suc n) s l w =
 -- ---- the line at `at`, which is line n
 
 at_as : (s : List ℕ) (at : ℕ) → line_at s at
-    ≡ cond (ltb (before 10 (drop at s)) (length (drop at s))) (placed (at + before 10 (drop at s) + 1) (line_of value_width (front (drop at s)))) no_line
+    ≡ cond (ltb (before 10 (drop at s)) (length (drop at s))) (placed (at + before 10 (drop at s) + 1) (line_of value_width (front (drop at s)))) None
 unfolding line_at stage line_of
 at_as s at = refl
 
 at_ended : (s : List ℕ) (at : ℕ) → before 10 (drop at s) < length (drop at s)
     → line_at s at ≡ placed (at + before 10 (drop at s) + 1) (line_of value_width (front (drop at s)))
-at_ended s at h = at_as s at ∙ ap (λ (q : Bool). cond q (placed (at + before 10 (drop at s) + 1) (line_of value_width (front (drop at s)))) no_line) (lt-ltb _ _ h)
+at_ended s at h = at_as s at ∙ ap (λ (q : Bool). cond q (placed (at + before 10 (drop at s) + 1) (line_of value_width (front (drop at s)))) None) (lt-ltb _ _ h)
 
 -- it is the event that its numbers say, and the next line starts where they say
 pub record Here (n : ℕ) (s : List ℕ) (at : ℕ) (l : Line) : Type 0 where
@@ -83,8 +84,8 @@ pub record Here (n : ℕ) (s : List ℕ) (at : ℕ) (l : Line) : Type 0 where
   pub value_is : value_in event ≡ l.value
   pub more : at < l.next
 
-pub here : (n : ℕ) (s : List ℕ) (at : ℕ) → ((line_at s at).letter ≡ 0 → ⊥) → Here n s at (line_at s at)
-here n s at z = rw (at_as s at) (by (ltb (before 10 t) (length t)) refl (line_of value_width (front t)) refl (good (front t)) (λ e. z (ap (λ (l : Line). l.letter) (at_as s at) ∙ e)))
+pub here : (n : ℕ) (s : List ℕ) (at : ℕ) (l : Line) → line_at s at ≡ Some l → Here n s at l
+here n s at l z = by (ltb (before 10 t) (length t)) refl (line_of value_width (front t)) refl (good (front t)) (sym (at_as s at) ∙ z)
   where
     t : List ℕ
     t = drop at s
@@ -98,18 +99,20 @@ here n s at z = rw (at_as s at) (by (ltb (before 10 t) (length t)) refl (line_of
         let d : drop (before 10 t + 1) t ≡ drop e s = drop-drop (before 10 t + 1) at s ∙ ap (λ (i : ℕ). drop i s) m in
         ap (readings value_width n) (front_more t h ∙ ap (λ (u : List ℕ). front t ∷ part_lines u) d) ∙ (unfold readings in ap (λ (y : Option Event). y ∷ readings value_width (suc n) (part_lines (drop e s))) q)
 
-    by : (q : Bool) → ltb (before 10 t) (length t) ≡ q → (f : Fields) → line_of value_width (front t) ≡ f → Good f → ((cond q (placed e f) no_line).letter ≡ 0 → ⊥) → Here n s at (cond q (placed e f) no_line)
-    by false r f w g z = absurd (z refl)
-    by true r wrong w g z = absurd (z refl)
+    by : (q : Bool) → ltb (before 10 t) (length t) ≡ q → (f : Fields) → line_of value_width (front t) ≡ f → Good f → cond q (placed e f) None ≡ Some l → Here n s at l
+    by false r f w g z = cc
+    by true r wrong w g z = cc
     by true r (right k u p x) w g z =
         let v = made n k u p x g in
-        record {
+        let q : record { letter = k; thread = u; place = p; value = x; next = e } ≡ l = cc in
+        subst (Here n s at) q
+        (record {
           event = v.event;
           lines = behind (some v.event) (unfold event_of in ap (event_in n) w ∙ v.is) (ltb-true _ _ r);
           what_is = v.what_is;
           value_is = v.value_is;
           more = omega arith;
-        }
+        })
 
 -- it is no event
 pub record Wrong (n : ℕ) (s : List ℕ) (at : ℕ) : Type 0 where
@@ -120,7 +123,7 @@ empty_none : (n : ℕ) → event_of value_width n [] ≡ none
 unfolding event_of line_of split_on letter
 empty_none n = rw zero_none
 
-pub wrong_here : (n : ℕ) (s : List ℕ) (at : ℕ) → at < length s → (line_at s at).letter ≡ 0 → Wrong n s at
+pub wrong_here : (n : ℕ) (s : List ℕ) (at : ℕ) → at < length s → line_at s at ≡ None → Wrong n s at
 wrong_here n s at inside z = ⊎_elim
     (λ h. record { rest = readings value_width (suc n) (part_lines (drop (before 10 t + 1) t)); lines = first (front t) (part_lines (drop (before 10 t + 1) t)) (front_more t h) (by h (line_of value_width (front t)) refl (good (front t))) })
     (λ h. record { rest = readings value_width (suc n) []; lines = first [] [] (part_tail t (omega (arith, length-drop at s)) h) (empty_none n) })
@@ -135,5 +138,5 @@ wrong_here n s at inside z = ⊎_elim
     by : before 10 t < length t → (f : Fields) → line_of value_width (front t) ≡ f → Good f → event_of value_width n (front t) ≡ none
     by h wrong w g = unfold event_of in ap (event_in n) w
     by h (right k u p x) w g =
-        let q : k ≡ 0 = sym (ap (λ (l : Line). l.letter) (at_ended s at h ∙ ap (placed (at + before 10 t + 1)) w)) ∙ z in
-        absurd (false≢true (sym zero_none ∙ ap is_letter (sym q) ∙ g.0))
+        let q : ◌≡◌ {A = Option' Line} (Some (record { letter = k; thread = u; place = p; value = x; next = at + before 10 t + 1 })) None = sym (at_ended s at h ∙ ap (placed (at + before 10 t + 1)) w) ∙ z in
+        cc

@@ -15,10 +15,10 @@ use Rattle.rules.specs.Limits.{value_width, limit}
 use Rattle.rules.specs.Widths.{fits, narrowed}
 use Rattle.rules.proofs.Letters.{capped_low}
 use Rattle.lines.specs.Lines.{split_on, letter}
-use Rattle.decimal.specs.declared.Natural.{Natural}
-use Rattle.decimal.specs.declared.Natural.TheVariants as natural
-use Rattle.decimal.specs.declared.Integer.{Integer}
-use Rattle.decimal.specs.declared.Integer.TheVariants as integer
+use Rattle.std.proofs.Common.{Some, None, Result, Ok, Err}
+use Rattle.std.proofs.Common.{Option as Option'}
+use Rattle.decimal.specs.declared.NotValue.{NotValue}
+use Rattle.decimal.specs.declared.NotValue.TheVariants.{Outside}
 use Rattle.decimal.specs.Decimal.{natural_of, integer_of}
 use Rattle.decimal.proofs.WidthLaws.{narrowed_integer, integer_narrowed}
 use Rattle.events.specs.Events.{Fields, wrong, right, on_number, on_integer, field, last, lock_end, notify_end, value_end, lock_fields, after_thread, from_fields, line_of, event_in, event_of, readings}
@@ -30,9 +30,9 @@ narrowed_fields w wrong = wrong
 narrowed_fields w (right k t p x) = cond (fits w x) (right k t p x) wrong
 
 module _ (w : Width) (l : limit w ≤ limit value_width) (m : 255 < limit w) where
-  number_narrowed : (n : Natural) (f g : ℕ → Fields) → ((i : ℕ) → f i ≡ narrowed_fields w (g i)) → on_number n f ≡ narrowed_fields w (on_number n g)
-  number_narrowed natural.Bad f g h = refl
-  number_narrowed (natural.Of n) f g h = h n
+  number_narrowed : (n : Option' ℕ) (f g : ℕ → Fields) → ((i : ℕ) → f i ≡ narrowed_fields w (g i)) → on_number n f ≡ narrowed_fields w (on_number n g)
+  number_narrowed None f g h = refl
+  number_narrowed (Some n) f g h = h n
 
   field_narrowed : (f g : ℕ → List (List ℕ) → Fields) → ((i : ℕ) (fs : List (List ℕ)) → f i fs ≡ narrowed_fields w (g i fs)) → (fs : List (List ℕ)) → field f fs ≡ narrowed_fields w (field g fs)
   field_narrowed f g h [] = refl
@@ -54,16 +54,15 @@ module _ (w : Width) (l : limit w ≤ limit value_width) (m : 255 < limit w) whe
   notify_narrowed k t v x = number_narrowed (natural_of x) (λ n. right k t v (pos (capped n))) (λ n. right k t v (pos (capped n))) (λ n. rw (small_fits (capped n) (capped_low n)) refl)
 
   value_narrowed : (k t v : ℕ) (x : List ℕ) → value_end w k t v x ≡ narrowed_fields w (value_end value_width k t v x)
-  value_narrowed k t v x = ap (λ (i : Integer). on_integer i (λ z. right k t v z)) (integer_narrowed w l x) ∙ by (integer_of value_width x)
+  value_narrowed k t v x = ap (λ (i : Result ℤ NotValue). on_integer i (λ z. right k t v z)) (integer_narrowed w l x) ∙ by (integer_of value_width x)
     where
-      in_range_law : (b : Bool) (z : ℤ) → on_integer (cond b (integer.Of z) integer.Outside) (λ y. right k t v y) ≡ cond b (right k t v z) wrong
+      in_range_law : (b : Bool) (z : ℤ) → on_integer (cond b (Ok z) (Err Outside)) (λ y. right k t v y) ≡ cond b (right k t v z) wrong
       in_range_law true z = refl
       in_range_law false z = refl
 
-      by : (i : Integer) → on_integer (narrowed_integer w i) (λ z. right k t v z) ≡ narrowed_fields w (on_integer i (λ z. right k t v z))
-      by integer.Bad = refl
-      by integer.Outside = refl
-      by (integer.Of z) = in_range_law (fits w z) z
+      by : (i : Result ℤ NotValue) → on_integer (narrowed_integer w i) (λ z. right k t v z) ≡ narrowed_fields w (on_integer i (λ z. right k t v z))
+      by (Err e) = refl
+      by (Ok z) = in_range_law (fits w z) z
 
   either_narrowed : (b : Bool) (f g f' g' : Fields) → f ≡ narrowed_fields w f' → g ≡ narrowed_fields w g' → cond b f g ≡ narrowed_fields w (cond b f' g')
   either_narrowed true f g f' g' p q = p
@@ -101,10 +100,10 @@ module _ (w : Width) (l : limit w ≤ limit value_width) (m : 255 < limit w) whe
     where
       in_range_law : (d : Event) (b : Bool) → fits w (value d.kind) ≡ b → cond b (some d) none ≡ some e → fits w (value e.kind) ≡ true
       in_range_law d true r z = let k : d ≡ e = cc in ap (λ (c : Event). fits w (value c.kind)) (sym k) ∙ r
-      in_range_law d false r z = absurd (let k : ◌≡◌ {A = ℕ} 0 1 = cc in omega arith)
+      in_range_law d false r z = cc
 
       by : (o : Option Event) → narrowed w o ≡ some e → fits w (value e.kind) ≡ true
-      by none z = absurd (let k : ◌≡◌ {A = ℕ} 0 1 = cc in omega arith)
+      by none z = cc
       by (some d) z = in_range_law d (fits w (value d.kind)) refl z
 
   pub readings_narrowed : (n : ℕ) (ls : List (List ℕ)) → readings w n ls ≡ map (narrowed w) (readings value_width n ls)

@@ -1,14 +1,12 @@
 -- The event lines of a trace. A trace is what document 01 calls a paper.
-use Rattle.std.specs.Prelude.{ℕ, suc, List, [], ◌∷◌, cond, eqb, ℤ, pos}
+use Rattle.std.specs.Prelude.{ℕ, suc, List, [], ◌∷◌, cond, eqb, ℤ, pos, Some, None, Result, Ok, Err}
+use Rattle.std.specs.Prelude.{Option as Option'}
 use Rattle.std.proofs.Math.Option.{Option, none}
 use Rattle.std.specs.Int.{Width}
 use Rattle.rules.specs.declared.Event.{Event}
 use Rattle.rules.specs.Events.{F, capped, is_letter, is_lock_letter, kind_of, event_with}
 use Rattle.lines.specs.Lines.{split_on, letter}
-use Rattle.decimal.specs.declared.Natural.{Natural}
-use Rattle.decimal.specs.declared.Natural.TheVariants as natural
-use Rattle.decimal.specs.declared.Integer.{Integer}
-use Rattle.decimal.specs.declared.Integer.TheVariants as integer
+use Rattle.decimal.specs.declared.NotValue.{NotValue}
 use Rattle.decimal.specs.Decimal.{natural_of, integer_of}
 
 -- ---- the fields of a line
@@ -18,15 +16,14 @@ pub data Fields : Type 0 where
   wrong : Fields
   right : ℕ → ℕ → ℕ → ℤ → Fields
 
-abbrev pub on_number : Natural → (ℕ → Fields) → Fields
-on_number natural.Bad f = wrong
-on_number (natural.Of n) f = f n
+abbrev pub on_number : Option' ℕ → (ℕ → Fields) → Fields
+on_number None f = wrong
+on_number (Some n) f = f n
 
 -- a value outside its width is 4
-abbrev pub on_integer : Integer → (ℤ → Fields) → Fields
-on_integer integer.Bad f = wrong
-on_integer integer.Outside f = wrong
-on_integer (integer.Of v) f = f v
+abbrev pub on_integer : Result ℤ NotValue → (ℤ → Fields) → Fields
+on_integer (Err e) f = wrong
+on_integer (Ok v) f = f v
 
 -- a number, and then more fields
 abbrev pub field : (ℕ → List (List ℕ) → Fields) → List (List ℕ) → Fields

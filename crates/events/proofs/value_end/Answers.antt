@@ -1,10 +1,7 @@
--- `events::value_end` meets its contract: the last field is a value.
-use mathlib.Core.Path.{sym, ap, ◌∙◌}
-use native.Mathlib.Omega.{arith}
+use Rattle.std.proofs.Common.{◌<◌, sym, ap, ◌∙◌, arith, length, Result}
+use lib.IntN.{ℤ}
 use Rattle.rules.specs.Limits.{value_width}
-use Rattle.decimal.specs.declared.Integer.{Integer}
-use Rattle.decimal.specs.Decimal.{positive_of, negative_of}
-use Rattle.decimal.specs.declared.Reached.{Reached}
+use Rattle.decimal.specs.declared.NotValue.{NotValue}
 use Rattle.events.specs.Events.{right, on_integer, last, value_end}
 use Rattle.events.specs.Computed.Lines.{placed}
 use Rattle.events.proofs.LineLaws.{plain_line, minus_line, stage_out}
@@ -13,22 +10,34 @@ use Rattle.events.proofs.value_end.Goals as goal
 pub returns-then-s-at : goal.returns-then-s-at
 returns-then-s-at c =
     let a = c.args in
-    c.no_line.ensures ∙ stage_out (last (value_end value_width a.k a.t a.v)) a.s.now a.at c.if-s-at.true
+    stage_out (last (value_end value_width a.letter a.thread a.place)) a.s.now a.at c.if-s-at.true
+
+pub returns-in_err-r : goal.returns-in_err-r
+returns-in_err-r c =
+    let a = c.args in
+    let h : a.at < length a.s.now = omega arith in
+    let l = minus_line a.letter a.thread a.place a.at a.s.now h c.if-s-at-eq45.true in
+    rw (l, sym c.number_until.ensures ∙ c.in_err-r.was) c.from_residual.ensures
 
 pub returns-then-s-at-eq45 : goal.returns-then-s-at-eq45
 returns-then-s-at-eq45 c =
     let a = c.args in
-    let r = c.number_until-r in
-    c.made.ensures
-    ∙ ap (λ (i : Integer). placed r.result.next (on_integer i (λ z. right a.k a.t a.v z))) c.negative.ensures
-    ∙ ap (λ (q : Reached). placed q.next (on_integer (negative_of value_width q.number) (λ z. right a.k a.t a.v z))) r.ensures
-    ∙ sym (minus_line a.k a.t a.v a.at a.s.now (omega arith) (omega arith))
+    let h : a.at < length a.s.now = omega arith in
+    let l = minus_line a.letter a.thread a.place a.at a.s.now h c.if-s-at-eq45.true in
+    rw (l, sym c.number_until.ensures ∙ c.in_ok-r.was)
+    (c.with_value.ensures ∙ ap (λ (i : Result ℤ NotValue). placed c.in_ok-r.r.next (on_integer i (λ z. right a.letter a.thread a.place z))) c.negative.ensures)
+
+pub returns-in_err-r-2 : goal.returns-in_err-r-2
+returns-in_err-r-2 c =
+    let a = c.args in
+    let h : a.at < length a.s.now = omega arith in
+    let l = plain_line a.letter a.thread a.place a.at a.s.now h c.if-s-at-eq45.false in
+    rw (l, sym c.number_until-2.ensures ∙ c.in_err-r-2.was) c.from_residual-in_err-r-2.ensures
 
 pub returns : goal.returns
 returns c =
     let a = c.args in
-    let r = c.number_until-r-2 in
-    c.made-2.ensures
-    ∙ ap (λ (i : Integer). placed r.result.next (on_integer i (λ z. right a.k a.t a.v z))) c.positive.ensures
-    ∙ ap (λ (q : Reached). placed q.next (on_integer (positive_of value_width q.number) (λ z. right a.k a.t a.v z))) r.ensures
-    ∙ sym (plain_line a.k a.t a.v a.at a.s.now (omega arith) c.if-s-at-eq45.false)
+    let h : a.at < length a.s.now = omega arith in
+    let l = plain_line a.letter a.thread a.place a.at a.s.now h c.if-s-at-eq45.false in
+    rw (l, sym c.number_until-2.ensures ∙ c.in_ok-r-2.was)
+    (c.with_value-2.ensures ∙ ap (λ (i : Result ℤ NotValue). placed c.in_ok-r-2.r.next (on_integer i (λ z. right a.letter a.thread a.place z))) c.positive.ensures)
