@@ -2,7 +2,7 @@
 use Prim.Native.Nat.{ℕ, zero, suc, ◌+◌, ◌≤◌, ◌<◌}
 use native.Mathlib.Omega.{arith}
 use mathlib.Core.Path.{◌≡◌, refl, sym, ap, ◌∙◌}
-use mathlib.Core.Bool.{Bool, true, false, not, cond}
+use mathlib.Core.Bool.{Bool, true, false, cond}
 use lib.IntN.{ℤ}
 use lib.ListN.{get_or, set}
 use borrow.Author.Tests.{le-leb, lt-leb}
@@ -27,7 +27,6 @@ use Rattle.judging.specs.declared.Turn.{Turn}
 use Rattle.judging.specs.Computed.Leads.{ahead_rule, ahead_at, lead_with, lead_at}
 use Rattle.judging.specs.Computed.Turns.{parts_at, either_of, turn_of, some_of}
 use Rattle.judging.proofs.AnyTurn.{at, cell_found, turn_in, any_rule, any_put}
-use Rattle.machine.specs.declared.Answer.{Answer}
 use Rattle.machine.specs.Stepped.{unchanged, step_with, stepped}
 use Rattle.machine.specs.Computed.Walk.{Turnable, answer_of}
 use Rattle.machine.proofs.Steps.{step_ranged}

@@ -13,11 +13,11 @@ use Rattle.rules.specs.declared.Refusal.{Refusal}
 use Rattle.std.specs.Prelude.{Result, Ok, Err}
 use Rattle.rules.specs.Limits.{full, allowed}
 use Rattle.rules.specs.Memories.{memories_of}
-use Rattle.rules.specs.Rules.{Words, words_of, Marked, accepted, refused, told, Verdict, mark_read, Accepted}
+use Rattle.rules.specs.Rules.{Words, accepted, told, Verdict, mark_read, Accepted}
 use Rattle.rules.proofs.Bounds.{up_to_full}
 use Rattle.records.specs.Records.{row_lines}
 use Rattle.state.specs.declared.State.{State}
-use Rattle.state.specs.State.{words_in, start}
+use Rattle.state.specs.State.{start}
 use Rattle.state.proofs.Kept.{in_range_law}
 use Rattle.state.proofs.Stands.{Stands, stands_start, start_shape}
 use Rattle.machine.specs.declared.Answer.{Answer}

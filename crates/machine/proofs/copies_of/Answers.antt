@@ -1,11 +1,9 @@
 -- `machine::copies_of` meets its contract. Assumes nothing.
-use Prim.Native.Nat.{ℕ, ◌<◌, ◌/◌}
-use Rattle.std.proofs.Common.{rules, tests, refl, ◌≡◌, ◌∙◌, get_or, ltb, []}
+use Prim.Native.Nat.{ℕ, ◌/◌}
+use Rattle.std.proofs.Common.{rules, tests, refl, ◌∙◌, get_or, ltb, []}
 use Rattle.rules.specs.declared.Cached.{Cached}
-use Rattle.rules.specs.Memories.{cached_in, memories_of}
-use Rattle.rules.proofs.From.{filled}
 use Rattle.state.specs.declared.State.{State}
-use Rattle.state.specs.State.{blank, words_in}
+use Rattle.state.specs.State.{blank}
 use Rattle.machine.specs.Computed.Walk.{state_of}
 use Rattle.machine.proofs.Copies.{no_copy, copy_at, copies_all, made}
 use Rattle.machine.proofs.copies_of.Goals as goal

@@ -1,6 +1,5 @@
 -- `machine::run` meets its contract: `Running` holds at each record. Assumes nothing.
-use native.Mathlib.Omega.{arith}
-use mathlib.Core.Path.{◌≡◌, refl, sym, ap, ◌∙◌, subst}
+use mathlib.Core.Path.{◌≡◌, refl, sym, ap, ◌∙◌}
 use mathlib.Core.Bool.{true, false}
 use borrow.Author.Rules.{rules}
 use lib.IntN.{ℤ, pos}
@@ -11,12 +10,8 @@ use Rattle.state.specs.declared.State.{State}
 use lib.ListN.{get_or}
 use mir.Val.{of_z, to_z}
 use mir.ValLaws.{to_z-of_z}
-use Rattle.std.specs.Prelude.{Result, Ok, Err}
-use Rattle.rules.specs.declared.Memories.{Memories}
-use Rattle.rules.specs.declared.Refusal.{Refusal}
-use Rattle.rules.specs.Events.{is_letter, is_lock_letter, subject_of}
+use Rattle.rules.specs.Events.{subject_of}
 use Rattle.rules.specs.Limits.{value_width}
-use Rattle.rules.specs.Rules.{words_of}
 use Rattle.state.specs.State.{words_in}
 use Rattle.judging.proofs.Rows.{leading}
 use Rattle.machine.specs.Computed.Walk.{outcome_of}

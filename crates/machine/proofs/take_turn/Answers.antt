@@ -2,11 +2,10 @@
 use native.Mathlib.Omega.{arith}
 use Prim.Native.Nat.{◌<◌}
 use mathlib.Core.Path.{◌≡◌, refl, sym, ap, ◌∙◌}
-use mathlib.Core.Bool.{cond}
 use mir.Val.{of_z, to_z}
 use mir.ValLaws.{to_z-of_z}
 use Rattle.std.proofs.lemmas.Result.{err_from_is_err_and}
-use Rattle.rules.specs.Events.{value, subject_of}
+use Rattle.rules.specs.Events.{value}
 use Rattle.rules.specs.Limits.{value_width}
 use Rattle.rules.specs.Rules.{judge}
 use Rattle.state.specs.State.{words_in}

@@ -1,6 +1,6 @@
 -- `machine::tally_of` meets its contract: after v turns the numbers are those of the first v variables. Assumes nothing.
 use native.Mathlib.Omega.{arith}
-use mathlib.Core.Path.{◌≡◌, ap, ◌∙◌}
+use mathlib.Core.Path.{ap, ◌∙◌}
 use Rattle.state.specs.declared.Cell.{Cell}
 use lib.ListN.{get_or}
 use Rattle.state.specs.State.{blank, cell_at}

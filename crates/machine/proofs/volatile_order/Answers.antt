@@ -1,10 +1,9 @@
 -- `machine::volatile_order` meets its contract: whether one of the variables bars the event. Assumes nothing.
-use Rattle.std.proofs.Common.{rules, ◌≡◌, ◌∙◌, refl, tests, length, arith, ◌&&◌}
+use Rattle.std.proofs.Common.{rules, ◌∙◌, refl, tests, arith, ◌&&◌}
 use Rattle.std.proofs.lemmas.Iterator.{YieldsList-from_range}
 use Rattle.std.proofs.lemmas.Iterator.Search.{any_from_yields_List}
 use Rattle.rules.specs.Limits.{volatile}
 use Rattle.judging.specs.Computed.Leads.{bars_at, order_at}
-use Rattle.judging.proofs.Leads.{bars_is}
 use Rattle.rules.proofs.Flags.{any_below}
 use Rattle.machine.proofs.volatile_order.Goals as goal
 
