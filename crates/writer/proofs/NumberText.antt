@@ -11,8 +11,7 @@ use lib.ListN.{length, get_or}
 use mir.Val.{SFits}
 use Rattle.rules.specs.Limits.{value_width, limit}
 use Rattle.lines.proofs.PartLaws.{lt_or_le}
-use Rattle.decimal.specs.declared.Natural.TheVariants as natural
-use Rattle.decimal.specs.declared.Integer.TheVariants as integer
+use Rattle.std.proofs.Common.{Some, Ok}
 use Rattle.decimal.specs.Decimal.{cap, digits_from, natural_of, integer_of}
 use Rattle.decimal.proofs.TextLaws.{digits_small, digits_large}
 use Rattle.decimal.specs.Text.{digits_in, natural_text, integer_text}
@@ -71,15 +70,15 @@ plain : (f : List ℕ) → 48 < get_or f 0 0 → natural_of f ≡ digits_from 0 
 unfolding natural_of
 plain f h = rw (ne_eqb (length f) 0 (not_empty f (omega arith)), ne_eqb (get_or f 0 0) 48 (λ e. omega arith))
 
-zero_text : natural_of (48 ∷ []) ≡ natural.Of 0
+zero_text : natural_of (48 ∷ []) ≡ Some 0
 unfolding natural_of digits_from
 zero_text = refl
 
-ending : (n : ℕ) → n ≤ cap → digits_from n [] ≡ natural.Of n
+ending : (n : ℕ) → n ≤ cap → digits_from n [] ≡ Some n
 unfolding digits_from
-ending n h = ap natural.Of (omega arith)
+ending n h = ap Some (omega arith)
 
-pub natural_back : (n : ℕ) → n ≤ cap → natural_of (natural_text n) ≡ natural.Of n
+pub natural_back : (n : ℕ) → n ≤ cap → natural_of (natural_text n) ≡ Some n
 unfolding natural_text
 natural_back zero h = ap natural_of (digits_small 19 0 (omega arith)) ∙ zero_text
 natural_back (suc m) h =
@@ -94,7 +93,7 @@ unfolding natural_text
 no_minus zero h e = omega (arith, e, ap (λ (t : List ℕ). get_or t 0 0) (digits_small 19 0 (omega arith)))
 no_minus (suc m) h e = omega (arith, e, first 19 (suc m) h (omega arith))
 
-pub integer_back : (x : ℤ) → SFits value_width x → integer_of value_width (integer_text x) ≡ integer.Of x
+pub integer_back : (x : ℤ) → SFits value_width x → integer_of value_width (integer_text x) ≡ Ok x
 unfolding integer_of integer_text
 integer_back (pos n) f =
     let l : n < limit value_width = f.sfits in

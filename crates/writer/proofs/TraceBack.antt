@@ -1,30 +1,28 @@
 -- The canonical text of a trace is found and read back as it was.
 use mathlib.Core.Path.{◌≡◌, refl, sym, ap, ◌∙◌}
-use mathlib.Core.Bool.{Bool, true, false, ◌&&◌, cond}
+use mathlib.Core.Bool.{Bool, true, false, ◌&&◌}
 use mathlib.Core.List.{List, [], ◌∷◌, ◌++◌, map, append_assoc, append-nil}
 use mathlib.Core.Option.{some}
 use Prim.Native.Nat.{ℕ, suc, ◌≤◌, ◌<◌, ◌+◌, ◌-◌}
 use native.Mathlib.Omega.{arith}
-use borrow.Author.Tests.{lt-ltb, eq-eqb, ne_eqb, ltb-true}
+use borrow.Author.Tests.{lt-ltb, le-leb, eq-eqb, ne_eqb, ltb-true}
 use lib.Dec.{ltb}
 use lib.ListN.{length, get_or, take, drop, set, replicate, length-append}
 use lib.Seq.{take_at, drop_at, get_or_at, set_at}
 use Rattle.rules.specs.declared.Counts.{Counts}
 use Rattle.rules.specs.declared.Event.{Event}
 use Rattle.rules.specs.Limits.{full, no_volatiles, with_flags, any_volatile, allowed, first_line, value_width}
-use Rattle.rules.specs.Rules.{accepted, said}
 use Rattle.rules.proofs.Bounds.{allowed_bounds}
 use Rattle.lines.specs.Lines.{before, up_to, split_on, lines_of, letter}
 use Rattle.lines.specs.Lines as lines
-use Rattle.decimal.specs.declared.Natural.TheVariants as natural
+use Rattle.std.proofs.Common.{Some, None, Result, Ok}
+use Rattle.rules.specs.declared.Refusal.{Refusal}
 use Rattle.decimal.specs.Decimal.{cap, natural_of}
 use Rattle.decimal.specs.Text.{natural_text, word_row, ended}
 use Rattle.decimal.proofs.TextLaws.{text_small}
 use Rattle.events.specs.Events.{readings}
-use Rattle.trace.specs.declared.Guards.{Guards}
 use Rattle.trace.specs.declared.Trace.{Trace}
-use Rattle.trace.specs.declared.Trailer.TheVariants as trailer
-use Rattle.trace.specs.Trace.{trailer_number, check_at, last_line, last_number, trailer_of, head_of, lock_line, locks_from, is_dash, guards_of, volatiles_of, with_guards, second_of, first_of, behind_trailer, plain_trace_of, events_of, with_volatiles, third_of, trace_of, meant_volatile, found}
+use Rattle.trace.specs.Trace.{trailer_number, check_at, last_line, last_number, trailer_of, head_of, Guards, locks_from, is_dash, guards_of, volatiles_of, with_guards, second_of, first_of, behind_trailer, plain_trace_of, events_of, with_volatiles, third_of, behind_guards, trace_of, meant_volatile, found, head_in}
 use Rattle.trace.proofs.VolatileLaws.{flags_none, allowed_flags, allowed_with}
 use Rattle.trace.proofs.TraceLaws.{head_right, second_some, third_none, third_some, trace_short, found_volatile}
 use Rattle.writer.specs.Text.{head_line, guard_line, numbers_from, volatile_row, volatiles_text, volatile_line, event_line, trailer_line, events_text, body_text, trace_text, all_below, padded, Guarded, none, given, AllDeclared, done, more, found_text}
@@ -52,7 +50,7 @@ cut t u h =
     }
 
 -- the trailer
-trailer_number_law : (n : ℕ) → n ≤ cap → trailer_number (split_on 32 (trailer_line n)) ≡ natural.Of n
+trailer_number_law : (n : ℕ) → n ≤ cap → trailer_number (split_on 32 (trailer_line n)) ≡ Some n
 unfolding trailer_number texts letter
 trailer_number_law n h = ap trailer_number (row_fields 90 (n ∷ []) (λ e. omega arith)) ∙ natural_back n h
 
@@ -88,7 +86,7 @@ module _ (b : List ℕ) (whole : up_to 10 b ≡ length b) (small : length b ≤ 
       ap (λ (s : List ℕ). take (length bytes - 1 - length b) s) (drop_at b (ended last) (length b) refl)
       ∙ ap (λ (i : ℕ). take i (ended last)) n ∙ take_at last (10 ∷ []) (length last) refl
 
-  pub trailer_back : trailer_of bytes ≡ trailer.At (length b)
+  pub trailer_back : trailer_of bytes ≡ Some (length b)
   unfolding trailer_of last_number
   trailer_back =
       rw (eq-eqb _ _ final)
@@ -104,13 +102,13 @@ plain c = with_flags c no_volatiles
 plain_allowed : (c : Counts) → allowed full c ≡ true → allowed full (plain c) ≡ true
 plain_allowed c a = allowed_with full c no_volatiles (flags_none c.variables) a
 
-head_back : (c : Counts) → allowed full c ≡ true → head_of (split_on 32 (head_line c)) ≡ record { ok = true; head = plain c }
+head_back : (c : Counts) → allowed full c ≡ true → head_of (split_on 32 (head_line c)) ≡ Some (plain c)
 unfolding head_of texts letter
 head_back c a =
     let w = allowed_bounds c a in
-    let t : natural_of (natural_text c.threads) ≡ natural.Of c.threads = natural_back c.threads (omega (arith, w)) in
-    let v : natural_of (natural_text c.variables) ≡ natural.Of c.variables = natural_back c.variables (omega (arith, w)) in
-    let l : natural_of (natural_text c.locks) ≡ natural.Of c.locks = natural_back c.locks (omega (arith, w)) in
+    let t : natural_of (natural_text c.threads) ≡ Some c.threads = natural_back c.threads (omega (arith, w)) in
+    let v : natural_of (natural_text c.variables) ≡ Some c.variables = natural_back c.variables (omega (arith, w)) in
+    let l : natural_of (natural_text c.locks) ≡ Some c.locks = natural_back c.locks (omega (arith, w)) in
     ap head_of (row_fields 72 (c.threads ∷ c.variables ∷ c.locks ∷ []) (λ e. omega arith)) ∙ rw (t, v, l, plain_allowed c a)
 
 -- the guards
@@ -123,9 +121,9 @@ below_split l n ns h = by (ltb n l) refl h
     by false e h = absurd (let z : ◌≡◌ {A = ℕ} 0 1 = cc in omega arith)
 
 locks_back : (l : ℕ) → l ≤ full.locks → (a ns : List ℕ) → length a + length ns ≤ full.variables → all_below l ns ≡ true
-    → locks_from (length a) (padded a) l (texts ns) ≡ lock_line (padded (a ++ ns))
+    → locks_from (length a) (padded a) l (texts ns) ≡ Some (padded (a ++ ns))
 unfolding locks_from texts
-locks_back l k a [] h b = ap (λ (u : List ℕ). lock_line (padded u)) (sym (append-nil a))
+locks_back l k a [] h b = ap (λ (u : List ℕ). Some (padded u)) (sym (append-nil a))
 locks_back l k a (n ∷ ns) h b =
     let w = below_split l n ns b in
     let z : full.variables - length a ≡ suc (full.variables - length (a ++ (n ∷ []))) = omega (arith, length-append a (n ∷ [])) in
@@ -134,9 +132,9 @@ locks_back l k a (n ∷ ns) h b =
     ∙ set_at a 0 (replicate (full.variables - length (a ++ (n ∷ []))) 0) n (length a) refl
     ∙ sym (append_assoc a (n ∷ []) (replicate (full.variables - length (a ++ (n ∷ []))) 0)) in
     let i : length a + 1 ≡ length (a ++ (n ∷ [])) = omega (arith, length-append a (n ∷ [])) in
-    rw (natural_back n (omega (arith, w)), lt-ltb n l w.0, s, i)
+    rw (natural_back n (omega (arith, w)), le-leb 0 n (omega arith), lt-ltb n l w.0, s, i)
     (locks_back l k (a ++ (n ∷ [])) ns (omega (arith, length-append a (n ∷ []))) w.1
-    ∙ ap (λ (u : List ℕ). lock_line (padded u)) (append_assoc a (n ∷ []) ns))
+    ∙ ap (λ (u : List ℕ). Some (padded u)) (append_assoc a (n ∷ []) ns))
 
 texts_length : (ns : List ℕ) → length (texts ns) ≡ length ns
 unfolding texts
@@ -152,7 +150,7 @@ no_dash l k (n ∷ []) b =
 no_dash l k (n ∷ m ∷ ns) b = rw (ne_eqb (suc (suc (suc (length (texts ns))))) 2 (λ e. omega arith))
 
 guards_back : (c : Counts) (g : Guards) → allowed full c ≡ true → Guarded c g
-    → guards_of c.variables c.locks (split_on 32 (guard_line c.variables g)) ≡ record { ok = true; given = g.given; locks = g.locks }
+    → guards_of c.variables c.locks (split_on 32 (guard_line c.variables g)) ≡ Some g
 unfolding guards_of split_on letter
 guards_back c g a none = refl
 guards_back c g a (given ns n b) =
@@ -162,7 +160,7 @@ guards_back c g a (given ns n b) =
     let m : suc (length (texts ns)) ≡ c.variables + 1 = omega (arith, texts_length ns, n) in
     let k = locks_back c.locks (omega (arith, w)) [] ns (omega (arith, w, n)) b in
     ap (guards_of c.variables c.locks) (ap (λ (u : List ℕ). split_on 32 (word_row (71 ∷ []) u)) t ∙ row_fields 71 ns (λ e. omega arith))
-    ∙ rw (d, eq-eqb _ _ m) k
+    ∙ rw (d, eq-eqb _ _ m, k)
 
 -- the events
 events_back : (c : Counts) → allowed full c ≡ true → (n : ℕ) (es : List Event) → AllDeclared c n es → readings value_width n (lines_of (events_text es)) ≡ map (λ (e : Event). some e) es
@@ -178,15 +176,12 @@ events_whole [] = refl
 events_whole (e ∷ es) = up_join 10 (ended (event_line e)) (events_text es) (up_line 10 (event_line e)) (events_whole es)
 
 guard_free : (c : Counts) (g : Guards) → Free 10 (guard_line c.variables g)
-guard_free c g = by g.given
-  where
-    by : (q : Bool) → Free 10 (cond q (word_row (71 ∷ []) (take c.variables g.locks)) (71 ∷ 32 ∷ 45 ∷ []))
-    by true = row_free 71 (take c.variables g.locks) (λ e. omega arith)
-    by false =
-        free_cons 10 71 (32 ∷ 45 ∷ []) (λ e. omega arith) (free_cons 10 32 (45 ∷ []) (λ e. omega arith) (free_cons 10 45 [] (λ e. omega arith) (free_nil 10)))
+guard_free c None =
+    free_cons 10 71 (32 ∷ 45 ∷ []) (λ e. omega arith) (free_cons 10 32 (45 ∷ []) (λ e. omega arith) (free_cons 10 45 [] (λ e. omega arith) (free_nil 10)))
+guard_free c (Some g) = row_free 71 (take c.variables g) (λ e. omega arith)
 
 -- a part of a text, by the places where it starts and ends
-part_back : (p e z : List ℕ) (t : Trace) → t.from ≡ length p → t.to ≡ length (p ++ e) → events_of ((p ++ e) ++ z) t ≡ e
+part_back : (p e z : List ℕ) (t : Trace) → t.from ≡ length p → t.to ≡ length (p ++ e) → events_of ((p ++ e) ++ z) (Ok t) ≡ e
 unfolding events_of
 part_back p e z t from to =
     let m : t.to - t.from ≡ length e = omega (arith, from, to, length-append p e) in
@@ -229,31 +224,31 @@ module _ (c : Counts) (g : Guards) (es : List Event) (a : allowed full c ≡ tru
 
   -- what lines 1 and 2 give
   abbrev plain_text : Trace
-  plain_text = record { verdict = said accepted; head = plain c; guards = g; from = length front; to = n }
+  plain_text = record { head = plain c; guards = g; from = length front; to = n }
 
   places : length (head_line c) + 1 + length (guard_line c.variables g) + 1 ≡ length front
   places = omega (arith, length-append (head_line c) (10 ∷ []), length-append (guard_line c.variables g) (10 ∷ []), length-append (ended (head_line c)) (ended (guard_line c.variables g)))
 
-  second_back : second_of second (length (head_line c) + 1) n (plain c) ≡ plain_text
+  second_back : second_of second (length (head_line c) + 1) n (plain c) ≡ Ok plain_text
   second_back =
       let w = cut (guard_line c.variables g) third (guard_free c g) in
       let at = length (head_line c) + 1 + length (guard_line c.variables g) + 1 in
       sym (second_some second (length (head_line c) + 1) n (length (guard_line c.variables g)) (plain c) w.place w.inside)
       ∙ ap (λ (t : List ℕ). with_guards at n (plain c) (guards_of c.variables c.locks (split_on 32 t))) w.front
       ∙ ap (with_guards at n (plain c)) (guards_back c g a ok)
-      ∙ ap (λ (i : ℕ). with_guards i n (plain c) (record { ok = true; given = g.given; locks = g.locks })) places
+      ∙ ap (λ (i : ℕ). with_guards i n (plain c) (Some g)) places
 
-  first_back : first_of full (body_text c g es) n ≡ plain_text
+  first_back : first_of full (body_text c g es) n ≡ Ok plain_text
   unfolding body_text
   first_back =
       let b = ended (head_line c) ++ second in
       let w = cut (head_line c) second (row_free 72 (c.threads ∷ c.variables ∷ c.locks ∷ []) (λ e. omega arith)) in
       let z = ap (λ (t : List ℕ). head_of (split_on 32 t)) w.front ∙ head_back c a in
-      sym (head_right full b n (length (head_line c)) w.place w.inside (record { ok = true; head = plain c }) (sym z) refl (plain_allowed c a))
+      sym (head_right full b n (length (head_line c)) w.place w.inside (Some (plain c)) (sym z) (plain c) refl (plain_allowed c a))
       ∙ ap (λ (t : List ℕ). second_of t (length (head_line c) + 1) n (plain c)) w.back
       ∙ second_back
 
-  plain_found : plain_trace_of full (trace_text c g es) ≡ plain_text
+  plain_found : plain_trace_of full (trace_text c g es) ≡ Ok plain_text
   unfolding trace_text
   plain_found =
       let s = body_text c g es ++ ended (trailer_line n) in
@@ -261,13 +256,13 @@ module _ (c : Counts) (g : Guards) (es : List Event) (a : allowed full c ≡ tru
       ∙ ap (λ (t : List ℕ). first_of full t n) (take_at (body_text c g es) (ended (trailer_line n)) n refl)
       ∙ first_back
 
-  third_found : events_of (trace_text c g es) plain_text ≡ third
+  third_found : events_of (trace_text c g es) (Ok plain_text) ≡ third
   unfolding trace_text body_text
   third_found =
       let b : body_text c g es ≡ front ++ third = sym (append_assoc (ended (head_line c)) (ended (guard_line c.variables g)) third) in
-      ap (λ (u : List ℕ). events_of (u ++ ended (trailer_line n)) plain_text) b ∙ part_back front third (ended (trailer_line n)) plain_text refl (ap length b)
+      ap (λ (u : List ℕ). events_of (u ++ ended (trailer_line n)) (Ok plain_text)) b ∙ part_back front third (ended (trailer_line n)) plain_text refl (ap length b)
 
-  third_back : third_of third plain_text ≡ found_text c g es
+  third_back : third_of third plain_text ≡ Ok (found_text c g es)
   unfolding found_text word_row
   third_back = by (numbers_from 0 c.volatiles) refl
     where
@@ -276,11 +271,11 @@ module _ (c : Counts) (g : Guards) (es : List Event) (a : allowed full c ≡ tru
 
       by : (ns : List ℕ) → numbers_from 0 c.volatiles ≡ ns
           → third_of (volatiles_text ns ++ events_text es) plain_text
-          ≡ record { verdict = said accepted; head = c; guards = g; from = length (ended (head_line c)) + length (ended (guard_line c.variables g)) + length (volatiles_text ns); to = n }
+          ≡ Ok (record { head = c; guards = g; from = length (ended (head_line c)) + length (ended (guard_line c.variables g)) + length (volatiles_text ns); to = n })
       by [] q =
           let f = flags_none_back c.volatiles sized q in
           let m : length front ≡ length (ended (head_line c)) + length (ended (guard_line c.variables g)) + 0 = omega (arith, fronts) in
-          sym (third_none (events_text es) plain_text (events_begin es)) ∙ (λ i. record { verdict = said accepted; head = with_flags c (sym f i); guards = g; from = m i; to = n })
+          sym (third_none (events_text es) plain_text (events_begin es)) ∙ (λ i. Ok (record { head = with_flags c (sym f i); guards = g; from = m i; to = n }))
       by (k ∷ ns) q =
           let r = volatile_row (k ∷ ns) in
           let u = ended r ++ events_text es in
@@ -289,18 +284,18 @@ module _ (c : Counts) (g : Guards) (es : List Event) (a : allowed full c ≡ tru
           sym (third_some u plain_text refl (length r) w.place)
           ∙ ap (λ (t : List ℕ). with_volatiles (length r + 1) plain_text (volatiles_of c.variables (split_on 32 t))) w.front
           ∙ ap (with_volatiles (length r + 1) plain_text) (volatiles_back c.variables c.volatiles k ns (allowed_bounds c a).1 (allowed_flags full c sized a) q)
-          ∙ (λ i. record { verdict = said accepted; head = c; guards = g; from = m i; to = n })
+          ∙ (λ i. Ok (record { head = c; guards = g; from = m i; to = n }))
 
   -- The text is found, with its head, its guards, its volatile variables and the place of its events.
-  pub trace_found : trace_of full (trace_text c g es) ≡ found_text c g es
+  pub trace_found : trace_of full (trace_text c g es) ≡ Ok (found_text c g es)
   unfolding trace_of
   trace_found =
-      ap (λ (t : Trace). third_of (events_of (trace_text c g es) t) t) plain_found ∙ ap (λ (u : List ℕ). third_of u plain_text) third_found ∙ third_back
+      ap (behind_guards (trace_text c g es)) plain_found ∙ ap (λ (u : List ℕ). third_of u plain_text) third_found ∙ third_back
 
   -- It has a `V` line exactly where a variable is volatile.
   pub line_found : meant_volatile full (trace_text c g es) ≡ any_volatile c
   unfolding found_text
-  line_found = sym (found_volatile full (trace_text c g es) (ap found trace_found)) ∙ ap (λ (t : Trace). any_volatile t.head) trace_found
+  line_found = sym (found_volatile full (trace_text c g es) (ap found trace_found)) ∙ ap (λ (t : Result Trace Refusal). any_volatile (head_in t)) trace_found
 
   -- The part that is handed back holds the events.
   pub events_found : events_of (trace_text c g es) (trace_of full (trace_text c g es)) ≡ events_text es
@@ -311,7 +306,7 @@ module _ (c : Counts) (g : Guards) (es : List Event) (a : allowed full c ≡ tru
       let z = ended (trailer_line n) in
       let b : body_text c g es ≡ p ++ e = sym (append_assoc (ended (head_line c)) (ended (guard_line c.variables g)) third) ∙ sym (append_assoc front (volatile_line c) e) in
       let i : (found_text c g es).from ≡ length p = omega (arith, length-append (ended (head_line c)) (ended (guard_line c.variables g)), length-append front (volatile_line c)) in
-      ap (events_of (trace_text c g es)) trace_found ∙ ap (λ (u : List ℕ). events_of (u ++ z) (found_text c g es)) b ∙ part_back p e z (found_text c g es) i (ap length b)
+      ap (events_of (trace_text c g es)) trace_found ∙ ap (λ (u : List ℕ). events_of (u ++ z) (Ok (found_text c g es))) b ∙ part_back p e z (found_text c g es) i (ap length b)
 
   -- Its lines are read as the events.
   pub events_read_law : AllDeclared c (first_line c) es → readings value_width (first_line c) (lines_of (events_of (trace_text c g es) (trace_of full (trace_text c g es)))) ≡ map (λ (e : Event). some e) es

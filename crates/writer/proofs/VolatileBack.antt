@@ -14,9 +14,10 @@ use Rattle.rules.specs.Limits.{full, no_volatiles}
 use Rattle.lines.specs.Lines.{split_on}
 use Rattle.lines.specs.Lines as lines
 use Rattle.lines.proofs.PartLaws.{lt_or_le}
+use Rattle.std.proofs.Common.{Some}
 use Rattle.decimal.specs.Text.{word_row, word_value}
 use Rattle.records.proofs.RecordLaws.{holds}
-use Rattle.trace.specs.Trace.{flag_line, volatiles_from, volatiles_of, begins_with_v}
+use Rattle.trace.specs.Trace.{volatiles_from, volatiles_of, begins_with_v}
 use Rattle.trace.proofs.VolatileLaws.{Flags}
 use Rattle.writer.specs.Text.{numbers_from, volatile_row, event_line, events_text}
 use Rattle.writer.proofs.WriteLaws.{bare, event_text}
@@ -26,7 +27,7 @@ use Rattle.writer.proofs.EventBack.{row_fields}
 
 -- The flags `ds` are read, and of `bs` the numbers are still to come; none of them is for a variable that is not declared.
 flags_back : (v low : ℕ) (ds bs : List Bool) → v ≤ full.variables → low ≤ length ds → ((i : ℕ) → v ≤ length ds + i → get_or bs i false ≡ false)
-    → volatiles_from v low (ds ++ replicate (length bs) false) (texts (numbers_from (length ds) bs)) ≡ flag_line (ds ++ bs)
+    → volatiles_from v low (ds ++ replicate (length bs) false) (texts (numbers_from (length ds) bs)) ≡ Some (ds ++ bs)
 unfolding volatiles_from texts numbers_from
 flags_back v low ds [] h l w = refl
 flags_back v low ds (false ∷ bs) h l w =
@@ -41,15 +42,15 @@ flags_back v low ds (true ∷ bs) h l w =
     let s : set (ds ++ (false ∷ replicate (length bs) false)) (length ds) true ≡ ds' ++ replicate (length bs) false =
     set_at ds false (replicate (length bs) false) true (length ds) refl ∙ sym (append_assoc ds (true ∷ []) (replicate (length bs) false)) in
     rw (natural_back (length ds) (omega arith), le-leb low (length ds) l, lt-ltb (length ds) v z, s, n)
-    (flags_back v (length ds') ds' bs h (omega arith) (λ i k. w (suc i) (omega (arith, n))) ∙ ap flag_line (append_assoc ds (true ∷ []) bs))
+    (flags_back v (length ds') ds' bs h (omega arith) (λ i k. w (suc i) (omega (arith, n))) ∙ ap Some (append_assoc ds (true ∷ []) bs))
 
 -- the line of the numbers n and ns, which are those of the flags g
 pub volatiles_back : (v : ℕ) (g : List Bool) (n : ℕ) (ns : List ℕ) → v ≤ full.variables → Flags v g → numbers_from 0 g ≡ n ∷ ns
-    → volatiles_of v (split_on 32 (volatile_row (n ∷ ns))) ≡ flag_line g
+    → volatiles_of v (split_on 32 (volatile_row (n ∷ ns))) ≡ Some g
 unfolding volatiles_of texts lines.letter
 volatiles_back v g n ns h w q =
     let l : 1 < suc (suc (length (texts ns))) = omega arith in
-    let m : volatiles_from v 0 no_volatiles (texts (n ∷ ns)) ≡ flag_line g =
+    let m : volatiles_from v 0 no_volatiles (texts (n ∷ ns)) ≡ Some g =
     (λ i. volatiles_from v 0 (replicate (sym w.size i) false) (texts (sym q i))) ∙ flags_back v 0 [] g h (omega arith) (λ i k. w.stray i (omega arith)) in
     ap (volatiles_of v) (row_fields 86 (n ∷ ns) (λ e. omega arith)) ∙ rw (lt-ltb 1 (suc (suc (length (texts ns)))) l) m
 

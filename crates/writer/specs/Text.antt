@@ -1,26 +1,27 @@
 -- The canonical text of a trace: each line written as document 01 has it, each number in its one form.
-use Rattle.std.specs.Prelude.{ℕ, suc, ◌+◌, ◌-◌, ◌≡◌, List, [], ◌∷◌, ◌++◌, Bool, true, not, ◌&&◌, cond, eqb, ltb, length, take, replicate}
+use Rattle.std.specs.Prelude.{ℕ, suc, ◌+◌, ◌-◌, ◌≡◌, List, [], ◌∷◌, ◌++◌, Bool, true, not, ◌&&◌, cond, eqb, ltb, length, take, replicate, Option, Some, None}
 use Rattle.std.proofs.Common.{SFits}
 use Rattle.rules.specs.declared.Counts.{Counts}
 use Rattle.rules.specs.declared.Event.{Event}
 use Rattle.rules.specs.Events.{F, letter, place, value, on_lock}
 use Rattle.rules.specs.Limits.{full, value_width, declared}
-use Rattle.rules.specs.Rules.{accepted, said}
 use Rattle.decimal.specs.Text.{word_row, word_value, ended}
-use Rattle.trace.specs.declared.Guards.{Guards}
 use Rattle.trace.specs.declared.Trace.{Trace}
-use Rattle.trace.specs.Trace.{no_guards}
+use Rattle.trace.specs.Trace.{Guards}
 
 -- `H t v l`
 abbrev pub head_line : Counts → List ℕ
 head_line c = word_row (72 ∷ []) (c.threads ∷ c.variables ∷ c.locks ∷ [])
 
 -- `G` and one lock number per variable, or `G -`
-abbrev pub guard_row : Bool → List ℕ → List ℕ
-guard_row q ns = cond q (word_row (71 ∷ []) ns) (71 ∷ 32 ∷ 45 ∷ [])
+abbrev pub guard_row : Option (List ℕ) → List ℕ
+guard_row None = 71 ∷ 32 ∷ 45 ∷ []
+guard_row (Some ns) = word_row (71 ∷ []) ns
 
+-- the line of v variables
 abbrev pub guard_line : ℕ → Guards → List ℕ
-guard_line v g = guard_row g.given (take v g.locks)
+guard_line v None = guard_row None
+guard_line v (Some g) = guard_row (Some (take v g))
 
 -- the numbers of the variables whose flags are set, from the i-th on: they rise
 unfoldable pub numbers_from : ℕ → List Bool → List ℕ
@@ -73,8 +74,8 @@ padded ns = ns ++ replicate (full.variables - length ns) 0
 
 -- guards that a trace with these counts may have: none, or one declared lock per variable
 pub data Guarded (c : Counts) : Guards → Type 0 where
-  none : Guarded c no_guards
-  given : (ns : List ℕ) → length ns ≡ c.variables → all_below c.locks ns ≡ true → Guarded c (record { given = true; locks = padded ns })
+  none : Guarded c None
+  given : (ns : List ℕ) → length ns ≡ c.variables → all_below c.locks ns ≡ true → Guarded c (Some (padded ns))
 
 -- an event that a trace with these counts may have in line n
 pub record Declared (c : Counts) (n : ℕ) (e : Event) : Type 0 where
@@ -87,10 +88,9 @@ pub data AllDeclared (c : Counts) : ℕ → List Event → Type 0 where
   done : (n : ℕ) → AllDeclared c n []
   more : (n : ℕ) (e : Event) (es : List Event) → Declared c n e → AllDeclared c (suc n) es → AllDeclared c n (e ∷ es)
 
--- what finding the text of a trace answers
+-- the trace that finding its text answers
 unfoldable pub found_text : Counts → Guards → List Event → Trace
 found_text c g es = record {
-  verdict = said accepted;
   head = c;
   guards = g;
   from = length (ended (head_line c)) + length (ended (guard_line c.variables g)) + length (volatile_line c);

@@ -2,7 +2,7 @@
 // length. Where less room remains than a writer asks for, it writes nothing.
 #![tactic(auto)]
 
-ghost use Rattle.std.specs.Prelude.{◌+◌, ◌*◌, length};
+ghost use Rattle.std.specs.Prelude.{◌+◌, ◌*◌, length, MatchOption};
 ghost use Rattle.decimal.specs.Text.{ended, room, Wrote};
 ghost use Rattle.writer.specs.Text.{head_line, guard_row, volatiles_text, event_line, trailer_line};
 
@@ -12,40 +12,37 @@ use rules::{Counts, Event};
 pub fn write_head(out: &mut [u8], c: Counts) -> usize
     ensures { Wrote (room 98 (ended (head_line c))) out.old result out.new }
 {
-    let ns = [c.threads, c.variables, c.locks];
-    decimal::write_row_line(out, b"H", &ns)
+    decimal::write_row_line(out, b"H", &[c.threads, c.variables, c.locks])
 }
 
 // The trailer, behind n bytes.
 pub fn write_trailer(out: &mut [u8], n: usize) -> usize
     ensures { Wrote (room 34 (ended (trailer_line n))) out.old result out.new }
 {
-    let ns = [n];
-    decimal::write_row_line(out, b"Z", &ns)
+    decimal::write_row_line(out, b"Z", &[n])
 }
 
 // Line 2: the locks of the variables, or a dash where there are no guards.
-pub fn write_guards(out: &mut [u8], given: bool, ns: &[usize]) -> usize
-    ensures { Wrote (room (32 * length ns.now + 4) (ended (guard_row given ns.now))) out.old result out.new }
+pub fn write_guards(out: &mut [u8], locks: Option<&[usize]>) -> usize
+    ensures { MatchOption locks.entry (Wrote (room 4 (ended (guard_row None))) out.old result out.new) (λ ns. Wrote (room (32 * length ns.now + 4) (ended (guard_row (Some ns.now)))) out.old result out.new) }
 {
+    let Some(ns) = locks else {
+        return decimal::write_bytes(out, b"G -\n");
+    };
     if out.len() < 4 {
         return 0;
     }
     if (out.len() - 4) / 32 < ns.len() {
         return 0;
     }
-    if given {
-        decimal::write_row_line(out, b"G", ns)
-    } else {
-        decimal::write_bytes(out, b"G -\n")
-    }
+    decimal::write_row_line(out, b"G", ns)
 }
 
 // Line 3: the volatile variables; nothing where there are none.
 pub fn write_volatiles(out: &mut [u8], ns: &[usize]) -> usize
     ensures { Wrote (room (32 * length ns.now + 2) (volatiles_text ns.now)) out.old result out.new }
 {
-    if ns.len() == 0 {
+    if ns.is_empty() {
         return 0;
     }
     decimal::write_row_line(out, b"V", ns)
@@ -58,13 +55,10 @@ pub fn write_event(out: &mut [u8], e: Event) -> usize
     if out.len() < 98 {
         return 0;
     }
-    let kind = e.kind;
-    let k = rules::letter_of(kind);
-    let word = [k];
-    let ns = [e.thread, rules::place_of(kind)];
-    if rules::is_lock_letter(k) & (k != b'F') {
-        decimal::write_row_line(out, &word, &ns)
-    } else {
-        decimal::write_value_line(out, &word, &ns, rules::value_of(kind))
+    let letter = rules::letter_of(e.kind);
+    let ns = [e.thread, rules::place_of(e.kind)];
+    if rules::is_lock_letter(letter) && letter != b'F' {
+        return decimal::write_row_line(out, &[letter], &ns);
     }
+    decimal::write_value_line(out, &[letter], &ns, rules::value_of(e.kind))
 }
