@@ -17,7 +17,7 @@ use Rattle.rules.specs.Rules.{Accepted, Marked, accepted, refused, answer, verdi
 use Rattle.rules.specs.Widths.{narrow, fits, narrowed, AllWithin}
 use Rattle.rules.proofs.Readings.{past_accepted}
 use Rattle.rules.proofs.Widths.{all_within, within_at, Same, Wider, narrowed_marked}
-use Rattle.trace.specs.Trace.{trace_of, events_of}
+use Rattle.trace.specs.Trace.{trace_of, events_of, head_in}
 use Rattle.events.specs.Events.{part_lines}
 use Rattle.events.proofs.WidthLaws.{readings_narrowed}
 use Rattle.marking.specs.Marking.{lines_in, marked_of, past_of, events_in, read_in}
@@ -33,13 +33,13 @@ narrow_trace s = trace_with narrow.scratch narrow.width s
 
 pub narrow_lines : (s : List ℕ) → lines_in narrow s ≡ map (narrowed narrow.width) (lines_in full s)
 unfolding lines_in
-narrow_lines s = rw (narrow_trace s) (readings_narrowed narrow.width (omega arith) (omega arith) (first_line (trace_of full s).head) (part_lines (events_of s (trace_of full s))))
+narrow_lines s = rw (narrow_trace s) (readings_narrowed narrow.width (omega arith) (omega arith) (first_line (head_in (trace_of full s))) (part_lines (events_of s (trace_of full s))))
 
-narrow_marked : (s : List ℕ) → marked_of narrow s ≡ refused_or (told (trace_of full s).verdict) (mark_read full (trace_of full s).head [] (map (narrowed narrow.width) (lines_in full s)))
+narrow_marked : (s : List ℕ) → marked_of narrow s ≡ refused_or (told (trace_of full s)) (mark_read full (head_in (trace_of full s)) [] (map (narrowed narrow.width) (lines_in full s)))
 unfolding marked_of mark_read verdict answer
 narrow_marked s = rw (narrow_trace s, narrow_lines s) refl
 
-narrow_past : (s : List ℕ) → past_of narrow s ≡ past_read full (trace_of full s).head [] (map (narrowed narrow.width) (lines_in full s))
+narrow_past : (s : List ℕ) → past_of narrow s ≡ past_read full (head_in (trace_of full s)) [] (map (narrowed narrow.width) (lines_in full s))
 unfolding past_of past_read verdict answer
 narrow_past s = rw (narrow_trace s, narrow_lines s) refl
 
@@ -62,16 +62,16 @@ same_read s a = rw (narrow_lines s, all_within narrow.width (lines_in full s) a)
 -- With values of 32 bits a paper has the same verdict after the same events, or 4 at the first line whose value lies outside 32 bits.
 pub narrow_or_wider : (s : List ℕ) → SameMarked s ⊎ Widened s
 unfolding marked_of past_of events_in mark_read past_read Accepted
-narrow_or_wider s = by (told (trace_of full s).verdict) refl (narrowed_marked full narrow.width h [] (lines_in full s))
+narrow_or_wider s = by (told (trace_of full s)) refl (narrowed_marked full narrow.width h [] (lines_in full s))
   where
     h : Counts
-    h = (trace_of full s).head
+    h = (head_in (trace_of full s))
 
-    by : (f : Marked) → told (trace_of full s).verdict ≡ f → Same full narrow.width h [] (lines_in full s) ⊎ Wider full narrow.width h [] (lines_in full s)
+    by : (f : Marked) → told (trace_of full s) ≡ f → Same full narrow.width h [] (lines_in full s) ⊎ Wider full narrow.width h [] (lines_in full s)
         → SameMarked s ⊎ Widened s
     by f q (inl r) = inl (record {
       fitting = r.fitting (length (past_of full s)) (omega arith);
-      alike = record { trace = narrow_trace s; marked = narrow_marked s ∙ ap (refused_or (told (trace_of full s).verdict)) r.narrow_marked; past = narrow_past s ∙ r.narrow_past };
+      alike = record { trace = narrow_trace s; marked = narrow_marked s ∙ ap (refused_or (told (trace_of full s))) r.narrow_marked; past = narrow_past s ∙ r.narrow_past };
     })
     by (refused n line) q (inr r) = absurd (none_unfound full s n line q r.earlier (some r.event) r.rest r.lines)
     by accepted q (inr r) = inr (record {

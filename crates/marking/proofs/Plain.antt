@@ -7,7 +7,7 @@ use Rattle.rules.specs.Limits.{full, value_width}
 use Rattle.rules.specs.Rules.{told, refused_or, answer, verdict, mark_read, past_read}
 use Rattle.rules.specs.Plain.{Plain, full_plain}
 use Rattle.rules.proofs.Plain.{plain_marked, plain_past}
-use Rattle.trace.specs.Trace.{trace_of, meant_volatile}
+use Rattle.trace.specs.Trace.{trace_of, meant_volatile, head_in}
 use Rattle.trace.proofs.TraceLaws.{never_meant, plain_volatile, plain_alike}
 use Rattle.marking.specs.Marking.{lines_in, marked_of, past_of, read_in}
 use Rattle.marking.specs.Courses.{MarkedAlike}
@@ -17,15 +17,15 @@ use Rattle.marking.proofs.FullWith.{read_with}
 module _ (s : List ℕ) where
   -- ---- without the line no variable is volatile
 
-  plain_head : Plain (trace_of full_plain s).head
+  plain_head : Plain (head_in (trace_of full_plain s))
   plain_head = plain_volatile full_plain s (never_meant full_plain s refl)
 
   -- Without the line a paper is marked without the volatile rules, after the same events.
   pub plain_rules : (marked_of full_plain s ≡ plain_of s) × (past_of full_plain s ≡ past_plain_of s)
   unfolding marked_of past_of plain_of past_plain_of
   plain_rules = (
-    ap (refused_or (told (trace_of full_plain s).verdict)) (sym (plain_marked full_plain (trace_of full_plain s).head plain_head [] (lines_in full_plain s))),
-    sym (plain_past full_plain (trace_of full_plain s).head plain_head [] (lines_in full_plain s)),
+    ap (refused_or (told (trace_of full_plain s))) (sym (plain_marked full_plain (head_in (trace_of full_plain s)) plain_head [] (lines_in full_plain s))),
+    sym (plain_past full_plain (head_in (trace_of full_plain s)) plain_head [] (lines_in full_plain s)),
   )
 
   -- ---- a paper that has no `V` line

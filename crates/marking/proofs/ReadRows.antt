@@ -10,10 +10,12 @@ use lib.ListN.{length, take, drop, length-append, length-map}
 use borrow.Author.Tests.{eq-eqb}
 use Rattle.rules.specs.declared.Event.{Event}
 use Rattle.rules.specs.declared.Counts.{Counts}
-use Rattle.rules.specs.declared.Verdict.TheVariants as verdict
+use Rattle.rules.specs.declared.Memories.{Memories}
+use Rattle.rules.specs.declared.Refusal.{Refusal}
+use Rattle.std.specs.Prelude.{Result, Ok, Err}
 use Rattle.rules.specs.Limits.{Limits, UpToFull, full, first_line, line_after, allowed}
 use Rattle.rules.specs.Memories.{memories_of}
-use Rattle.rules.specs.Rules.{words_of, Marked, accepted, refused, told, on_marked, refused_or, mark_from, mark_read}
+use Rattle.rules.specs.Rules.{words_of, Marked, accepted, refused, told, answered, refused_or, mark_from, mark_read}
 use Rattle.rules.specs.Reading.{read_from, stop_from}
 use Rattle.rules.proofs.Bounds.{allowed_full}
 use Rattle.rules.proofs.Courses.{read_few, mark_same}
@@ -22,45 +24,36 @@ use Rattle.decimal.specs.Text.{over}
 use Rattle.records.specs.Records.{packed, value_in}
 use Rattle.records.proofs.RowLaws.{Numbered, front_what, front_value}
 use Rattle.records.proofs.HeldMarks.{row_marks, row_past_law}
-use Rattle.trace.specs.declared.Guards.{Guards}
 use Rattle.trace.specs.declared.Trace.{Trace}
-use Rattle.trace.specs.Trace.{trace_of, events_of}
-use Rattle.trace.proofs.TraceLaws.{found_allowed, lies, part_drop}
+use Rattle.trace.specs.Trace.{Guards, found, trace_of, events_of, head_in, guards_in}
+use Rattle.trace.proofs.TraceLaws.{Lies, found_allowed, lies, part_drop}
 use Rattle.events.specs.declared.Read.{Read}
 use Rattle.events.specs.Events.{readings, part_lines}
 use Rattle.events.specs.Reading.{Reads, events_read}
 use Rattle.events.proofs.LinedLaws.{Lined, read_lined}
-use Rattle.machine.specs.declared.Outcome.{Outcome}
 use Rattle.machine.specs.Rows.{row_marked, row_past, MarksRow}
 use Rattle.marking.specs.declared.Marking.{Marking}
-use Rattle.marking.specs.Marking.{lines_in, marked_of, past_of, events_in, refused_with, accepted_of, marking_of, read_in, Marks}
+use Rattle.marking.specs.Marking.{lines_in, marked_of, past_of, events_in, accepted_of, marking_of, read_in, Marks}
 use Rattle.marking.specs.Computed.Rows.{read_marked, read_accepted, read_marking}
 use Rattle.marking.proofs.Whole.{no_lines, read_is}
 
 -- ---- rows that were read
 
-module _ (h : Counts) (g : Guards) (read : Read) (what : List ℕ) (value : List ℤ) {row : Outcome} (m : MarksRow h (take read.count what) (take read.count value) row) where
+module _ (h : Counts) (g : Guards) (read : Read) (what : List ℕ) (value : List ℤ) where
   -- the rows are refused
-  pub rows_refused : (n l : ℕ) → row.verdict ≡ verdict.Refused n l → refused_with (refused n l) ≡ read_marking h g read what value
+  pub rows_refused : {r : Refusal} → MarksRow h (take read.count what) (take read.count value) (Err r) → Err r ≡ read_marking h g read what value
   unfolding read_marking read_marked
-  rows_refused n l v =
-      let q : row_marked full h (take read.count what) (take read.count value) ≡ refused n l = sym m.says ∙ ap told v in
-      rw q refl
+  rows_refused m = rw (← m.says) refl
 
-  module _ (v : row.verdict ≡ verdict.Accepted) where
-    passed : row_marked full h (take read.count what) (take read.count value) ≡ accepted
-    passed = sym m.says ∙ ap told v
-
+  module _ {x : Memories} (m : MarksRow h (take read.count what) (take read.count value) (Ok x)) where
     -- what ended the reading is refused
-    pub stop_refused : (n l : ℕ) → read.verdict ≡ verdict.Refused n l → refused_with (refused n l) ≡ read_marking h g read what value
+    pub stop_refused : {r : Refusal} → read.verdict ≡ Err r → Err r ≡ read_marking h g read what value
     unfolding read_marking read_marked
-    stop_refused n l w = rw (passed, w) refl
+    stop_refused w = rw (← m.says, w) refl
 
-    pub rows_accepted : read.verdict ≡ verdict.Accepted → ◌≡◌ {A = Marking} (record { verdict = verdict.Accepted; head = h; guards = g; events = read.count; memories = row.memories }) (read_marking h g read what value)
+    pub rows_accepted : {v : Unit {0}} → read.verdict ≡ Ok v → ◌≡◌ {A = Result Marking Refusal} (Ok (record { head = h; guards = g; events = read.count; memories = x })) (read_marking h g read what value)
     unfolding read_marking read_marked read_accepted
-    rows_accepted w =
-        let e : row.memories ≡ memories_of (words_of (row_past full h (take read.count what) (take read.count value))) = rw passed at m.holds in
-        rw (passed, w) (λ i. record { verdict = verdict.Accepted; head = h; guards = g; events = read.count; memories = e i })
+    rows_accepted w = rw (← m.says, w) (λ i. Ok (record { head = h; guards = g; events = read.count; memories = m.holds i }))
 
 -- ---- a whole trace
 
@@ -70,29 +63,32 @@ lined_numbered h n (e ∷ es) k = (k.0, lined_numbered h (suc n) es (let z : suc
 
 module _ (m : Limits) (u : UpToFull m) where
   -- a trace that is not found has nothing to read
-  read_none : (s : List ℕ) (n line : ℕ) → told (trace_of m s).verdict ≡ refused n line → read_in m s ≡ []
+  read_none : (s : List ℕ) (n line : ℕ) → told (trace_of m s) ≡ refused n line → read_in m s ≡ []
   unfolding read_in read_from
   read_none s n line q = rw (no_lines m s n line q) refl
 
-  unfound : (s what : List ℕ) (value : List ℤ) (n line : ℕ) → told (trace_of m s).verdict ≡ refused n line → (r : Marking) → r ≡ refused_with (refused n line) → Marks m s what value r what value
-  unfound s what value n line q r e = record {
-    says = ap (λ (x : Marking). told x.verdict) e ∙ sym marked;
-    gives = e ∙ unfold marking_of in rw marked refl;
-    keeps = rw (read_none s n line q) refl;
-    beside = rw (read_none s n line q) refl;
+  unfound : (s what : List ℕ) (value : List ℤ) {r : Refusal} → told (trace_of m s) ≡ refused r.number r.line → Marks m s what value (Err r) what value
+  unfound s what value {r} q = record {
+    says = sym marked;
+    gives = unfold marking_of in rw marked refl;
+    keeps = rw (read_none s r.number r.line q) refl;
+    beside = rw (read_none s r.number r.line q) refl;
   }
     where
-      marked : marked_of m s ≡ refused n line
+      marked : marked_of m s ≡ refused r.number r.line
       marked = unfold marked_of in rw q refl
 
-  said_is : (s : List ℕ) (k : Marked) → marked_of m s ≡ k → told (marking_of m s).verdict ≡ k
-  unfolding marking_of accepted_of
-  said_is s accepted q = rw q refl
-  said_is s (refused n l) q = rw q refl
+  said_is : (s : List ℕ) → told (marking_of m s) ≡ marked_of m s
+  unfolding marking_of
+  said_is s = by (marked_of m s)
+    where
+      by : (k : Marked) → told (answered k (accepted_of m s)) ≡ k
+      by accepted = refl
+      by (refused n l) = refl
 
-  module _ (s : List ℕ) (found : told (trace_of m s).verdict ≡ accepted) where
+  module _ (s : List ℕ) (found : told (trace_of m s) ≡ accepted) where
     abbrev h : Counts
-    h = (trace_of m s).head
+    h = (head_in (trace_of m s))
 
     abbrev lines : List (Option Event)
     lines = lines_in m s
@@ -152,7 +148,7 @@ module _ (m : Limits) (u : UpToFull m) where
       unfolding lines_in
       stop_is = d.verdict
 
-      marked_is : read_marked h (trace_of m s).guards read what' value' ≡ marked_of m s
+      marked_is : read_marked h (guards_in (trace_of m s)) read what' value' ≡ marked_of m s
       unfolding read_marked
       marked_is = (λ i. refused_or (row_marked full h (front_whats i) (front_values i)) (stop_is i)) ∙ whole
 
@@ -160,22 +156,21 @@ module _ (m : Limits) (u : UpToFull m) where
       unfolding read_in
       es_are a = read_is m u s a
 
-      accepted_is : marked_of m s ≡ accepted → read_accepted h (trace_of m s).guards read what' value' ≡ accepted_of m s
+      accepted_is : marked_of m s ≡ accepted → read_accepted h (guards_in (trace_of m s)) read what' value' ≡ accepted_of m s
       unfolding read_accepted accepted_of
       accepted_is a = λ i. record {
-        verdict = verdict.Accepted;
         head = h;
-        guards = (trace_of m s).guards;
+        guards = (guards_in (trace_of m s));
         events = (count_is ∙ ap length (es_are a)) i;
         memories = ((λ j. memories_of (words_of (row_past full h (front_whats j) (front_values j)))) ∙ ap (λ (l : List Event). memories_of (words_of l)) (past_is a)) i;
       }
 
-      reading_is : read_marking h (trace_of m s).guards read what' value' ≡ marking_of m s
+      reading_is : read_marking h (guards_in (trace_of m s)) read what' value' ≡ marking_of m s
       unfolding read_marking marking_of
-      reading_is = ap (λ (k : Marked). on_marked k (read_accepted h (trace_of m s).guards read what' value') (refused_with k)) marked_is ∙ by (marked_of m s) refl
+      reading_is = ap (λ (k : Marked). answered k (read_accepted h (guards_in (trace_of m s)) read what' value')) marked_is ∙ by (marked_of m s) refl
         where
-          by : (k : Marked) → marked_of m s ≡ k → on_marked k (read_accepted h (trace_of m s).guards read what' value') (refused_with k) ≡ on_marked k (accepted_of m s) (refused_with k)
-          by accepted q = accepted_is q
+          by : (k : Marked) → marked_of m s ≡ k → answered k (read_accepted h (guards_in (trace_of m s)) read what' value') ≡ answered k (accepted_of m s)
+          by accepted q = ap Ok (accepted_is q)
           by (refused n l) q = refl
 
       kept : what' ≡ over (map packed (read_in m s)) what
@@ -186,9 +181,9 @@ module _ (m : Limits) (u : UpToFull m) where
       unfolding read_in lines_in
       kept_beside = d.value_is
 
-      marks_read : (r : Marking) → r ≡ read_marking h (trace_of m s).guards read what' value' → Marks m s what value r what' value'
+      marks_read : (r : Result Marking Refusal) → r ≡ read_marking h (guards_in (trace_of m s)) read what' value' → Marks m s what value r what' value'
       marks_read r e = record {
-        says = ap (λ (x : Marking). told x.verdict) (e ∙ reading_is) ∙ said_is s (marked_of m s) refl;
+        says = ap (λ (x : Result Marking Refusal). told x) (e ∙ reading_is) ∙ said_is s;
         gives = e ∙ reading_is;
         keeps = kept;
         beside = kept_beside;
@@ -196,22 +191,23 @@ module _ (m : Limits) (u : UpToFull m) where
 
 -- ---- as the code has it
 
-module _ (m : Limits) (u : UpToFull m) (s : List ℕ) (t : Trace) (f : t ≡ trace_of m s) where
-  found_is : told t.verdict ≡ told (trace_of m s).verdict
-  found_is = ap (λ (x : Trace). told x.verdict) f
+module _ (m : Limits) (u : UpToFull m) (s : List ℕ) where
+  pub marks_unfound : (what : List ℕ) (value : List ℤ) {r : Refusal} → Err r ≡ trace_of m s → Marks m s what value (Err r) what value
+  marks_unfound what value f = unfound m u s what value (sym (ap found f))
 
-  pub marks_unfound : (what : List ℕ) (value : List ℤ) (n line : ℕ) → t.verdict ≡ verdict.Refused n line → (r : Marking) → r ≡ refused_with (refused n line) → Marks m s what value r what value
-  marks_unfound what value n line v r e = unfound m u s what value n line (sym found_is ∙ ap told v) r e
-
-  pub marks_found : (what what' : List ℕ) (value value' : List ℤ) (read : Read) (r : Marking)
-      → t.verdict ≡ verdict.Accepted → Reads m t.head (drop t.from (take t.to s)) read what what' value value' → r ≡ read_marking t.head t.guards read what' value'
-      → Marks m s what value r what' value'
-  marks_found what what' value value' read r v d e =
-      subst (λ (x : Trace). Reads m x.head (drop x.from (take x.to s)) read what what' value value' → r ≡ read_marking x.head x.guards read what' value' → Marks m s what value r what' value') (sym f)
-      (λ d' e'. marks_read m u s (sym found_is ∙ ap told v) what what' value value' read (subst (λ p. Reads m (trace_of m s).head p read what what' value value') (sym part) d') r e') d e
+  pub marks_found : (t : Trace) → Ok t ≡ trace_of m s → (what what' : List ℕ) (value value' : List ℤ) (read : Read) (r : Result Marking Refusal)
+      → Reads m t.head (drop t.from (take t.to s)) read what what' value value' → r ≡ read_marking t.head t.guards read what' value' → Marks m s what value r what' value'
+  unfolding events_of
+  marks_found t f what what' value value' read r d e =
+      marks_read m u s (sym (ap found f)) what what' value value' read
+      (subst (λ (x : Result Trace Refusal). Reads m (head_in x) (events_of s x) read what what' value value') f (subst (λ p. Reads m t.head p read what what' value value') (sym part) d))
+      r (subst (λ (x : Result Trace Refusal). r ≡ read_marking (head_in x) (guards_in x) read what' value') f e)
     where
-      part : events_of s (trace_of m s) ≡ drop (trace_of m s).from (take (trace_of m s).to s)
-      part = unfold events_of in part_drop (trace_of m s).from (trace_of m s).to s (lies m s).start (lies m s).end
+      l : Lies t s
+      l = lies m s t (sym f)
+
+      part : events_of s (Ok t) ≡ drop t.from (take t.to s)
+      part = part_drop t.from t.to s l.start l.end
 
 -- the rows have room for what was read
 low : {X : Type 0} (p : Event → X) (es : List Event) (o o' : List X) → o' ≡ over (map p es) o → length es ≤ length o'

@@ -21,7 +21,7 @@ use Rattle.rules.proofs.Readings.{marked_apart}
 use Rattle.rules.proofs.Loads.{row_refused, unlock_refused}
 use Rattle.rules.proofs.DeadReads.{refused_dead}
 use Rattle.rules.proofs.PrescientStores.{unlock_exact}
-use Rattle.trace.specs.Trace.{trace_of}
+use Rattle.trace.specs.Trace.{trace_of, head_in}
 use Rattle.trace.proofs.TraceLaws.{found_number}
 use Rattle.marking.specs.Marking.{lines_in, marked_of, read_in}
 
@@ -47,12 +47,12 @@ module _ (m : Limits) (x : 0 < m.excess) where
   -- A trace that is refused with none of 1, 2, 3 and 6, of finding it, nor with 4, of what ends the reading, nor over the limits, has a first bad event
   -- among the events that are read.
   pub first_bad : (s : List ℕ) (number line : ℕ) → (m.excess ≡ number → ⊥) → (T (among (1 ∷ 2 ∷ 3 ∷ 6 ∷ 4 ∷ []) number) → ⊥) → marked_of m s ≡ refused number line
-      → FirstBad m (trace_of m s).head (read_in m s) number line
+      → FirstBad m (head_in (trace_of m s)) (read_in m s) number line
   unfolding marked_of read_in
-  first_bad s number line z o q = go (either (told (trace_of m s).verdict) (mark_read m (trace_of m s).head [] (lines_in m s)) number line q)
+  first_bad s number line z o q = go (either (told (trace_of m s)) (mark_read m (head_in (trace_of m s)) [] (lines_in m s)) number line q)
     where
       h : Counts
-      h = (trace_of m s).head
+      h = (head_in (trace_of m s))
 
       on : (mark m h (read_from m 0 (lines_in m s)) ≡ refused number line) ⊎ (stop_from m h 0 (lines_in m s) ≡ refused number line) → FirstBad m h (read_from m 0 (lines_in m s)) number line
       on (inl r) = mark_refuses m h (read_from m 0 (lines_in m s)) number line r
@@ -62,7 +62,7 @@ module _ (m : Limits) (x : 0 < m.excess) where
           stops (inl p) = o (rw p tt)
           stops (inr p) = z (sym p)
 
-      go : (told (trace_of m s).verdict ≡ refused number line) ⊎ (mark_read m h [] (lines_in m s) ≡ refused number line) → FirstBad m h (read_from m 0 (lines_in m s)) number line
+      go : (told (trace_of m s) ≡ refused number line) ⊎ (mark_read m h [] (lines_in m s) ≡ refused number line) → FirstBad m h (read_from m 0 (lines_in m s)) number line
       go (inl r) = absurd (unfound (found_number m s number line r))
         where
           unfound : T (among (1 ∷ 2 ∷ 3 ∷ 6 ∷ []) number) ⊎ ((c : Counts) × (allowed full c ≡ true) × (allowed m c ≡ false) × (number ≡ m.excess) × (line ≡ 1)) → ⊥
@@ -72,32 +72,32 @@ module _ (m : Limits) (x : 0 < m.excess) where
 
   -- No paper is refused with 15 or 16 at an L: its first bad event is an N or Y. (Here and below, where one event too many has another number.)
   pub unlock_line : (s : List ℕ) (number line : ℕ) → (m.excess ≡ number → ⊥) → (number ≡ 15) ⊎ (number ≡ 16) → marked_of m s ≡ refused number line
-      → (b : FirstBad m (trace_of m s).head (read_in m s) number line) × T (unlocks b.event)
-  unlock_line s number line z o q = (b, unlock_refused m (trace_of m s).head (read_in m s) number line x z o b)
+      → (b : FirstBad m (head_in (trace_of m s)) (read_in m s) number line) × T (unlocks b.event)
+  unlock_line s number line z o q = (b, unlock_refused m (head_in (trace_of m s)) (read_in m s) number line x z o b)
     where
       of_event : (number ≡ 15) ⊎ (number ≡ 16) → T (among (1 ∷ 2 ∷ 3 ∷ 6 ∷ 4 ∷ []) number) → ⊥
       of_event (inl p) i = subst (λ (n : ℕ). T (among (1 ∷ 2 ∷ 3 ∷ 6 ∷ 4 ∷ []) n)) p i
       of_event (inr p) i = subst (λ (n : ℕ). T (among (1 ∷ 2 ∷ 3 ∷ 6 ∷ 4 ∷ []) n)) p i
 
-      b : FirstBad m (trace_of m s).head (read_in m s) number line
+      b : FirstBad m (head_in (trace_of m s)) (read_in m s) number line
       b = first_bad s number line z (of_event o) q
 
   -- A paper that is refused with 16 is so at an N or Y of a thread that has an outstanding store whose assign is made.
   pub unwritten_line : (s : List ℕ) (line : ℕ) → (m.excess ≡ 16 → ⊥) → marked_of m s ≡ refused 16 line
-      → (b : FirstBad m (trace_of m s).head (read_in m s) 16 line) × T (unlocks b.event) × (on_some (trace_of m s).head (λ t v. made_unwritten t v (reverse b.before)) b.event ≡ true)
+      → (b : FirstBad m (head_in (trace_of m s)) (read_in m s) 16 line) × T (unlocks b.event) × (on_some (head_in (trace_of m s)) (λ t v. made_unwritten t v (reverse b.before)) b.event ≡ true)
   unwritten_line s line z q = (b, n, sym (unlock_exact h es (accepted_legal m h es x b.clean) b.event n) ∙ broken)
     where
-      u : (b : FirstBad m (trace_of m s).head (read_in m s) 16 line) × T (unlocks b.event)
+      u : (b : FirstBad m (head_in (trace_of m s)) (read_in m s) 16 line) × T (unlocks b.event)
       u = unlock_line s 16 line z (inr refl) q
 
-      b : FirstBad m (trace_of m s).head (read_in m s) 16 line
+      b : FirstBad m (head_in (trace_of m s)) (read_in m s) 16 line
       b = u.0
 
       n : T (unlocks b.event)
       n = u.1
 
       h : Counts
-      h = (trace_of m s).head
+      h = (head_in (trace_of m s))
 
       es : List Event
       es = reverse b.before
@@ -107,14 +107,14 @@ module _ (m : Limits) (x : 0 < m.excess) where
 
   -- A paper that is refused with 23 is so at an event that leaves a read which can never be loaded.
   pub dead_line : (s : List ℕ) (line : ℕ) → (m.excess ≡ 23 → ⊥) → marked_of m s ≡ refused 23 line
-      → (b : FirstBad m (trace_of m s).head (read_in m s) 23 line) × Dead (trace_of m s).head b.event.thread (loc b.event) (b.event ∷ reverse b.before)
+      → (b : FirstBad m (head_in (trace_of m s)) (read_in m s) 23 line) × Dead (head_in (trace_of m s)) b.event.thread (loc b.event) (b.event ∷ reverse b.before)
   dead_line s line z q = (b, refused_dead h es b.event (accepted_legal m h es x b.clean) row.0 row.1)
     where
-      b : FirstBad m (trace_of m s).head (read_in m s) 23 line
+      b : FirstBad m (head_in (trace_of m s)) (read_in m s) 23 line
       b = first_bad s 23 line z (λ o. o) q
 
       h : Counts
-      h = (trace_of m s).head
+      h = (head_in (trace_of m s))
 
       es : List Event
       es = reverse b.before

@@ -16,22 +16,22 @@ use Rattle.rules.specs.Ten.{is_ten, AllTen, ten_words_of, mark_ten, past_ten}
 use Rattle.rules.proofs.Fewer.{pass_turned}
 use Rattle.rules.proofs.Ten as Lines
 use Rattle.rules.proofs.Ten.{ten_words, ten_or_more, past_ten_law, ten_accepted}
-use Rattle.trace.specs.Trace.{trace_of}
+use Rattle.trace.specs.Trace.{trace_of, head_in}
 use Rattle.marking.specs.Marking.{lines_in, marked_of, past_of, events_in}
 use Rattle.marking.specs.Ten.{ten_of, past_ten_of, SameTen, NewKind}
 use Rattle.marking.proofs.Whole.{none_unfound}
 
 module _ (s : List ℕ) where
   abbrev h : Counts
-  h = (trace_of full s).head
+  h = (head_in (trace_of full s))
 
   -- Every paper: what is marked is without Y, F and C and marked as it was, or 4 was said at the first of these behind accepted events.
   pub ten_or_new : SameTen s ⊎ NewKind s
   unfolding ten_of past_ten_of marked_of past_of mark_ten past_ten mark_read past_read
-  ten_or_new = by (told (trace_of full s).verdict) refl (ten_or_more full h (lines_in full s))
+  ten_or_new = by (told (trace_of full s)) refl (ten_or_more full h (lines_in full s))
     where
-      by : (f : Marked) → told (trace_of full s).verdict ≡ f → Lines.SameTen full h (lines_in full s) ⊎ Lines.FirstNew full h (lines_in full s) → SameTen s ⊎ NewKind s
-      by f q (inl r) = inl (record { fitting = r.fitting (length (past_of full s)) (omega arith); marked = ap (refused_or (told (trace_of full s).verdict)) r.narrow_marked; past = r.narrow_past })
+      by : (f : Marked) → told (trace_of full s) ≡ f → Lines.SameTen full h (lines_in full s) ⊎ Lines.FirstNew full h (lines_in full s) → SameTen s ⊎ NewKind s
+      by f q (inl r) = inl (record { fitting = r.fitting (length (past_of full s)) (omega arith); marked = ap (refused_or (told (trace_of full s))) r.narrow_marked; past = r.narrow_past })
       by (refused n line) q (inr r) = absurd (none_unfound full s n line q r.earlier (some r.event) r.rest r.lines)
       by accepted q (inr r) = inr (record {
         earlier = r.earlier;

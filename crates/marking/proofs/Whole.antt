@@ -18,7 +18,7 @@ use Rattle.rules.proofs.Readings.{past_accepted, past_read_law, past_marked}
 use Rattle.records.proofs.RowLaws.{Numbered, Small}
 use Rattle.events.specs.Events.{event_of, readings, part_lines}
 use Rattle.events.proofs.LinedLaws.{event_line_law}
-use Rattle.trace.specs.Trace.{trace_of, events_of}
+use Rattle.trace.specs.Trace.{trace_of, events_of, head_in}
 use Rattle.trace.proofs.TraceLaws.{found_allowed, not_found}
 use Rattle.marking.specs.Marking.{lines_in, marked_of, past_of, events_in, read_in}
 
@@ -34,11 +34,11 @@ small_turn [] rest k r = r
 small_turn (e ∷ es) rest k r = small_turn es (e ∷ rest) k.3 (k.0, k.1, k.2, r)
 
 -- a paper that is not found has no lines
-pub no_lines : (m : Limits) (s : List ℕ) (n line : ℕ) → told (trace_of m s).verdict ≡ refused n line → lines_in m s ≡ []
+pub no_lines : (m : Limits) (s : List ℕ) (n line : ℕ) → told (trace_of m s) ≡ refused n line → lines_in m s ≡ []
 unfolding lines_in readings part_lines split_on events_of
 no_lines m s n line q = rw (not_found m s n line q) refl
 
-pub none_unfound : (m : Limits) (s : List ℕ) (n line : ℕ) → told (trace_of m s).verdict ≡ refused n line → (es : List Event) (l : Option Event) (rs : List (Option Event)) → lines_in m s ≡ map some es ++ (l ∷ rs) → ⊥
+pub none_unfound : (m : Limits) (s : List ℕ) (n line : ℕ) → told (trace_of m s) ≡ refused n line → (es : List Event) (l : Option Event) (rs : List (Option Event)) → lines_in m s ≡ map some es ++ (l ∷ rs) → ⊥
 none_unfound m s n line q es l rs r = never es (sym r ∙ no_lines m s n line q)
   where
     never : (es : List Event) → map some es ++ (l ∷ rs) ≡ [] → ⊥
@@ -49,25 +49,25 @@ module _ (m : Limits) where
   -- ---- an accepted trace
 
   -- it is found, and no line of it is refused
-  whole : (s : List ℕ) → marked_of m s ≡ accepted → Both (told (trace_of m s).verdict) (mark_read m (trace_of m s).head [] (lines_in m s))
+  whole : (s : List ℕ) → marked_of m s ≡ accepted → Both (told (trace_of m s)) (mark_read m (head_in (trace_of m s)) [] (lines_in m s))
   unfolding marked_of
-  whole s a = both (told (trace_of m s).verdict) (mark_read m (trace_of m s).head [] (lines_in m s)) a
+  whole s a = both (told (trace_of m s)) (mark_read m (head_in (trace_of m s)) [] (lines_in m s)) a
 
-  pub found_is : (s : List ℕ) → marked_of m s ≡ accepted → told (trace_of m s).verdict ≡ accepted
+  pub found_is : (s : List ℕ) → marked_of m s ≡ accepted → told (trace_of m s) ≡ accepted
   found_is s a = (whole s a).0
 
-  pub head_allowed : (s : List ℕ) → marked_of m s ≡ accepted → allowed m (trace_of m s).head ≡ true
+  pub head_allowed : (s : List ℕ) → marked_of m s ≡ accepted → allowed m (head_in (trace_of m s)) ≡ true
   head_allowed s a = found_allowed m s (found_is s a)
 
   -- ---- the events before the first refusal
 
-  pub past_clean : (s : List ℕ) → T (Accepted m (trace_of m s).head (past_of m s))
+  pub past_clean : (s : List ℕ) → T (Accepted m (head_in (trace_of m s)) (past_of m s))
   unfolding past_of
-  past_clean s = past_accepted m (trace_of m s).head [] (lines_in m s) (unfold Accepted in tt)
+  past_clean s = past_accepted m (head_in (trace_of m s)) [] (lines_in m s) (unfold Accepted in tt)
 
-  pub events_marked : (s : List ℕ) → mark m (trace_of m s).head (events_in m s) ≡ accepted
+  pub events_marked : (s : List ℕ) → mark m (head_in (trace_of m s)) (events_in m s) ≡ accepted
   unfolding events_in past_of
-  events_marked s = past_marked m (trace_of m s).head (lines_in m s)
+  events_marked s = past_marked m (head_in (trace_of m s)) (lines_in m s)
 
   -- ---- each stands in its line
 
@@ -95,15 +95,15 @@ module _ (m : Limits) where
     turn [] rest k r = r
     turn (e ∷ es) rest k r = turn es (e ∷ rest) k.1 (k.0, r)
 
-  pub events_numbered : (s : List ℕ) → Numbered (trace_of m s).head 0 (events_in m s)
+  pub events_numbered : (s : List ℕ) → Numbered (head_in (trace_of m s)) 0 (events_in m s)
   unfolding events_in past_of lines_in
   events_numbered s = turn h (past_of m s) [] (turned h [] (first_line h) (part_lines (events_of s (trace_of m s))) (omega arith) tt) tt
     where
       h : Counts
-      h = (trace_of m s).head
+      h = (head_in (trace_of m s))
 
   -- a trace that is not found has no events
-  pub none_found : (s : List ℕ) (n line : ℕ) → told (trace_of m s).verdict ≡ refused n line → events_in m s ≡ []
+  pub none_found : (s : List ℕ) (n line : ℕ) → told (trace_of m s) ≡ refused n line → events_in m s ≡ []
   unfolding events_in past_of past_read
   none_found s n line q = rw (no_lines m s n line q) refl
 
@@ -112,12 +112,12 @@ module _ (m : Limits) (u : UpToFull m) where
   -- the events that are read are all
   pub read_is : (s : List ℕ) → marked_of m s ≡ accepted → read_in m s ≡ events_in m s
   unfolding read_in events_in past_of
-  read_is s a = sym (past_read_law m (trace_of m s).head (lines_in m s) u.excess (whole m s a).1)
+  read_is s a = sym (past_read_law m (head_in (trace_of m s)) (lines_in m s) u.excess (whole m s a).1)
 
   -- at most 2,000 events are accepted
   pub events_few : (s : List ℕ) → length (events_in m s) ≤ 2000
   unfolding events_in
-  events_few s = omega (arith, u.events, length-reverse (past_of m s), few m (trace_of m s).head (past_of m s) u.excess (past_clean m s))
+  events_few s = omega (arith, u.events, length-reverse (past_of m s), few m (head_in (trace_of m s)) (past_of m s) u.excess (past_clean m s))
 
   -- ---- and is declared: its thread is below 8, its variable or lock below 16
 
@@ -131,8 +131,8 @@ module _ (m : Limits) (u : UpToFull m) where
 
   pub events_declared : (s : List ℕ) → Small (events_in m s)
   unfolding events_in
-  events_declared s = by (told (trace_of m s).verdict) refl
+  events_declared s = by (told (trace_of m s)) refl
     where
-      by : (k : Marked) → told (trace_of m s).verdict ≡ k → Small (reverse (past_of m s))
-      by accepted q = small_turn (past_of m s) [] (small_past (trace_of m s).head (past_of m s) (allowed_full m (trace_of m s).head u (found_allowed m s q)) (past_clean m s)) tt
+      by : (k : Marked) → told (trace_of m s) ≡ k → Small (reverse (past_of m s))
+      by accepted q = small_turn (past_of m s) [] (small_past (head_in (trace_of m s)) (past_of m s) (allowed_full m (head_in (trace_of m s)) u (found_allowed m s q)) (past_clean m s)) tt
       by (refused n line) q = rw (none_found m s n line q) tt

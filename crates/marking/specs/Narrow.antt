@@ -7,7 +7,7 @@ use Rattle.rules.specs.Events.{value}
 use Rattle.rules.specs.Limits.{full, line_after}
 use Rattle.rules.specs.Rules.{Accepted, refused, verdict, unless, mark_read, passing, past_read}
 use Rattle.rules.specs.Widths.{narrow, fits, AllWithin}
-use Rattle.trace.specs.Trace.{trace_of}
+use Rattle.trace.specs.Trace.{trace_of, head_in}
 use Rattle.marking.specs.Marking.{lines_in, marked_of, past_of, events_in}
 use Rattle.marking.specs.Courses.{MarkedAlike}
 
@@ -28,11 +28,11 @@ pub record Widened (s : List ℕ) : Type 0 where
   pub rest : List (Option Event)
   pub line : ℕ
   pub lines : lines_in full s ≡ map some earlier ++ (some event ∷ rest)
-  pub line_is : line ≡ line_after (trace_of full s).head (length earlier)
+  pub line_is : line ≡ line_after (head_in (trace_of full s)) (length earlier)
   pub fitting : AllWithin narrow.width (map some earlier)
-  pub clean : T (Accepted full (trace_of full s).head (reverse earlier))
+  pub clean : T (Accepted full (head_in (trace_of full s)) (reverse earlier))
   pub outside : fits narrow.width (value event.kind) ≡ false
   pub narrow_marked : marked_of narrow s ≡ refused 4 line
   pub before : events_in narrow s ≡ earlier
-  pub marked : marked_of full s ≡ unless (verdict full (trace_of full s).head (reverse earlier) event) line (mark_read full (trace_of full s).head (event ∷ reverse earlier) rest)
-  pub past : past_of full s ≡ passing (verdict full (trace_of full s).head (reverse earlier) event) (reverse earlier) (past_read full (trace_of full s).head (event ∷ reverse earlier) rest)
+  pub marked : marked_of full s ≡ unless (verdict full (head_in (trace_of full s)) (reverse earlier) event) line (mark_read full (head_in (trace_of full s)) (event ∷ reverse earlier) rest)
+  pub past : past_of full s ≡ passing (verdict full (head_in (trace_of full s)) (reverse earlier) event) (reverse earlier) (past_read full (head_in (trace_of full s)) (event ∷ reverse earlier) rest)

@@ -3,12 +3,12 @@ use Rattle.std.specs.Prelude.{ℕ, List, []}
 use Rattle.rules.specs.declared.Event.{Event}
 use Rattle.rules.specs.Rules.{Marked, told, refused_or}
 use Rattle.rules.specs.Plain.{full_plain, mark_plain, past_plain}
-use Rattle.trace.specs.Trace.{trace_of}
+use Rattle.trace.specs.Trace.{trace_of, head_in}
 use Rattle.marking.specs.Marking.{lines_in}
 
 -- as `marked_of` and `past_of`, with what stands behind the guards as the events, and no 26 to 28 in the rows
 unfoldable pub plain_of : List ℕ → Marked
-plain_of s = refused_or (told (trace_of full_plain s).verdict) (mark_plain full_plain (trace_of full_plain s).head [] (lines_in full_plain s))
+plain_of s = refused_or (told (trace_of full_plain s)) (mark_plain full_plain (head_in (trace_of full_plain s)) [] (lines_in full_plain s))
 
 unfoldable pub past_plain_of : List ℕ → List Event
-past_plain_of s = past_plain full_plain (trace_of full_plain s).head [] (lines_in full_plain s)
+past_plain_of s = past_plain full_plain (head_in (trace_of full_plain s)) [] (lines_in full_plain s)

@@ -1,30 +1,21 @@
--- `marking::mark_read` meets its contract: the verdict is the first in line order. Assumes nothing.
-use mathlib.Core.Path.{sym, ◌∙◌}
-use lib.Seq.{length-take-le}
+-- `marking::mark_read` meets its contract: the refusal is the first in line order. Assumes nothing.
+use Rattle.std.proofs.lemmas.Result.{err_from_is_err_and}
 use Rattle.marking.proofs.ReadRows.{rows_refused, stop_refused, rows_accepted}
 use Rattle.marking.proofs.mark_read.Goals as goal
 
-pub slice_bounds-mark_row-end : goal.slice_bounds-mark_row-end
-slice_bounds-mark_row-end c =
+pub returns-in_err-memories : goal.returns-in_err-memories
+returns-in_err-memories c =
     let a = c.args in
-    sym (length-take-le a.read.count a.what.now c.requires.0)
+    let p = err_from_is_err_and c.from_residual.result c.from_residual.ensures.1 in
+    rw (p.1, p.2) (rows_refused a.h a.guards a.read a.what.now a.value.now c.in_err-memories.ensures)
 
-pub slice_bounds-mark_row-end-2 : goal.slice_bounds-mark_row-end-2
-slice_bounds-mark_row-end-2 c =
+pub returns-in_err-read : goal.returns-in_err-read
+returns-in_err-read c =
     let a = c.args in
-    sym (length-take-le a.read.count a.value.now c.requires.1)
-
-pub returns-in-Refused : goal.returns-in-Refused
-returns-in-Refused c =
-    let a = c.args in
-    c.refuse.ensures ∙ rows_refused a.h a.guards a.read a.what.now a.value.now c.mark_row-row.ensures c.in-Refused.number c.in-Refused.line c.in-Refused.is
-
-pub returns-in-Refused-stop : goal.returns-in-Refused-stop
-returns-in-Refused-stop c =
-    let a = c.args in
-    c.refuse-in-Refused-stop.ensures ∙ stop_refused a.h a.guards a.read a.what.now a.value.now c.mark_row-row.ensures c.in_default.is c.in-Refused-stop.number c.in-Refused-stop.line c.in-Refused-stop.is
+    let p = err_from_is_err_and c.from_residual-in_err-read.result c.from_residual-in_err-read.ensures.1 in
+    rw (p.1, p.2) (stop_refused a.h a.guards a.read a.what.now a.value.now c.in_ok-memories.ensures c.in_err-read.was)
 
 pub returns : goal.returns
 returns c =
     let a = c.args in
-    rows_accepted a.h a.guards a.read a.what.now a.value.now c.mark_row-row.ensures c.in_default.is c.in_default-stop.is
+    rows_accepted a.h a.guards a.read a.what.now a.value.now c.in_ok-memories.ensures c.in_ok-read.was
