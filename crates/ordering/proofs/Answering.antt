@@ -2,7 +2,7 @@
 use Prim.Native.Nat.{ℕ, ◌≤◌}
 use native.Mathlib.Omega.{arith}
 use mathlib.Core.Path.{◌≡◌, refl, sym, ◌∙◌, ap, ap₂}
-use mathlib.Core.Bool.{Bool, true, false, cond}
+use mathlib.Core.Bool.{false, cond}
 use mathlib.Core.List.{List}
 use borrow.Author.Tests.{ltb-false}
 use lib.Dec.{ltb}
@@ -10,12 +10,13 @@ use lib.IntN.{ℤ}
 use lib.ListN.{length, replicate, length-map}
 use Rattle.rules.specs.declared.Event.{Event}
 use Rattle.rules.specs.declared.Counts.{Counts}
-use Rattle.rules.specs.declared.Verdict.{Verdict}
-use Rattle.rules.specs.declared.Verdict.TheVariants.{Accepted, Refused}
+use Rattle.std.specs.Prelude.{Some, None, Ok, Err}
+use Rattle.rules.specs.Rules.{Verdict}
+use Rattle.rules.specs.declared.Refusal.{Refusal}
 use Rattle.rules.specs.Limits.{full, order_short}
 use Rattle.rules.proofs.Laws.{or_false_left, or_false_right}
 use Rattle.decimal.specs.Text.{over}
-use Rattle.trace.specs.declared.Guards.{Guards}
+use Rattle.trace.specs.Trace.{Guards}
 use Rattle.records.specs.Records.{event_at, row_events}
 use Rattle.sections.specs.Denials.{Denial, fit, denied}
 use Rattle.sections.specs.Refusals.{unfinished, denial}
@@ -24,9 +25,9 @@ use Rattle.sections.specs.Entries.{entry_code}
 use Rattle.sections.proofs.Demand3.{ended, room}
 use Rattle.ordering.specs.declared.Ordering.{Ordering}
 use Rattle.ordering.specs.declared.Ordering.TheVariants.{Ordered, Unordered, NoOrder}
-use Rattle.ordering.specs.Answer.{guard_of, answer_of, answer_for, entries_for, ordered, Given}
+use Rattle.ordering.specs.Answer.{guard_of, locks_in, answer_of, answer_for, entries_for, ordered, Given}
 use Rattle.ordering.specs.Computed.Parts.{Fits, told_as, Orders, Written}
-use Rattle.ordering.proofs.Rows.{past_all}
+use Rattle.ordering.proofs.RowEvents.{past_all}
 
 -- nothing is written
 pub untouched : (a : Ordering) (xs list scratch : List ℕ) (r : Ordering) → a ≡ r → ordered r ≡ false → Given a xs list scratch r list scratch
@@ -36,29 +37,29 @@ untouched a xs list scratch r p q = record {
   zeros = sym (ap (λ b. cond b (replicate (length scratch) 0) scratch) (ap ordered p ∙ q));
 }
 
-module _ (h : Counts) (g : Guards) (es : List Event) where
-  abbrev d : Denial
-  d = denial h (guard_of g.locks) es
-
-  pub no_guards_law : g.given ≡ false → answer_for h g es ≡ NoOrder
+module _ (h : Counts) (es : List Event) where
+  pub no_guards_law : answer_for h None es ≡ NoOrder
   unfolding answer_for
-  no_guards_law p = rw p
+  no_guards_law = refl
 
-  module _ (w : g.given ≡ true) where
-    pub judged : answer_for h g es ≡ answer_of d (length (order h es))
+  module _ (locks : List ℕ) where
+    abbrev d : Denial
+    d = denial h (guard_of locks) es
+
+    pub judged : answer_for h (Some locks) es ≡ answer_of d (length (order h es))
     unfolding answer_for
-    judged = rw w
+    judged = refl
 
-    pub is_denied : (v : Verdict) (number line : ℕ) → v ≡ Refused number line → v ≡ told_as d → answer_for h g es ≡ Unordered number line
+    pub is_denied : (v : Verdict) (r : Refusal) → v ≡ Err r → v ≡ told_as d → answer_for h (Some locks) es ≡ Unordered r
     unfolding told_as answer_of
-    is_denied v number line p q = judged ∙ go d q
+    is_denied v r p q = judged ∙ go d q
       where
-        go : (x : Denial) → v ≡ told_as x → answer_of x (length (order h es)) ≡ Unordered number line
+        go : (x : Denial) → v ≡ told_as x → answer_of x (length (order h es)) ≡ Unordered r
         go fit q = cc
         go (denied n m) q = cc
 
     pub is_ordered : d ≡ fit → (list scratch : List ℕ) (c : ℕ) (list' scratch' : List ℕ) → Written (entries_for h es) list scratch c list' scratch'
-        → Given (answer_for h g es) (entries_for h es) list scratch (Ordered c) list' scratch'
+        → Given (answer_for h (Some locks) es) (entries_for h es) list scratch (Ordered c) list' scratch'
     unfolding answer_of
     is_ordered p list scratch c list' scratch' v = record {
       answers = sym given;
@@ -69,22 +70,21 @@ module _ (h : Counts) (g : Guards) (es : List Event) where
         count : length (entries_for h es) ≡ length (order h es)
         count = unfold entries_for in length-map (order h es) entry_code
 
-        given : answer_for h g es ≡ Ordered c
+        given : answer_for h (Some locks) es ≡ Ordered c
         given = judged ∙ ap₂ answer_of p (sym count ∙ sym v.count)
 
 -- where an order is answered, nothing denies it, and its sections are counted
-pub answered_fit : (h : Counts) (g : Guards) (es : List Event) (c : ℕ) → answer_for h g es ≡ Ordered c → (denial h (guard_of g.locks) es ≡ fit) × (c ≡ length (order h es))
+pub answered_fit : (h : Counts) (g : Guards) (es : List Event) (c : ℕ) → answer_for h g es ≡ Ordered c → (denial h (guard_of (locks_in g)) es ≡ fit) × (c ≡ length (order h es))
 unfolding answer_for answer_of
-answered_fit h g es c q = by g.given (denial h (guard_of g.locks) es) refl q
+answered_fit h (Some locks) es c q = by (denial h (guard_of locks) es) refl q
   where
-    by : (b : Bool) (x : Denial) → denial h (guard_of g.locks) es ≡ x → cond b (answer_of x (length (order h es))) NoOrder ≡ Ordered c
-        → (denial h (guard_of g.locks) es ≡ fit) × (c ≡ length (order h es))
-    by true fit f q = (f, cc)
-    by true (denied n m) f q = absurd (let z : ◌≡◌ {A = ℕ} 0 1 = cc in omega arith)
-    by false x f q = absurd (let z : ◌≡◌ {A = ℕ} 0 1 = cc in omega arith)
+    by : (x : Denial) → denial h (guard_of locks) es ≡ x → answer_of x (length (order h es)) ≡ Ordered c → (denial h (guard_of locks) es ≡ fit) × (c ≡ length (order h es))
+    by fit f q = (f, cc)
+    by (denied n m) f q = absurd (let z : ◌≡◌ {A = ℕ} 0 1 = cc in omega arith)
+answered_fit h None es c q = absurd (let z : ◌≡◌ {A = ℕ} 0 1 = cc in omega arith)
 
 -- nothing denies an order
-pub is_fit : (v : Verdict) (x : Denial) → v ≡ Accepted → v ≡ told_as x → x ≡ fit
+pub is_fit : (v : Verdict) (x : Denial) → v ≡ Ok tt → v ≡ told_as x → x ≡ fit
 unfolding told_as
 is_fit v fit p q = refl
 is_fit v (denied n m) p q = cc

@@ -25,7 +25,9 @@ use Rattle.sections.proofs.Valid.{Declared}
 use Rattle.sections.proofs.Viewed.{shape, next_shape}
 use Rattle.sections.proofs.Cells.{length_view}
 use Rattle.sections.proofs.Ordered.{settled, sections_same}
-use Rattle.ordering.specs.Computed.Parts.{past, bucket, rank, scratch_at, Filled}
+use Rattle.ordering.specs.declared.Holds.{Holds}
+use Rattle.ordering.specs.declared.Begun.{Begun}
+use Rattle.ordering.specs.Computed.Parts.{past, begun_at, no_holds, bucket, rank, scratch_at, Filled}
 use Rattle.records.specs.Records.{event_at}
 use Rattle.ordering.proofs.Grips.{Grips, grips_start, some_held}
 use Rattle.ordering.proofs.Buckets.{Below, Latest}
@@ -67,52 +69,50 @@ module _ (h : Counts) (ws : List ℕ) (xs : List ℤ) where
   abbrev ev : ℕ → Event
   ev = event_at h ws xs
 
-  -- thread t's current section after i events: its last K is the event at `index`; `first` has the line where it begins, `top` the rank of that K
-  pub record Current (first top : List ℕ) (i t : ℕ) : Type 0 where
+  -- thread t's current section after i events: its last K is the event at `index`; it begins in the line `first`, and `top` is the rank of that K
+  pub record Current (begun : List Begun) (i t : ℕ) : Type 0 where
     pub index : ℕ
     pub earlier : index < i
     pub locking : locks (ev index) ≡ true
-    pub place : get_or top t 0 ≡ rank ev index
-    pub latest : Latest h t (get_or first t 0) index (sections h (past ev i))
+    pub place : (begun_at begun t).top ≡ rank ev index
+    pub latest : Latest h t (begun_at begun t).first index (sections h (past ev i))
 
   -- what holds after i events, n of them K
-  pub record Filling (scratch levels depths kept first top : List ℕ) (n i : ℕ) : Type 0 where
+  pub record Filling (s : Holds) (scratch : List ℕ) (begun : List Begun) (n i : ℕ) : Type 0 where
     pub upto : i ≤ length ws
-    pub grips_are : Grips h levels depths kept (past ev i)
-    pub idle : (u : ℕ) → h.threads ≤ u → get_or depths u 0 ≡ 0
-    pub first_long : length first ≡ 8
-    pub top_long : length top ≡ 8
-    pub firsts : (t : ℕ) → t < 8 → get_or first t 0 < 4096
+    pub grips_are : Grips h s (past ev i)
+    pub idle : (u : ℕ) → h.threads ≤ u → get_or s.depths u 0 ≡ 0
+    pub long : length begun ≡ 8
+    pub firsts : (t : ℕ) → t < 8 → (begun_at begun t).first < 4096
     pub count : n ≡ rank ev i
-    pub written : (p : ℕ) → p < i → scratch_at ev scratch p ≡ shown h (λ u. ltb 0 (get_or depths u 0)) (sections h (past ev i)) (suc p)
-    pub current : (t : ℕ) → t < 8 → holds_some h t (past ev i) ≡ true → Current first top i t
+    pub written : (p : ℕ) → p < i → scratch_at ev scratch p ≡ shown h (λ u. ltb 0 (get_or s.depths u 0)) (sections h (past ev i)) (suc p)
+    pub current : (t : ℕ) → t < 8 → holds_some h t (past ev i) ≡ true → Current begun i t
 
-  pub filling_start : (scratch : List ℕ) → Filling scratch (replicate 128 0) (replicate 8 0) (replicate 8 0) (replicate 8 0) (replicate 8 0) 0 0
-  unfolding past rank count
+  pub filling_start : (scratch : List ℕ) → Filling no_holds scratch (replicate 8 (record { first = 0; top = 0 })) 0 0
+  unfolding no_holds past rank count
   filling_start scratch = record {
     upto = omega arith;
     grips_are = grips_start h;
     idle = λ u q. zeros 8 u;
-    first_long = refl;
-    top_long = refl;
-    firsts = λ t ht. rw (get_or-replicate {A = ℕ} 8 t 0 0 ht) (omega arith);
+    long = refl;
+    firsts = λ t ht. rw (get_or-replicate {A = Begun} 8 t (record { first = 0; top = 0 }) (record { first = 0; top = 0 }) ht) (omega arith);
     count = refl;
     written = λ p q. absurd (omega (arith, q));
-    current = λ t ht q. absurd (false≢true (sym (ap (ltb 0) (get_or-replicate {A = ℕ} 8 t 0 0 ht)) ∙ some_held h (replicate 128 0) (replicate 8 0) (replicate 8 0) [] (grips_start h) t ht ∙ q));
+    current = λ t ht q. absurd (false≢true (sym (ap (ltb 0) (get_or-replicate {A = ℕ} 8 t 0 0 ht)) ∙ some_held h no_holds [] (grips_start h) t ht ∙ q));
   }
 
-  pub filling_end : {scratch levels depths kept first top : List ℕ} {n i : ℕ} → Filling scratch levels depths kept first top n i → h.threads ≤ 8 → unfinished h (past ev (length ws)) ≡ false → length ws ≤ i → Filled h ws xs n scratch
-  filling_end {scratch} {levels} {depths} {kept} {i = i} F low fin e =
+  pub filling_end : {s : Holds} {scratch : List ℕ} {begun : List Begun} {n i : ℕ} → Filling s scratch begun n i → h.threads ≤ 8 → unfinished h (past ev (length ws)) ≡ false → length ws ≤ i → Filled h ws xs n scratch
+  filling_end {s} {i = i} F low fin e =
       let q : i ≡ length ws = omega (arith, e, F.upto) in
       record {
         count = F.count ∙ ap (rank ev) q;
-        buckets = λ p l. F.written p (omega (arith, l, q)) ∙ shown_all h (suc p) (λ u. ltb 0 (get_or depths u 0)) (none q) (sections h (past ev i)) ∙ ap (λ j. bucket h (sections h (past ev j)) (suc p)) q;
+        buckets = λ p l. F.written p (omega (arith, l, q)) ∙ shown_all h (suc p) (λ u. ltb 0 (get_or s.depths u 0)) (none q) (sections h (past ev i)) ∙ ap (λ j. bucket h (sections h (past ev j)) (suc p)) q;
       }
     where
       -- nobody holds anything
-      none : i ≡ length ws → (u : ℕ) → ltb 0 (get_or depths u 0) ≡ false
+      none : i ≡ length ws → (u : ℕ) → ltb 0 (get_or s.depths u 0) ≡ false
       none q u = go (dec_lt u h.threads)
         where
-          go : Dec (u < h.threads) → ltb 0 (get_or depths u 0) ≡ false
-          go (yes l) = some_held h levels depths kept (past ev i) F.grips_are u (omega (arith, l, low)) ∙ ap (λ j. holds_some h u (past ev j)) q ∙ (settled h (past ev (length ws)) fin u l).0
+          go : Dec (u < h.threads) → ltb 0 (get_or s.depths u 0) ≡ false
+          go (yes l) = some_held h s (past ev i) F.grips_are u (omega (arith, l, low)) ∙ ap (λ j. holds_some h u (past ev j)) q ∙ (settled h (past ev (length ws)) fin u l).0
           go (no l) = ap (ltb 0) (F.idle u (omega (arith, l)))

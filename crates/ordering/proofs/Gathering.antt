@@ -3,23 +3,12 @@ use Prim.Native.Nat.{ℕ, suc, ◌+◌, ◌≤◌, ◌<◌}
 use native.Mathlib.Omega.{arith}
 use native.Mathlib.Numerals.{add-one}
 use mathlib.Core.Path.{◌≡◌, refl, sym, ap, ap₂, ◌∙◌}
+use mathlib.Core.Bool.{cond}
 use mathlib.Core.List.{List, [], ◌∷◌, ◌++◌, append_assoc, append-nil}
-use lib.ListN.{length, get_or, set, take, drop, length-append, take-append-drop}
+use lib.ListN.{length, get_or, set, take, drop, length-append, length-set, take-append-drop}
 use lib.Seq.{take-suc, set_split, take-append_seam, drop-append-add, drop-drop, take-length}
 use borrow.Author.Tests.{eq-eqb, ne_eqb}
 use Rattle.ordering.specs.Computed.Parts.{unless_zero, nonzero, Put}
-
-pub put_none : (list : List ℕ) (c x : ℕ) → x ≡ 0 → Put (unless_zero x) list c c list
-unfolding unless_zero
-put_none list c x z = rw (eq-eqb x 0 z) (record { count = omega arith; lists = sym (take-append-drop c list) })
-
-pub one_room : (n c x : ℕ) → (x ≡ 0 → ⊥) → c + length (unless_zero x) ≤ n → c < n
-unfolding unless_zero
-one_room n c x z h = let h' : c + 1 ≤ n = rw (ne_eqb x 0 z) at h in omega (arith, h')
-
-pub put_one : (list : List ℕ) (c x : ℕ) → (x ≡ 0 → ⊥) → c < length list → Put (unless_zero x) list c (c + 1) (set list c x)
-unfolding unless_zero
-put_one list c x z h = rw (ne_eqb x 0 z) (record { count = refl; lists = set_split list c x h ∙ ap (λ j. take c list ++ (x ∷ drop j list)) (sym (add-one c)) })
 
 non_append : (xs ys : List ℕ) → nonzero (xs ++ ys) ≡ nonzero xs ++ nonzero ys
 unfolding nonzero
@@ -48,42 +37,49 @@ pub gather_start : (part list : List ℕ) → Gathered part list list 0 0
 unfolding nonzero
 gather_start part list = record { upto = omega arith; count = refl; lists = refl; long = refl }
 
-module _ (part list₀ list : List ℕ) (c i : ℕ) (room : length (nonzero part) ≤ length list₀) (g : Gathered part list₀ list c i) where
-  more_count : i < length part → c + length (unless_zero (get_or part i 0)) ≡ length (nonzero (take (suc i) part))
-  more_count h =
-      let e : length (nonzero (take (suc i) part)) ≡ length (nonzero (take i part)) + length (unless_zero (get_or part i 0)) = ap length (non_more part i h) ∙ length-append (nonzero (take i part)) (unless_zero (get_or part i 0)) in
-      omega (arith, e, g.count)
+module _ {part list₀ list : List ℕ} {c i : ℕ} (room : length (nonzero part) ≤ length list₀) (g : Gathered part list₀ list c i) (h : i < length part) where
+  abbrev x : ℕ
+  x = get_or part i 0
 
-  pub gather_room : i < length part → c + length (unless_zero (get_or part i 0)) ≤ length list
-  gather_room h = omega (arith, more_count h, part_less part (suc i), room, g.long)
+  abbrev xs : List ℕ
+  xs = nonzero (take i part)
 
-  pub gather_more : i < length part → (r : ℕ) (list' : List ℕ) → Put (unless_zero (get_or part i 0)) list c r list' → length list' ≡ length list → Gathered part list₀ list' r (i + 1)
-  gather_more h r list' p z = rw (add-one i) (record {
-    upto = h;
-    count = p.count ∙ more_count h;
-    lists = p.lists ∙ front;
-    long = z ∙ g.long;
-  })
+  -- a 0 is passed over
+  pub gather_none : x ≡ 0 → Gathered part list₀ list c (i + 1)
+  unfolding unless_zero
+  gather_none z = rw (add-one i) (record { upto = h; count = g.count ∙ ap length (sym e); lists = g.lists ∙ ap (λ l. l ++ drop c list₀) (sym e); long = g.long })
     where
-      xs : List ℕ
-      xs = nonzero (take i part)
+      e : nonzero (take (suc i) part) ≡ xs
+      e = non_more part i h ∙ ap (λ b. xs ++ cond b [] (x ∷ [])) (eq-eqb x 0 z) ∙ append-nil xs
 
-      y : List ℕ
-      y = unless_zero (get_or part i 0)
+  module _ (z : x ≡ 0 → ⊥) where
+    more : nonzero (take (suc i) part) ≡ xs ++ (x ∷ [])
+    unfolding unless_zero
+    more = non_more part i h ∙ ap (λ b. xs ++ cond b [] (x ∷ [])) (ne_eqb x 0 z)
 
-      seam : take c list ≡ xs
-      seam = ap₂ take g.count g.lists ∙ take-append_seam xs (drop c list₀)
+    count_more : length (nonzero (take (suc i) part)) ≡ c + 1
+    count_more = ap length more ∙ length-append xs (x ∷ []) ∙ ap (λ n. n + 1) (sym g.count)
 
-      m : ℕ
-      m = length y
+    -- another number has a place
+    pub gather_in : c < length list
+    gather_in = omega (arith, count_more, part_less part (suc i), room, g.long)
 
-      past : drop r list ≡ drop r list₀
-      past =
-          ap (λ j. drop j list) p.count ∙ ap₂ (λ j l. drop (j + m) l) g.count g.lists ∙ drop-append-add xs (drop c list₀) m
-          ∙ drop-drop m c list₀ ∙ ap (λ j. drop j list₀) (sym p.count)
+    -- and is put there
+    pub gather_one : Gathered part list₀ (set list c x) (c + 1) (i + 1)
+    gather_one = rw (add-one i) (record {
+      upto = h;
+      count = sym count_more;
+      lists = set_split list c x gather_in ∙ ap₂ (λ a b. a ++ (x ∷ b)) seam past ∙ sym (append_assoc xs (x ∷ []) (drop (c + 1) list₀)) ∙ ap (λ l. l ++ drop (c + 1) list₀) (sym more);
+      long = length-set list c x ∙ g.long;
+    })
+      where
+        seam : take c list ≡ xs
+        seam = ap₂ take g.count g.lists ∙ take-append_seam xs (drop c list₀)
 
-      front : take c list ++ (y ++ drop r list) ≡ nonzero (take (suc i) part) ++ drop r list₀
-      front = ap₂ (λ a b. a ++ (y ++ b)) seam past ∙ sym (append_assoc xs y (drop r list₀)) ∙ ap (λ l. l ++ drop r list₀) (sym (non_more part i h))
+        past : drop (suc c) list ≡ drop (c + 1) list₀
+        past =
+            let z : suc c ≡ length xs + 1 = omega (arith, g.count) in
+            ap₂ drop z g.lists ∙ drop-append-add xs (drop c list₀) 1 ∙ drop-drop 1 c list₀
 
 pub gather_end : (part list₀ list : List ℕ) (c i : ℕ) → Gathered part list₀ list c i → length part ≤ i → Put (nonzero part) list₀ 0 c list
 gather_end part list₀ list c i g h =

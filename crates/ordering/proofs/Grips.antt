@@ -21,7 +21,8 @@ use Rattle.rules.proofs.Held.{balanced, waits_one}
 use Rattle.sections.specs.Places.{unlocks_by, holds_some}
 use Rattle.sections.specs.Refusals.{unfinished}
 use Rattle.sections.proofs.Holding.{same_holds, gains_none, lock_taken_law}
-use Rattle.ordering.specs.Computed.Parts.{takes_hold, gives_hold, exchanges, level_after, Holdable, Held, pending_in, unfinished_in}
+use Rattle.ordering.specs.declared.Holds.{Holds}
+use Rattle.ordering.specs.Computed.Parts.{takes_hold, gives_hold, exchanges, level_after, no_holds, Holdable, Held, pending_in, unfinished_in}
 use Rattle.ordering.proofs.Arrays.{thread_set, cell_set}
 use Rattle.ordering.proofs.Sums.{total_some, total_same, total_zero, total_low, total_moved, total_one}
 use Rattle.rules.proofs.Sums.{total, total_part}
@@ -264,16 +265,16 @@ waits_total : (h : Counts) (t : ℕ) (es : List Event) → ltb 0 (total h.locks 
 unfolding waits words_of
 waits_total h t es = total_some h.locks (λ l. remembered t l es)
 
-pub record Grips (h : Counts) (levels depths kept : List ℕ) (es : List Event) : Type 0 where
-  pub levels_long : length levels ≡ 128
-  pub depths_long : length depths ≡ 8
-  pub kept_long : length kept ≡ 8
-  pub level : (t l : ℕ) → t < 8 → l < 16 → get_or levels (t * 16 + l) 0 ≡ depth t l es
-  pub depth_is : (t : ℕ) → t < 8 → get_or depths t 0 ≡ total h.locks (λ l. depth t l es)
-  pub kept_is : (t : ℕ) → t < 8 → get_or kept t 0 ≡ total h.locks (λ l. remembered t l es)
+pub record Grips (h : Counts) (s : Holds) (es : List Event) : Type 0 where
+  pub levels_long : length s.levels ≡ 128
+  pub depths_long : length s.depths ≡ 8
+  pub kept_long : length s.remembered ≡ 8
+  pub level : (t l : ℕ) → t < 8 → l < 16 → get_or s.levels (t * 16 + l) 0 ≡ depth t l es
+  pub depth_is : (t : ℕ) → t < 8 → get_or s.depths t 0 ≡ total h.locks (λ l. depth t l es)
+  pub kept_is : (t : ℕ) → t < 8 → get_or s.remembered t 0 ≡ total h.locks (λ l. remembered t l es)
 
-pub grips_start : (h : Counts) → Grips h (replicate 128 0) (replicate 8 0) (replicate 8 0) []
-unfolding depth remembered grip
+pub grips_start : (h : Counts) → Grips h no_holds []
+unfolding no_holds depth remembered grip
 grips_start h = record {
   levels_long = refl;
   depths_long = refl;
@@ -286,19 +287,19 @@ grips_start h = record {
     none : (t : ℕ) → t < 8 → get_or (replicate {A = ℕ} 8 0) t 0 ≡ total h.locks (λ i. 0)
     none t ht = get_or-replicate {A = ℕ} 8 t 0 0 ht ∙ sym (total_zero h.locks)
 
-module _ (h : Counts) (levels depths kept : List ℕ) (es : List Event) (G : Grips h levels depths kept es) where
-  pub some_held : (t : ℕ) → t < 8 → ltb 0 (get_or depths t 0) ≡ holds_some h t es
+module _ (h : Counts) (s : Holds) (es : List Event) (G : Grips h s es) where
+  pub some_held : (t : ℕ) → t < 8 → ltb 0 (get_or s.depths t 0) ≡ holds_some h t es
   some_held t ht = ap (ltb 0) (G.depth_is t ht) ∙ holds_total h t es
 
-  pub unfinished_is : (owed : List Bool) → Owed owed es → h.threads ≤ 8 → h.variables ≤ 16 → unfinished_in h depths owed kept ≡ unfinished h es
+  pub unfinished_is : (owed : List Bool) → Owed owed es → h.threads ≤ 8 → h.variables ≤ 16 → unfinished_in h s owed ≡ unfinished h es
   unfolding unfinished_in unfinished pending_in
   unfinished_is owed O ht hv =
-      some_ext h.threads (λ t. ltb 0 (get_or depths t 0) || (some h.variables (λ v. get_or owed (t * 16 + v) false) || ltb 0 (get_or kept t 0))) (λ t. holds_some h t es || (some h.variables (λ v. pending t v es) || waits h (words_of es) t))
+      some_ext h.threads (λ t. ltb 0 (get_or s.depths t 0) || (some h.variables (λ v. get_or owed (t * 16 + v) false) || ltb 0 (get_or s.remembered t 0))) (λ t. holds_some h t es || (some h.variables (λ v. pending t v es) || waits h (words_of es) t))
       (λ t q. let low : t < 8 = omega (arith, q, ht) in
       λ i. some_held t low i || (some_ext h.variables (λ v. get_or owed (t * 16 + v) false) (λ v. pending t v es) (λ v w. O.owes t v low (omega (arith, w, hv))) i || (ap (ltb 0) (G.kept_is t low) ∙ waits_total h t es) i))
 
   module _ (k u p : ℕ) (e : Event) (r : Reads k u p e) (v : T (legal h (e ∷ es))) where
-    pub holdable : h.locks ≤ 8 → length es ≤ 2000 → Holdable levels depths kept u p k
+    pub holdable : h.locks ≤ 8 → length es ≤ 2000 → Holdable s u p k
     unfolding depth remembered
     holdable hl few = record {
       thread_low = r.thread_low;
@@ -310,51 +311,54 @@ module _ (h : Counts) (levels depths kept : List ℕ) (es : List Event) (G : Gri
       part = λ q. part (exchanged es k u p e r h v q).lock_low;
     }
       where
-        level_is : get_or levels (u * 16 + p) 0 ≡ depth u p es
+        level_is : get_or s.levels (u * 16 + p) 0 ≡ depth u p es
         level_is = G.level u p r.thread_low r.place_low
 
-        given : k ≡ N → 0 < get_or levels (u * 16 + p) 0
+        given : k ≡ N → 0 < get_or s.levels (u * 16 + p) 0
         given q =
             let x : 0 < depth u p es = unfold words_of in ltb-true 0 (depth u p es) (given_up_law es k u p e r h v (N ∷ []) tt (letters_in es k u p e r h v N q)) in
             omega (arith, level_is, x)
 
-        part : p < h.locks → get_or levels (u * 16 + p) 0 ≤ get_or depths u 0
+        part : p < h.locks → get_or s.levels (u * 16 + p) 0 ≤ get_or s.depths u 0
         part q = omega (arith, level_is, G.depth_is u r.thread_low, total_part h.locks p (λ l. depth u l es) q)
 
-    module _ {x : ℕ} {levels' depths' kept' : List ℕ} (H : Held levels depths kept u p k x levels' depths' kept') where
+    module _ {x : ℕ} {s' : Holds} (H : Held s u p k x s') where
       -- the depth of the event's thread, and of another
-      pub depth_here : get_or depths' u 0 ≡ x
-      depth_here = ap (λ ds. get_or ds u 0) H.depths_are ∙ get_or-set_same depths u x 0 (omega (arith, r.thread_low, G.depths_long))
+      pub depth_here : get_or s'.depths u 0 ≡ x
+      depth_here = ap (λ ds. get_or ds u 0) H.depths_are ∙ get_or-set_same s.depths u x 0 (omega (arith, r.thread_low, G.depths_long))
 
-      pub depth_else : (t : ℕ) → (t ≡ u → ⊥) → get_or depths' t 0 ≡ get_or depths t 0
-      depth_else t n = ap (λ ds. get_or ds t 0) H.depths_are ∙ get_or-set_other depths u t x 0 n
+      pub depth_else : (t : ℕ) → (t ≡ u → ⊥) → get_or s'.depths t 0 ≡ get_or s.depths t 0
+      depth_else t n = ap (λ ds. get_or ds t 0) H.depths_are ∙ get_or-set_other s.depths u t x 0 n
 
-      pub grips_after : Grips h levels' depths' kept' (e ∷ es)
-      grips_after = rw (H.levels_are, H.depths_are, H.remembered_are) (record {
-        levels_long = length-set levels (u * 16 + p) _ ∙ G.levels_long;
-        depths_long = length-set depths u x ∙ G.depths_long;
-        kept_long = length-set kept u _ ∙ G.kept_long;
-        level = cell_set 0 levels (λ t l. depth t l es) (λ t l. depth t l (e ∷ es)) G.levels_long G.level u p r.thread_low r.place_low
+      pub grips_after : Grips h s' (e ∷ es)
+      grips_after = record {
+        levels_long = ap length H.levels_are ∙ length-set s.levels (u * 16 + p) _ ∙ G.levels_long;
+        depths_long = ap length H.depths_are ∙ length-set s.depths u x ∙ G.depths_long;
+        kept_long = ap length H.remembered_are ∙ length-set s.remembered u _ ∙ G.kept_long;
+        level = λ t l ht hl. ap (λ xs. get_or xs (t * 16 + l) 0) H.levels_are
+            ∙ cell_set 0 s.levels (λ t l. depth t l es) (λ t l. depth t l (e ∷ es)) G.levels_long G.level u p r.thread_low r.place_low
             ((λ i. cond (exchanges k) (m_is i) (level_after (y_is i) k)) ∙ sym N.level)
-            (λ t l n. unfold depth in ap (λ g. g.held) (grip_other es k u p e r t l n));
-        depth_is = thread_set 0 depths (λ t. total h.locks (λ l. depth t l es)) (λ t. total h.locks (λ l. depth t l (e ∷ es))) G.depths_long G.depth_is u r.thread_low
+            (λ t l n. unfold depth in ap (λ g. g.held) (grip_other es k u p e r t l n)) t l ht hl;
+        depth_is = λ t ht. ap (λ xs. get_or xs t 0) H.depths_are
+            ∙ thread_set 0 s.depths (λ t. total h.locks (λ l. depth t l es)) (λ t. total h.locks (λ l. depth t l (e ∷ es))) G.depths_long G.depth_is u r.thread_low
             (H.depth_is ∙ (λ i. cond (exchanges k) (d_is i - y_is i + m_is i) (level_after (d_is i) k)) ∙ sym N.depths)
-            (λ t n. total_same h.locks (λ l. depth t l es) (λ l. depth t l (e ∷ es)) (λ l _. unfold depth in ap (λ g. g.held) (grip_other es k u p e r t l (λ q _. n q))));
-        kept_is = thread_set 0 kept (λ t. total h.locks (λ l. remembered t l es)) (λ t. total h.locks (λ l. remembered t l (e ∷ es))) G.kept_long G.kept_is u r.thread_low
+            (λ t n. total_same h.locks (λ l. depth t l es) (λ l. depth t l (e ∷ es)) (λ l _. unfold depth in ap (λ g. g.held) (grip_other es k u p e r t l (λ q _. n q)))) t ht;
+        kept_is = λ t ht. ap (λ xs. get_or xs t 0) H.remembered_are
+            ∙ thread_set 0 s.remembered (λ t. total h.locks (λ l. remembered t l es)) (λ t. total h.locks (λ l. remembered t l (e ∷ es))) G.kept_long G.kept_is u r.thread_low
             ((λ i. cond (exchanges k) (y_is i) (m_is i)) ∙ sym N.keeps)
-            (λ t n. total_same h.locks (λ l. remembered t l es) (λ l. remembered t l (e ∷ es)) (λ l _. unfold remembered in ap (λ g. g.remembered) (grip_other es k u p e r t l (λ q _. n q))));
-      })
+            (λ t n. total_same h.locks (λ l. remembered t l es) (λ l. remembered t l (e ∷ es)) (λ l _. unfold remembered in ap (λ g. g.remembered) (grip_other es k u p e r t l (λ q _. n q)))) t ht;
+      }
         where
           N : Next es k u p e r h v
           N = next es k u p e r h v
 
-          y_is : get_or levels (u * 16 + p) 0 ≡ depth u p es
+          y_is : get_or s.levels (u * 16 + p) 0 ≡ depth u p es
           y_is = G.level u p r.thread_low r.place_low
 
-          d_is : get_or depths u 0 ≡ total h.locks (λ l. depth u l es)
+          d_is : get_or s.depths u 0 ≡ total h.locks (λ l. depth u l es)
           d_is = G.depth_is u r.thread_low
 
-          m_is : get_or kept u 0 ≡ total h.locks (λ l. remembered u l es)
+          m_is : get_or s.remembered u 0 ≡ total h.locks (λ l. remembered u l es)
           m_is = G.kept_is u r.thread_low
 
       -- what it holds then
@@ -362,13 +366,13 @@ module _ (h : Counts) (levels depths kept : List ℕ) (es : List Event) (G : Gri
       holds_after = ap (ltb 0) (sym depth_here ∙ grips_after.depth_is u r.thread_low) ∙ holds_total h u (e ∷ es)
 
     -- an event other than K, N, Y and C leaves all
-    pub grips_kept : takes_hold k ≡ false → gives_hold k ≡ false → Grips h levels depths kept (e ∷ es)
+    pub grips_kept : takes_hold k ≡ false → gives_hold k ≡ false → Grips h s (e ∷ es)
     unfolding level_after
-    grips_kept a c = grips_after {x = get_or depths u 0} (record {
-      depth_is = same (get_or depths u 0 - get_or levels (u * 16 + p) 0 + get_or kept u 0) (get_or depths u 0);
-      levels_are = sym (ap (set levels (u * 16 + p)) (sym (same (get_or kept u 0) (get_or levels (u * 16 + p) 0))) ∙ set-get_or levels (u * 16 + p) 0);
-      depths_are = sym (set-get_or depths u 0);
-      remembered_are = sym (rw (no_y, no_c) (set-get_or kept u 0));
+    grips_kept a c = grips_after {x = get_or s.depths u 0} (record {
+      depth_is = same (get_or s.depths u 0 - get_or s.levels (u * 16 + p) 0 + get_or s.remembered u 0) (get_or s.depths u 0);
+      levels_are = sym (ap (set s.levels (u * 16 + p)) (sym (same (get_or s.remembered u 0) (get_or s.levels (u * 16 + p) 0))) ∙ set-get_or s.levels (u * 16 + p) 0);
+      depths_are = sym (set-get_or s.depths u 0);
+      remembered_are = sym (rw (no_y, no_c) (set-get_or s.remembered u 0));
     })
       where
         no_y : eqb k Y ≡ false

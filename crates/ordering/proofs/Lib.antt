@@ -1,10 +1,11 @@
 pub mod Sums
+pub mod Below
 pub mod Gathering
 pub mod Arrays
 pub mod Scanned
 pub mod Grips
 pub mod Late
-pub mod Rows
+pub mod RowEvents
 pub mod Denying
 pub mod Ranks
 pub mod Buckets

@@ -23,7 +23,7 @@ use Rattle.records.specs.Records.{event_at, row_events}
 use Rattle.rules.specs.Memories.{from}
 use Rattle.ordering.specs.Answer.{entries_for}
 use Rattle.ordering.specs.Computed.Parts.{Fits, past, bucket, rank, scratch_at, Filled, unless_zero, nonzero, Put, Orders, Written}
-use Rattle.ordering.proofs.Rows.{past_length, past_all, known_past, locks_few}
+use Rattle.ordering.proofs.RowEvents.{past_length, past_all, known_past, locks_few}
 use Rattle.ordering.proofs.Gathering.{non_more}
 use Rattle.ordering.proofs.Ranks.{rank_lock, rank_other, rank_upto}
 use Rattle.ordering.proofs.Buckets.{Below, bucket_above}

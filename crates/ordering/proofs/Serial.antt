@@ -16,7 +16,7 @@ use Rattle.rules.proofs.Bounds.{declares, first_line_high}
 use Rattle.rules.proofs.Laws as Rules
 use Rattle.rules.proofs.Marking.{mark_accepts}
 use Rattle.decimal.specs.Text.{over}
-use Rattle.trace.specs.declared.Guards.{Guards}
+use Rattle.trace.specs.Trace.{Guards}
 use Rattle.serial.specs.Lists.{All}
 use Rattle.sections.specs.Places.{position, nth, at_position, event_at, unlocks_by, passes, lock_at, unlock_at}
 use Rattle.sections.specs.CriticalSections.{Entry, CriticalSection}
@@ -28,6 +28,7 @@ use Rattle.sections.specs.Entries.{entry_code, entry_in}
 use Rattle.sections.proofs.Valid.{Declared}
 use Rattle.sections.proofs.Demand3.{trace_declared, demand_3}
 use Rattle.sections.proofs.Entries.{entry_back}
+use Rattle.std.specs.Prelude.{Some, None, IsSome}
 use Rattle.ordering.specs.declared.Ordering.{Ordering}
 use Rattle.ordering.specs.Answer.{guard_of, answer_of, answer_for, entries_for, ordered, Given}
 use Rattle.ordering.specs.Serial.{SerialAnswer}
@@ -109,9 +110,9 @@ module _ (h : Counts) (events : List Event) where
 
 -- ---- a trace that is accepted
 
-module _ (m : Limits) (h : Counts) (g : Guards) (events : List Event) (a : AcceptedTrace m h events) where
+module _ (m : Limits) (h : Counts) (locks : List ℕ) (events : List Event) (a : AcceptedTrace m h events) where
   abbrev guard : ℕ → ℕ
-  guard = guard_of g.locks
+  guard = guard_of locks
 
   pub few : length events ≤ 2000
   few =
@@ -149,7 +150,7 @@ module _ (m : Limits) (h : Counts) (g : Guards) (events : List Event) (a : Accep
 
   -- what is answered to a denial, and the list then
   serial : (d : Denial) → denial h guard events ≡ d → (list list' : List ℕ) → list' ≡ cond (ordered (answer_of d (length (order h events)))) (over (entries_for h events) list) list
-      → SerialAnswer h g events (answer_of d (length (order h events))) list'
+      → SerialAnswer h (Some locks) events (answer_of d (length (order h events))) list'
   unfolding answer_of
   serial fit q list list' w =
       subst (λ (ss : List Entry). Demand3 h guard events fit ss) (sym listed) (subst (λ (x : Denial). Demand3 h guard events x (order h events)) q whole)
@@ -164,10 +165,14 @@ module _ (m : Limits) (h : Counts) (g : Guards) (events : List Event) (a : Accep
           ∙ fit_codes q
   serial (denied number line) q list list' w = nothing number line (subst (λ (x : Denial). Demand3 h guard events x (order h events)) q whole)
 
-  -- Demand 3: with guards, what is given for the trace is an order or a denial, as demanded.
-  pub demand_3_given : g.given ≡ true → (list scratch : List ℕ) (o : Ordering) (list' scratch' : List ℕ)
-      → Given (answer_for h g events) (entries_for h events) list scratch o list' scratch' → SerialAnswer h g events o list'
-  demand_3_given w list scratch o list' scratch' c =
-      let said = judged h g events w in
-      subst (λ (x : Ordering). SerialAnswer h g events x list') (sym (c.answers ∙ said))
+  given_with : (list scratch : List ℕ) (o : Ordering) (list' scratch' : List ℕ) → Given (answer_for h (Some locks) events) (entries_for h events) list scratch o list' scratch' → SerialAnswer h (Some locks) events o list'
+  given_with list scratch o list' scratch' c =
+      let said = judged h events locks in
+      subst (λ (x : Ordering). SerialAnswer h (Some locks) events x list') (sym (c.answers ∙ said))
       (serial (denial h guard events) refl list list' (c.lists ∙ ap (λ (x : Ordering). cond (ordered x) (over (entries_for h events) list) list) said))
+
+-- Demand 3: with guards, what is given for the trace is an order or a denial, as demanded.
+pub demand_3_given : (m : Limits) (h : Counts) (g : Guards) (events : List Event) → AcceptedTrace m h events → IsSome g → (list scratch : List ℕ) (o : Ordering) (list' scratch' : List ℕ)
+    → Given (answer_for h g events) (entries_for h events) list scratch o list' scratch' → SerialAnswer h g events o list'
+demand_3_given m h (Some locks) events a w list scratch o list' scratch' c = given_with m h locks events a list scratch o list' scratch' c
+demand_3_given m h None events a w list scratch o list' scratch' c = absurd (false_true w)

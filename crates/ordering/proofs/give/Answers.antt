@@ -7,32 +7,32 @@ use Rattle.ordering.proofs.Listing.{part_in, gather_in, written}
 use Rattle.ordering.proofs.give.Goals as goal
 
 pub fill-n-requires : goal.fill-n-requires
-fill-n-requires c = let o = c.requires in record { fits = o.fits; ended = o.ended; places = o.places }
+fill-n-requires c = let o = c.requires in record { ended = o.ended; places = o.places }
 
 pub slice_bounds-gather-end : goal.slice_bounds-gather-end
 slice_bounds-gather-end c =
     let a = c.args in
     let S = c.fill-n.new.scratch in
     let z : length S ≡ length a.scratch.now = search rules in
-    part_in a.h a.what.now a.value.now a.list.now a.scratch.now c.requires S z c.fill-n.result c.fill-n.ensures
+    part_in a.rows.head a.rows.what.now a.rows.value.now a.list.now a.scratch.now c.requires S z c.fill-n.result c.fill-n.ensures
 
 pub slice_bounds-gather-end-2 : goal.slice_bounds-gather-end-2
 slice_bounds-gather-end-2 c =
     let a = c.args in
     let S = c.fill-n.new.scratch in
     let z : length S ≡ length a.scratch.now = search rules in
-    sym (length-take-le c.fill-n.result S (part_in a.h a.what.now a.value.now a.list.now a.scratch.now c.requires S z c.fill-n.result c.fill-n.ensures))
+    sym (length-take-le c.fill-n.result S (part_in a.rows.head a.rows.what.now a.rows.value.now a.list.now a.scratch.now c.requires S z c.fill-n.result c.fill-n.ensures))
 
 pub gather-c-requires : goal.gather-c-requires
 gather-c-requires c =
     let a = c.args in
     let S = c.fill-n.new.scratch in
     let z : length S ≡ length a.scratch.now = search rules in
-    gather_in a.h a.what.now a.value.now a.list.now a.scratch.now c.requires S z c.fill-n.result c.fill-n.ensures
+    gather_in a.rows.head a.rows.what.now a.rows.value.now a.list.now a.scratch.now c.requires S z c.fill-n.result c.fill-n.ensures
 
 pub returns : goal.returns
 returns c =
     let a = c.args in
     let S = c.fill-n.new.scratch in
     let z : length S ≡ length a.scratch.now = search rules in
-    written a.h a.what.now a.value.now a.list.now a.scratch.now c.requires S z c.fill-n.result c.fill-n.ensures c.gather-c.result c.gather-c.new.list c.clear.new.s c.gather-c.ensures c.clear.ensures
+    written a.rows.head a.rows.what.now a.rows.value.now a.list.now a.scratch.now c.requires S z c.fill-n.result c.fill-n.ensures c.gather-c.result c.gather-c.new.list c.fill.new.self c.gather-c.ensures (c.fill.ensures.after (λ y q. search rules))

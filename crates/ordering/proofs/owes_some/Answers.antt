@@ -1,16 +1,17 @@
 -- `ordering::owes_some` meets its contract. Assumes nothing.
 use native.Mathlib.Omega.{arith}
-use mathlib.Core.Path.{refl}
+use mathlib.Core.Path.{refl, ◌∙◌}
+use borrow.Author.Rules.{rules}
+use borrow.Author.Tests.{tests}
+use Rattle.std.proofs.lemmas.Iterator.{YieldsList-from_range}
+use Rattle.std.proofs.lemmas.Iterator.Search.{any_from_yields_List}
 use Rattle.ordering.specs.Computed.Parts.{pending_in}
-use Rattle.rules.proofs.Laws.{some_start, some_more, some_end}
+use Rattle.ordering.proofs.Below.{any_below}
 use Rattle.ordering.proofs.owes_some.Goals as goal
 
-pub loop-v-init : goal.loop-v-init
-loop-v-init c = (omega arith, some_start _)
-
-pub loop-v-preserved : goal.loop-v-preserved
-unfolding pending_in
-loop-v-preserved c = (omega arith, some_more _ _ c.loop-v.invariant.1 refl)
-
 pub returns : goal.returns
-returns c = some_end _ (pending_in _ _) c.loop-v.invariant.0 c.loop-v-test.false c.loop-v.invariant.1
+unfolding pending_in
+returns c =
+    let p = pending_in c.args.pending.now c.args.t in
+    any_from_yields_List p _ _ _ c.any.ensures.ran (YieldsList-from_range 0 c.args.n c.args.n refl (omega arith)) (λ x b q k. search (rules, tests))
+    ∙ any_below c.args.n p

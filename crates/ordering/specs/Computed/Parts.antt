@@ -1,15 +1,13 @@
 -- What the parts of the two passes compute. A level is how often a thread holds a lock, at 16 * thread + lock; a depth is how
 -- often it holds on all locks. What is remembered are the holds that a waiting thread gave up; it waits on one lock. Where a K is meant C counts too, and where
 -- an N is meant Y, but in `level_after`.
-use Rattle.std.specs.Prelude.{ℕ, zero, suc, pred, ◌+◌, ◌-◌, ◌*◌, ◌≤◌, ◌<◌, ◌≡◌, Bool, true, false, not, cond, ◌&&◌, ◌||◌, List, [], ◌∷◌, ◌++◌, eqb, ltb, ℤ, length, get_or, set, take, drop, replicate}
+use Rattle.std.specs.Prelude.{ℕ, zero, suc, pred, ◌+◌, ◌-◌, ◌*◌, ◌≤◌, ◌<◌, ◌≡◌, Bool, true, false, not, cond, ◌&&◌, ◌||◌, List, [], ◌∷◌, ◌++◌, eqb, ltb, ℤ, length, get_or, set, take, drop, replicate, Ok, Err}
 use Rattle.rules.specs.declared.Event.{Event}
 use Rattle.rules.specs.declared.Counts.{Counts}
-use Rattle.rules.specs.declared.Verdict.{Verdict}
-use Rattle.rules.specs.declared.Verdict.TheVariants.{Accepted, Refused}
 use Rattle.rules.specs.Events.{B, C, K, N, P, Y, is_letter, locks}
 use Rattle.rules.specs.Limits.{full}
 use Rattle.rules.specs.Words.{count}
-use Rattle.rules.specs.Rules.{some}
+use Rattle.rules.specs.Rules.{Verdict, some}
 use Rattle.decimal.specs.Text.{over}
 use Rattle.records.specs.Records.{letter_in, event_at, row_events}
 use Rattle.serial.specs.Sections.{Section}
@@ -18,6 +16,8 @@ use Rattle.sections.specs.Refusals.{unfinished}
 use Rattle.sections.specs.Denials.{Denial, fit, denied}
 use Rattle.sections.specs.Order.{sections, entry}
 use Rattle.sections.specs.Entries.{entry_code}
+use Rattle.ordering.specs.declared.Holds.{Holds}
+use Rattle.ordering.specs.declared.Begun.{Begun}
 use Rattle.ordering.specs.Answer.{entries_for}
 
 -- two rows that both passes may take: each record names an event, and the trace of these is accepted
@@ -31,10 +31,6 @@ past events zero = []
 past events (suc i) = events i ∷ past events i
 
 -- ---- by letter, k
-
--- where the level of thread t and its variable's guard g stands; 0 where g is no lock
-unfoldable pub guard_cell : ℕ → ℕ → ℕ
-guard_cell t g = cond (ltb g 16) (t * 16 + g) 0
 
 abbrev pub takes_hold : ℕ → Bool
 takes_hold k = eqb k K || eqb k C
@@ -58,43 +54,51 @@ late_after b k any = any && (gives_hold k || b)
 
 -- ---- over the arrays
 
--- levels, depths and what is remembered before an event of thread t on p
-pub record Holdable (levels depths remembered : List ℕ) (t p k : ℕ) : Type 0 where
+-- before the first event
+unfoldable pub no_holds : Holds
+no_holds = record { levels = replicate 128 0; depths = replicate 8 0; remembered = replicate 8 0 }
+
+-- what is held before an event of thread t on p
+pub record Holdable (s : Holds) (t p k : ℕ) : Type 0 where
   pub thread_low : t < 8
   pub place_low : p < 16
-  pub level_low : get_or levels (t * 16 + p) 0 < 65536
-  pub depth_low : get_or depths t 0 < 65536
-  pub remembered_low : get_or remembered t 0 < 65536
-  pub held : k ≡ N → (0 < get_or levels (t * 16 + p) 0) × (get_or levels (t * 16 + p) 0 ≤ get_or depths t 0)
-  pub part : exchanges k ≡ true → get_or levels (t * 16 + p) 0 ≤ get_or depths t 0
+  pub level_low : get_or s.levels (t * 16 + p) 0 < 65536
+  pub depth_low : get_or s.depths t 0 < 65536
+  pub remembered_low : get_or s.remembered t 0 < 65536
+  pub held : k ≡ N → (0 < get_or s.levels (t * 16 + p) 0) × (get_or s.levels (t * 16 + p) 0 ≤ get_or s.depths t 0)
+  pub part : exchanges k ≡ true → get_or s.levels (t * 16 + p) 0 ≤ get_or s.depths t 0
 
 -- and after it; r is t's depth then
-pub record Held (levels depths remembered : List ℕ) (t p k r : ℕ) (levels' depths' remembered' : List ℕ) : Type 0 where
-  pub depth_is : r ≡ cond (exchanges k) (get_or depths t 0 - get_or levels (t * 16 + p) 0 + get_or remembered t 0) (level_after (get_or depths t 0) k)
-  pub levels_are : levels' ≡ set levels (t * 16 + p) (cond (exchanges k) (get_or remembered t 0) (level_after (get_or levels (t * 16 + p) 0) k))
-  pub depths_are : depths' ≡ set depths t r
-  pub remembered_are : remembered' ≡ set remembered t (cond (exchanges k) (get_or levels (t * 16 + p) 0) (get_or remembered t 0))
+pub record Held (s : Holds) (t p k r : ℕ) (s' : Holds) : Type 0 where
+  pub depth_is : r ≡ cond (exchanges k) (get_or s.depths t 0 - get_or s.levels (t * 16 + p) 0 + get_or s.remembered t 0) (level_after (get_or s.depths t 0) k)
+  pub levels_are : s'.levels ≡ set s.levels (t * 16 + p) (cond (exchanges k) (get_or s.remembered t 0) (level_after (get_or s.levels (t * 16 + p) 0) k))
+  pub depths_are : s'.depths ≡ set s.depths t r
+  pub remembered_are : s'.remembered ≡ set s.remembered t (cond (exchanges k) (get_or s.levels (t * 16 + p) 0) (get_or s.remembered t 0))
 
 -- thread t holds its variable's guard g
-unfoldable pub under_in : List ℕ → ℕ → ℕ → Bool
-under_in levels t g = ltb g 16 && ltb 0 (get_or levels (guard_cell t g) 0)
+unfoldable pub under_in : Holds → ℕ → ℕ → Bool
+under_in s t g = ltb g 16 && ltb 0 (get_or s.levels (t * 16 + g) 0)
 
 unfoldable pub pending_in : List Bool → ℕ → ℕ → Bool
 pending_in pending t v = get_or pending (t * 16 + v) false
 
-unfoldable pub unfinished_in : Counts → List ℕ → List Bool → List ℕ → Bool
-unfinished_in h depths pending remembered = some h.threads (λ t. ltb 0 (get_or depths t 0) || (some h.variables (pending_in pending t) || ltb 0 (get_or remembered t 0)))
+unfoldable pub unfinished_in : Counts → Holds → List Bool → Bool
+unfinished_in h s pending = some h.threads (λ t. ltb 0 (get_or s.depths t 0) || (some h.variables (pending_in pending t) || ltb 0 (get_or s.remembered t 0)))
 
 -- a denial as the first pass answers it
 unfoldable pub told_as : Denial → Verdict
-told_as fit = Accepted
-told_as (denied number line) = Refused number line
+told_as fit = Ok tt
+told_as (denied number line) = Err (record { number = number; line = line })
 
 -- ---- the second pass
 
 -- the section of thread t from line a to line b
 abbrev pub code_of : ℕ → ℕ → ℕ → ℕ
 code_of t a b = entry_code (record { thread = t; first = a; last = b })
+
+-- the section that thread t is in
+abbrev pub begun_at : List Begun → ℕ → Begun
+begun_at begun t = get_or begun t (record { first = 0; top = 0 })
 
 -- y where a thread holds nothing, else x
 unfoldable pub idle_or : ℕ → ℕ → ℕ → ℕ
