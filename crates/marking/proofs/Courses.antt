@@ -18,7 +18,7 @@ use Rattle.rules.proofs.Courses.{Same, Over, within_or_over, over_marked, wrong_
 use Rattle.rules.proofs.Loads.{row_refused}
 use Rattle.trace.specs.declared.Trace.{Trace}
 use Rattle.rules.specs.declared.Refusal.{Refusal}
-use Rattle.std.specs.Prelude.{Some, None, Result, Ok, Err}
+use Rattle.std.specs.Prelude.{Some, None, Result, Err}
 use Rattle.std.specs.Prelude.{Option as Option'}
 use Rattle.trace.specs.Trace.{too_long, over_limits, trailer_of, first_head, first_of, behind_trailer, plain_trace_of, trace_of, events_of, found, head_in}
 use Rattle.trace.proofs.TraceLaws.{head_fit, trace_unfound, trace_same}

@@ -1,6 +1,5 @@
 -- `marking::mark` meets its contract: it reads the lines of the trace that it finds into the rows and marks these. Assumes nothing.
-use mathlib.Core.Path.{sym, subst}
-use native.Mathlib.Omega.{arith}
+use mathlib.Core.Path.{sym}
 use lib.Seq.{length-take-le}
 use Rattle.std.proofs.lemmas.Result.{err_from_is_err_and}
 use Rattle.trace.proofs.TraceLaws.{lies}
