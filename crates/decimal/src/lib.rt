@@ -28,6 +28,9 @@ const LIMIT: usize = 9223372036854775808;
 
 const CAP: usize = LIMIT + 1;
 
+// One digit more stays below the cap.
+const PLAIN: usize = CAP / 10;
+
 // Where so many bytes remain, a byte and a number are written.
 const NUMBER_ROOM: usize = 32;
 
@@ -36,6 +39,10 @@ fn push_digit(n: usize, d: usize) -> usize
     requires { d < 10 }
     ensures { result ≡ min cap (n * 10 + d) }
 {
+    // Kept: a plain product below PLAIN, since without it a value of 20 digits takes half as long again.
+    if n < PLAIN {
+        return n * 10 + d;
+    }
     n.saturating_mul(10).saturating_add(d).min(CAP)
 }
 
@@ -66,21 +73,31 @@ pub fn read_natural(f: &[u8]) -> Option<usize>
     digits(f)
 }
 
-// The number from `at` up to the byte d, of any length.
+// The number from `at` up to the byte d, of any length: digits, at least one, and no leading zero. Each byte is read once.
 fn long_number(s: &[u8], at: usize, d: u8) -> Option<Reached>
-    requires { at < length s.now }
     ensures { result ≡ number_until d at (drop at s.now) }
 {
-    let t = &s[at..];
-    let k = lines::find(t, d);
-    if t.len() <= k {
-        return None;
+    let mut n: usize = 0;
+    for i in at..s.len() {
+        let b = s[i];
+        if b == d {
+            if i == at {
+                return None;
+            }
+            if s[at] == b'0' && at + 1 < i {
+                return None;
+            }
+            return Some(Reached {
+                number: n,
+                next: i + 1,
+            });
+        }
+        if !b.is_ascii_digit() {
+            return None;
+        }
+        n = push_digit(n, usize::from(b - b'0'));
     }
-    let number = read_natural(&t[..k])?;
-    Some(Reached {
-        number,
-        next: at + k + 1,
-    })
+    None
 }
 
 // The number from `at` up to the byte d. One digit, as most numbers have, is read at once.
@@ -106,11 +123,7 @@ pub fn positive(n: Option<usize>) -> Result<Value, NotValue>
     ensures { result ≡ positive_of value_width n }
 {
     let m = n.ok_or(NotValue::Bad)?;
-    if m < LIMIT {
-        Ok(m as Value)
-    } else {
-        Err(NotValue::Outside)
-    }
+    Value::try_from(m).map_err(|_| NotValue::Outside)
 }
 
 // The value of a number after a minus, which is not 0: -m as -1 - (m - 1), which does not wrap at the least value.
