@@ -11,7 +11,7 @@ use Rattle.rules.specs.declared.Event.{Event}
 use Rattle.rules.specs.Limits.{full, short, line_after}
 use Rattle.rules.specs.Rules.{refused, Accepted}
 use Rattle.rules.proofs.Bounds.{up_to_full}
-use Rattle.trace.specs.Trace.{trace_of}
+use Rattle.trace.specs.Trace.{trace_of, head_in}
 use Rattle.marking.specs.Marking.{lines_in, marked_of}
 use Rattle.marking.specs.Courses.{OverHead, OverEvents, MarkedAlike, ByLimits, head, events, other}
 use Rattle.marking.proofs.Courses.{over_or_alike, excess_exact, within_alike, wrong_line, never_said}
@@ -29,7 +29,7 @@ module _ (s : List ℕ) where
       by (other a) = other (same_report short s a)
 
   -- 25 is said exactly of these.
-  pub short_exact : (line : ℕ) → marked_of short s ≡ refused 25 line ↔ ((OverHead short s × (line ≡ 1)) ⊎ (OverEvents short s × (line ≡ line_after (trace_of full s).head 200)))
+  pub short_exact : (line : ℕ) → marked_of short s ≡ refused 25 line ↔ ((OverHead short s × (line ≡ 1)) ⊎ (OverEvents short s × (line ≡ line_after (head_in (trace_of full s)) 200)))
   short_exact line = excess_exact short (up_to_full Short) refl refl refl s (never_said s) line
 
   -- A paper whose head is not over the limits and which has at most 200 event lines has the full marker's report.
@@ -38,5 +38,5 @@ module _ (s : List ℕ) where
 
   -- A 201st event line that is no event is 4, behind 200 accepted ones.
   pub short_wrong : (OverHead short s → ⊥) → (earlier : List Event) (rest : List (Option Event)) → lines_in full s ≡ map some earlier ++ (none ∷ rest)
-      → length earlier ≡ 200 → T (Accepted full (trace_of full s).head (reverse earlier)) → marked_of short s ≡ refused 4 (line_after (trace_of full s).head 200)
+      → length earlier ≡ 200 → T (Accepted full (head_in (trace_of full s)) (reverse earlier)) → marked_of short s ≡ refused 4 (line_after (head_in (trace_of full s)) 200)
   short_wrong n earlier rest q c a = wrong_line short (up_to_full Short) refl refl refl s n earlier rest q c a

@@ -24,7 +24,7 @@ fit_order (Ordered c) list = by (leb c (length list))
     by : (b : Bool) → All Fits (cond b (entry_lines (take c list)) [])
     by true = fit_sections (map entry_in (take c list))
     by false = tt
-fit_order (Unordered number line) list = (row_fits _ (line ∷ number ∷ []) (omega arith) (omega arith), tt)
+fit_order (Unordered r) list = (row_fits _ (r.line ∷ r.number ∷ []) (omega arith) (omega arith), tt)
 fit_order NoOrder list = tt
 
 pub lines_ordered : (c : ℕ) (list : List ℕ) → c ≤ length list → entry_lines (take c list) ≡ ordering_lines (Ordered c) list

@@ -2,14 +2,14 @@
 use Prim.Native.Nat.{ℕ, ◌≤◌}
 use native.Mathlib.Omega.{arith}
 use mathlib.Core.Path.{◌≡◌, refl, sym, ap, ◌∙◌}
-use mathlib.Core.Bool.{Bool, true, false, cond}
 use mathlib.Core.List.{List, [], ◌∷◌, ◌++◌}
 use lib.ListN.{length}
 use Rattle.rules.specs.Limits.{Limits, UpToFull, full}
-use Rattle.rules.specs.Rules.{Marked, accepted, refused, on_marked, words_of, number_in, line_in}
+use Rattle.rules.specs.Rules.{Marked, accepted, refused, on_marked, words_of, number_in, line_in, answered}
 use Rattle.rules.proofs.Bounds.{allowed_full}
 use Rattle.decimal.specs.Text.{over, Wrote}
-use Rattle.trace.specs.Trace.{trace_of}
+use Rattle.std.specs.Prelude.{Some, None, Ok}
+use Rattle.trace.specs.Trace.{Guards, trace_of, head_in, guards_in}
 use Rattle.marking.specs.declared.Marking.{Marking}
 use Rattle.marking.specs.Marking.{marked_of, past_of, events_in, accepted_of, marking_of}
 use Rattle.marking.proofs.Whole.{head_allowed, events_few}
@@ -22,7 +22,7 @@ use Rattle.listing.specs.Listing.{refused_line, write_all, section_lines, lines_
 use Rattle.listing.proofs.LineLaws.{wrote_as}
 use Rattle.listing.proofs.ListLaws.{lines_are}
 use Rattle.listing.proofs.RoomEnough.{Behind, sections, unordered, nothing, Enough, room_enough, room_refused, wrote_whole}
-use Rattle.ordering.specs.Answer.{guard_of}
+use Rattle.ordering.specs.Answer.{guard_of, on_guards}
 use Rattle.ordering.proofs.Traces.{accepted_trace}
 use Rattle.report.specs.Report.{denial_lines, order_lines, memory_lines, refusal_lines, listing_with, listing_of, brief_of}
 
@@ -31,18 +31,17 @@ module _ (m : Limits) (u : UpToFull m) where
   -- what comes behind the lines of the memories
   pub behind_order : (s : List ℕ) → marked_of m s ≡ accepted → Behind (order_lines m s)
   unfolding order_lines
-  behind_order s a = by (trace_of m s).guards.given (denial (trace_of m s).head guard (events_in m s)) refl
+  behind_order s a = by (guards_in (trace_of m s))
     where
-      guard : ℕ → ℕ
-      guard = guard_of (trace_of m s).guards.locks
+      behind : (guard : ℕ → ℕ) (d : Denial) → denial (head_in (trace_of m s)) guard (events_in m s) ≡ d → Behind (denial_lines d (section_lines (order (head_in (trace_of m s)) (events_in m s))))
+      behind guard fit q =
+          sections (order (head_in (trace_of m s)) (events_in m s)) (omega (arith, entries-room m (head_in (trace_of m s)) guard (events_in m s) (accepted_trace m u s a) q))
+          (order_small m (head_in (trace_of m s)) (events_in m s) (accepted_trace m u s a) guard q)
+      behind guard (denied number line) q = unordered line number
 
-      by : (g : Bool) (d : Denial) → denial (trace_of m s).head guard (events_in m s) ≡ d
-          → Behind (cond g (denial_lines d (section_lines (order (trace_of m s).head (events_in m s)))) [])
-      by false d q = nothing
-      by true fit q =
-          sections (order (trace_of m s).head (events_in m s)) (omega (arith, entries-room m (trace_of m s).head guard (events_in m s) (accepted_trace m u s a) q))
-          (order_small m (trace_of m s).head (events_in m s) (accepted_trace m u s a) guard q)
-      by true (denied number line) q = unordered line number
+      by : (g : Guards) → Behind (on_guards g (λ locks. denial_lines (denial (head_in (trace_of m s)) (guard_of locks) (events_in m s)) (section_lines (order (head_in (trace_of m s)) (events_in m s)))) [])
+      by (Some locks) = behind (guard_of locks) (denial (head_in (trace_of m s)) (guard_of locks) (events_in m s)) refl
+      by None = nothing
 
   -- ---- the lines of a listing
 
@@ -57,16 +56,16 @@ module _ (m : Limits) (u : UpToFull m) where
   accepted_lines s ends q = ap (λ (k : Marked). on_marked k (memory_lines m s ++ ends) (refusal_lines m s)) (sym q)
 
   -- an accepted trace's marking
-  pub marking_is : (s : List ℕ) (marking : Marking) → marked_of m s ≡ accepted → marking ≡ marking_of m s → marking ≡ accepted_of m s
+  pub marking_is : (s : List ℕ) (marking : Marking) → marked_of m s ≡ accepted → Ok marking ≡ marking_of m s → marking ≡ accepted_of m s
   unfolding marking_of
-  marking_is s marking a q = rw a at q
+  marking_is s marking a q = let z : Ok marking ≡ Ok (accepted_of m s) = q ∙ ap (λ (k : Marked). answered k (accepted_of m s)) a in cc
 
   -- the lines of the memories that are handed on are the trace's
-  pub memory_lines_law : (s : List ℕ) (marking : Marking) → marked_of m s ≡ accepted → marking ≡ marking_of m s → lines_for marking.events marking.head marking.memories ≡ memory_lines m s
+  pub memory_lines_law : (s : List ℕ) (marking : Marking) → marked_of m s ≡ accepted → Ok marking ≡ marking_of m s → lines_for marking.events marking.head marking.memories ≡ memory_lines m s
   unfolding memory_lines accepted_of
   memory_lines_law s marking a q =
       ap (λ (x : Marking). lines_for x.events x.head x.memories) (marking_is s marking a q)
-      ∙ lines_are (length (events_in m s)) (trace_of m s).head (words_of (past_of m s)) (allowed_full m (trace_of m s).head u (head_allowed m s a))
+      ∙ lines_are (length (events_in m s)) (head_in (trace_of m s)) (words_of (past_of m s)) (allowed_full m (head_in (trace_of m s)) u (head_allowed m s a))
 
   -- ---- their room
 
@@ -75,7 +74,7 @@ module _ (m : Limits) (u : UpToFull m) where
   lines_enough s ends b = by (marked_of m s) refl
     where
       by : (k : Marked) → marked_of m s ≡ k → Enough (on_marked k (memory_lines m s ++ ends) (refusal_lines m s))
-      by accepted q = room_enough (length (events_in m s)) (trace_of m s).head (words_of (past_of m s)) (events_few m u s) (allowed_full m (trace_of m s).head u (head_allowed m s q)) ends (b q)
+      by accepted q = room_enough (length (events_in m s)) (head_in (trace_of m s)) (words_of (past_of m s)) (events_few m u s) (allowed_full m (head_in (trace_of m s)) u (head_allowed m s q)) ends (b q)
       by (refused number line) q = room_refused (line_in (marked_of m s)) (number_in (marked_of m s))
 
   -- 32,768 bytes are enough for the listing of any bytes

@@ -1,7 +1,7 @@
 -- What is reported of a trace: after 7, of a refused trace, and of an accepted one.
 use Prim.Native.Nat.{ℕ, ◌≤◌, min}
 use native.Mathlib.Omega.{arith}
-use mathlib.Core.Path.{◌≡◌, refl, sym, ap, ◌∙◌}
+use mathlib.Core.Path.{◌≡◌, refl, sym, ap, ◌∙◌, subst}
 use mathlib.Core.Bool.{Bool, true, false, cond, ◌||◌}
 use mathlib.Core.List.{List, [], ◌++◌, map}
 use lib.Dec.{ltb}
@@ -12,15 +12,15 @@ use borrow.Author.Tests.{le-leb, ltb-false}
 use Rattle.rules.specs.declared.Event.{Event}
 use Rattle.rules.specs.declared.Counts.{Counts}
 use Rattle.rules.specs.declared.Course.{Course}
-use Rattle.rules.specs.declared.Verdict.{Verdict}
-use Rattle.rules.specs.declared.Verdict.TheVariants as verdict
+use Rattle.std.specs.Prelude.{Some, None, Result, Ok, Err}
+use Rattle.rules.specs.declared.Refusal.{Refusal}
 use Rattle.rules.specs.Limits.{Limits, UpToFull, full, limits_of, lent_short, order_short}
-use Rattle.rules.specs.Rules.{Marked, accepted, refused, told, said, on_marked}
+use Rattle.rules.specs.Rules.{Marked, accepted, refused, Verdict, told, said, on_marked}
 use Rattle.rules.proofs.Laws.{or_false_left, or_false_right}
 use Rattle.rules.proofs.Bounds.{up_to_full}
 use Rattle.decimal.specs.Text.{ended, over, room, Wrote}
 use Rattle.records.specs.Records.{packed, value_in}
-use Rattle.trace.specs.Trace.{trace_of}
+use Rattle.trace.specs.Trace.{Guards, trace_of, head_in, guards_in}
 use Rattle.marking.specs.declared.Marking.{Marking}
 use Rattle.marking.specs.Marking.{marked_of, events_in, accepted_of, marking_of, read_in}
 use Rattle.marking.proofs.Whole.{read_is, events_few}
@@ -32,19 +32,19 @@ use Rattle.sections.proofs.Entries.{order_back}
 use Rattle.listing.specs.Listing.{refused_line, line_room, write_all, lines_for, section_lines, entry_lines}
 use Rattle.listing.proofs.LineLaws.{wrote_one}
 use Rattle.ordering.specs.declared.Ordering.{Ordering}
-use Rattle.ordering.specs.declared.Ordering.TheVariants.{Ordered, NoOrder}
+use Rattle.ordering.specs.declared.Ordering.TheVariants.{Ordered}
 use Rattle.ordering.specs.declared.Outcome.{Outcome}
-use Rattle.ordering.specs.Answer.{guard_of, answer_of, answer_for, entries_for, ordered, Given}
-use Rattle.ordering.specs.Traces.{ordering_of, entries_of, OrdersTrace}
+use Rattle.ordering.specs.Answer.{guard_of, on_guards, answer_of, answer_for, entries_for, ordered, Given}
+use Rattle.ordering.specs.Traces.{ordering_of, entries_of, marking_in, ordering_in, OrdersTrace}
 use Rattle.ordering.proofs.Traces.{accepted_trace}
 use Rattle.report.specs.declared.Report.{Report}
 use Rattle.report.specs.Report.{Lends, denial_lines, order_lines, listing_of, records_after, whats_after, values_after, count_of, report_of, too_little_report, too_little, Reports, Fills}
-use Rattle.report.specs.Computed.Parts.{ordering_lines}
+use Rattle.report.specs.Computed.Parts.{ordering_lines, refused_report}
 use Rattle.report.proofs.Printed.{behind_order, refused_lines_law, accepted_lines, lines_with, marking_is, memory_lines_law, printed}
 
 said_told : (v : Verdict) → said (told v) ≡ v
-said_told verdict.Accepted = refl
-said_told (verdict.Refused number line) = refl
+said_told (Ok a) = refl
+said_told (Err r) = refl
 
 -- the first n entries of a row, with room for them in a lent one
 pub record Front {X : Type 0} (n : ℕ) (row lent : List X) : Type 0 where
@@ -85,7 +85,7 @@ module _ (course : Course) where
   reported s o₀ text v n o w ev en eo ew = λ i. record { verdict = (sym (said_told v) ∙ ap said ev) i; events = en i; ordering = eo i; written = ew i }
 
   -- a marking says that a trace is accepted, and how many events it has
-  pub marking_count : (s : List ℕ) (marking : Marking) → marked_of m s ≡ accepted → marking ≡ marking_of m s → marking.events ≡ count_of m s
+  pub marking_count : (s : List ℕ) (marking : Marking) → marked_of m s ≡ accepted → Ok marking ≡ marking_of m s → marking.events ≡ count_of m s
   unfolding count_of accepted_of
   marking_count s marking a q = rw a (ap (λ (x : Marking). x.events) (marking_is m u s marking a q))
 
@@ -159,29 +159,29 @@ module _ (course : Course) where
 
     -- ---- a trace that is marked and ordered
 
-    module _ (e : too_little m places out list scratch ≡ false) (r : Outcome) (what' : List ℕ) (value' : List ℤ) (list' scratch' : List ℕ) (c : OrdersTrace m s what value list scratch r what' value' list' scratch') where
+    module _ (e : too_little m places out list scratch ≡ false) (r : Result Outcome Refusal) (what' : List ℕ) (value' : List ℤ) (list' scratch' : List ℕ) (c : OrdersTrace m s what value list scratch r what' value' list' scratch') where
       order_long : order_short m (length list) (length scratch) ≡ false
       order_long = or_false_right (lent_short m places (length out)) (order_short m (length list) (length scratch)) e
 
       out_long : m.output ≤ length out
       out_long = (lent_long places (length out) (or_false_left (lent_short m places (length out)) (order_short m (length list) (length scratch)) e)).1
 
-      tells : told r.marking.verdict ≡ marked_of m s
+      tells : told r ≡ marked_of m s
       tells = rw order_long at c.says
 
-      marks : r.marking ≡ marking_of m s
+      marks : marking_in r ≡ marking_of m s
       marks = rw order_long at c.marks
 
-      gives : Given (ordering_of m s) (entries_of m s) list scratch r.ordering list' scratch'
+      gives : Given (ordering_of m s) (entries_of m s) list scratch (ordering_in r) list' scratch'
       gives = rw order_long at c.gives
 
       -- the whole, from what is counted and printed
       lends : (v : Verdict) (n w : ℕ) (out' : List ℕ) → told v ≡ marked_of m s → n ≡ count_of m s → (w ≡ length (listing_of m s)) × (out' ≡ over (listing_of m s) out)
-          → Lends m s places what value out list scratch (record { verdict = v; events = n; ordering = r.ordering; written = w }) what' value' out' list' scratch'
+          → Lends m s places what value out list scratch (record { verdict = v; events = n; ordering = ordering_in r; written = w }) what' value' out' list' scratch'
       lends v n w out' ev en p = record {
         reports = record {
           told_is = ev ∙ sym (rw e refl);
-          says = reported s (ordering_of m s) (listing_of m s) v n r.ordering w ev en gives.answers p.0 ∙ sym (rw e refl);
+          says = reported s (ordering_of m s) (listing_of m s) v n (ordering_in r) w ev en gives.answers p.0 ∙ sym (rw e refl);
           prints = p.1 ∙ sym (rw e refl);
           orders = rw e gives;
         };
@@ -189,68 +189,77 @@ module _ (course : Course) where
         beside = (rw order_long at c.beside) ∙ sym (rw e refl);
       }
 
-      pub refused_lends : (number line w : ℕ) (out' : List ℕ) → r.marking.verdict ≡ verdict.Refused number line → Wrote (room line_room (ended (refused_line line number))) out w out'
-          → Lends m s places what value out list scratch (record { verdict = verdict.Refused number line; events = 0; ordering = r.ordering; written = w }) what' value' out' list' scratch'
-      refused_lends number line w out' ev v =
-          lends (verdict.Refused number line) 0 w out' (sym k) (none_counted s number line k)
-          (unfold listing_of in printed m u s (order_lines m s) _ w out out' (behind_order m u s) (refused_lines_law m u s (order_lines m s) number line k) out_long (wrote_one (refused_line line number) out out' w v))
+    module _ (e : too_little m places out list scratch ≡ false) (f : Refusal) (what' : List ℕ) (value' : List ℤ) (list' scratch' : List ℕ) (c : OrdersTrace m s what value list scratch (Err f) what' value' list' scratch') where
+      pub refused_lends : (p : Report) (out' : List ℕ) → p ≡ refused_report f p.written → Wrote (room line_room (ended (refused_line f.line f.number))) out p.written out'
+          → Lends m s places what value out list scratch p what' value' out' list' scratch'
+      refused_lends p out' ep v =
+          subst (λ (p : Report). Lends m s places what value out list scratch p what' value' out' list' scratch') (sym ep)
+          (lends e (Err f) what' value' list' scratch' c (Err f) 0 p.written out' (sym k) (none_counted s f.number f.line k)
+          (unfold listing_of in printed m u s (order_lines m s) _ p.written out out' (behind_order m u s) (refused_lines_law m u s (order_lines m s) f.number f.line k) (out_long e (Err f) what' value' list' scratch' c) (wrote_one (refused_line f.line f.number) out out' p.written v)))
         where
-          k : marked_of m s ≡ refused number line
-          k = sym tells ∙ ap told ev
+          k : marked_of m s ≡ refused f.number f.line
+          k = sym (tells e (Err f) what' value' list' scratch' c)
 
-      -- ---- an accepted trace
+    -- ---- an accepted trace
 
-      module _ (ev : r.marking.verdict ≡ verdict.Accepted) where
-        marked : marked_of m s ≡ accepted
-        marked = sym tells ∙ ap told ev
+    module _ (e : too_little m places out list scratch ≡ false) (r : Outcome) (what' : List ℕ) (value' : List ℤ) (list' scratch' : List ℕ) (c : OrdersTrace m s what value list scratch (Ok r) what' value' list' scratch') where
+      marked : marked_of m s ≡ accepted
+      marked = sym (tells e (Ok r) what' value' list' scratch' c)
 
-        abbrev h : Counts
-        h = (trace_of m s).head
+      given : Given (ordering_of m s) (entries_of m s) list scratch r.ordering list' scratch'
+      given = gives e (Ok r) what' value' list' scratch' c
 
-        abbrev guard : ℕ → ℕ
-        guard = guard_of (trace_of m s).guards.locks
+      abbrev h : Counts
+      h = head_in (trace_of m s)
 
-        abbrev count₀ : ℕ
-        count₀ = length (order h (events_in m s))
+      entries_count : length (entries_of m s) ≡ length (order h (events_in m s))
+      unfolding entries_of entries_for
+      entries_count = length-map (order h (events_in m s)) entry_code
 
-        entries_count : length (entries_of m s) ≡ count₀
-        unfolding entries_of entries_for
-        entries_count = length-map (order h (events_in m s)) entry_code
+      list_is : (o : Ordering) → r.ordering ≡ o → list' ≡ cond (ordered o) (over (entries_of m s) list) list
+      list_is o q = given.lists ∙ ap (λ (x : Ordering). cond (ordered x) (over (entries_of m s) list) list) (sym given.answers ∙ q)
 
-        list_is : (o : Ordering) → r.ordering ≡ o → list' ≡ cond (ordered o) (over (entries_of m s) list) list
-        list_is o q = gives.lists ∙ ap (λ (x : Ordering). cond (ordered x) (over (entries_of m s) list) list) (sym gives.answers ∙ q)
+      abbrev count₀ : ℕ
+      count₀ = length (order h (events_in m s))
 
-        -- the sections that stand in the list
-        listed_lines : denial h guard (events_in m s) ≡ fit → r.ordering ≡ Ordered count₀ → ordering_lines (Ordered count₀) list' ≡ section_lines (order h (events_in m s))
-        unfolding ordering_lines entries_of entries_for
-        listed_lines f q =
-            ap (λ (b : Bool). cond b (entry_lines (take count₀ list')) []) (le-leb count₀ (length list') long)
-            ∙ ap (λ (ws : List ℕ). entry_lines (take count₀ ws)) (list_is (Ordered count₀) q)
-            ∙ ap (λ (ws : List ℕ). entry_lines ws) (take_at (entries_of m s) (drop (length (entries_of m s)) list) count₀ entries_count)
-            ∙ ap section_lines (order_back m h (events_in m s) (accepted_trace m u s marked) guard f)
-          where
-            long : count₀ ≤ length list'
-            long = rw (list_is (Ordered count₀) q) (omega (arith, entries_count, length-append (entries_of m s) (drop (length (entries_of m s)) list)))
+      -- the sections that stand in the list
+      listed_lines : (guard : ℕ → ℕ) → denial h guard (events_in m s) ≡ fit → r.ordering ≡ Ordered count₀ → ordering_lines (Ordered count₀) list' ≡ section_lines (order h (events_in m s))
+      unfolding ordering_lines entries_of entries_for
+      listed_lines guard f q =
+          ap (λ (b : Bool). cond b (entry_lines (take count₀ list')) []) (le-leb count₀ (length list') long)
+          ∙ ap (λ (ws : List ℕ). entry_lines (take count₀ ws)) (list_is (Ordered count₀) q)
+          ∙ ap (λ (ws : List ℕ). entry_lines ws) (take_at (entries_of m s) (drop (length (entries_of m s)) list) count₀ entries_count)
+          ∙ ap section_lines (order_back m h (events_in m s) (accepted_trace m u s marked) guard f)
+        where
+          long : count₀ ≤ length list'
+          long = rw (list_is (Ordered count₀) q) (omega (arith, entries_count, length-append (entries_of m s) (drop (length (entries_of m s)) list)))
 
-        lines_by : (g : Bool) (d : Denial) → denial h guard (events_in m s) ≡ d → r.ordering ≡ cond g (answer_of d count₀) NoOrder
-            → ordering_lines r.ordering list' ≡ cond g (denial_lines d (section_lines (order h (events_in m s)))) []
-        unfolding answer_of
-        lines_by false d ed q = ap (λ (o : Ordering). ordering_lines o list') q ∙ (unfold ordering_lines in refl)
-        lines_by true fit ed q = ap (λ (o : Ordering). ordering_lines o list') q ∙ listed_lines ed q
-        lines_by true (denied number line) ed q = ap (λ (o : Ordering). ordering_lines o list') q ∙ (unfold ordering_lines in refl)
+      denied_lines : (guard : ℕ → ℕ) (d : Denial) → denial h guard (events_in m s) ≡ d → r.ordering ≡ answer_of d count₀ → ordering_lines r.ordering list' ≡ denial_lines d (section_lines (order h (events_in m s)))
+      unfolding answer_of
+      denied_lines guard fit ed q = ap (λ (o : Ordering). ordering_lines o list') q ∙ listed_lines guard ed q
+      denied_lines guard (denied number line) ed q = ap (λ (o : Ordering). ordering_lines o list') q ∙ (unfold ordering_lines in refl)
 
-        order_lines_law : ordering_lines r.ordering list' ≡ order_lines m s
-        unfolding order_lines
-        order_lines_law = lines_by (trace_of m s).guards.given (denial h guard (events_in m s)) refl (gives.answers ∙ (unfold ordering_of answer_for in rw marked refl))
+      lines_by : (g : Guards) → r.ordering ≡ answer_for h g (events_in m s)
+          → ordering_lines r.ordering list' ≡ on_guards g (λ locks. denial_lines (denial h (guard_of locks) (events_in m s)) (section_lines (order h (events_in m s)))) []
+      unfolding answer_for
+      lines_by (Some locks) q = denied_lines (guard_of locks) (denial h (guard_of locks) (events_in m s)) refl q
+      lines_by None q = ap (λ (o : Ordering). ordering_lines o list') q ∙ (unfold ordering_lines in refl)
 
-        pub accepted_lends : (w : ℕ) (out' : List ℕ) → Wrote (write_all (lines_for r.marking.events r.marking.head r.marking.memories ++ ordering_lines r.ordering list')) out w out'
-            → Lends m s places what value out list scratch (record { verdict = r.marking.verdict; events = r.marking.events; ordering = r.ordering; written = w }) what' value' out' list' scratch'
-        accepted_lends w out' v =
-            lends r.marking.verdict r.marking.events w out' tells (marking_count s r.marking marked marks)
-            (unfold listing_of in printed m u s (order_lines m s) _ w out out' (behind_order m u s) lines out_long v)
-          where
-            lines : lines_for r.marking.events r.marking.head r.marking.memories ++ ordering_lines r.ordering list' ≡ lines_with m u s (order_lines m s)
-            lines = (λ i. memory_lines_law m u s r.marking marked marks i ++ order_lines_law i) ∙ accepted_lines m u s (order_lines m s) marked
+      order_lines_law : ordering_lines r.ordering list' ≡ order_lines m s
+      unfolding order_lines
+      order_lines_law = lines_by (guards_in (trace_of m s)) (given.answers ∙ (unfold ordering_of in rw marked refl))
+
+      pub accepted_lends : (w : ℕ) (out' : List ℕ) → Wrote (write_all (lines_for r.marking.events r.marking.head r.marking.memories ++ ordering_lines r.ordering list')) out w out'
+          → Lends m s places what value out list scratch (record { verdict = Ok tt; events = r.marking.events; ordering = r.ordering; written = w }) what' value' out' list' scratch'
+      accepted_lends w out' v =
+          lends e (Ok r) what' value' list' scratch' c (Ok tt) r.marking.events w out' (sym marked) (marking_count s r.marking marked marks₀)
+          (unfold listing_of in printed m u s (order_lines m s) _ w out out' (behind_order m u s) lines (out_long e (Ok r) what' value' list' scratch' c) v)
+        where
+          marks₀ : Ok r.marking ≡ marking_of m s
+          marks₀ = marks e (Ok r) what' value' list' scratch' c
+
+          lines : lines_for r.marking.events r.marking.head r.marking.memories ++ ordering_lines r.ordering list' ≡ lines_with m u s (order_lines m s)
+          lines = (λ i. memory_lines_law m u s r.marking marked marks₀ i ++ order_lines_law i) ∙ accepted_lines m u s (order_lines m s) marked
 
   -- ---- the records in two lent rows
 

@@ -4,16 +4,21 @@ use Prim.Native.Nat.{ℕ}
 use mathlib.Core.Path.{◌≡◌, refl, ap, ◌∙◌}
 use mathlib.Core.List.{List, [], reverse}
 use mathlib.Core.Logic.{◌⊎◌, inl, inr}
+use Rattle.std.specs.Prelude.{Some, None}
 use Rattle.rules.specs.declared.Event.{Event}
 use Rattle.rules.specs.Limits.{full}
 use Rattle.rules.specs.Ten.{AllTen}
-use Rattle.trace.specs.Trace.{trace_of}
+use Rattle.trace.specs.Trace.{Guards, trace_of, head_in, guards_in}
 use Rattle.marking.specs.Marking.{lines_in, events_in}
 use Rattle.marking.specs.Ten.{SameTen, NewKind}
 use Rattle.marking.proofs.Ten.{ten_paper, ten_or_new, events_ten, words_ten}
+use Rattle.sections.specs.Refusals.{denial}
+use Rattle.sections.specs.Order.{order}
+use Rattle.sections.specs.Ten.{ten_denial, ten_order}
+use Rattle.listing.specs.Listing.{section_lines}
 use Rattle.sections.proofs.Ten.{ten_denial_law, ten_order_law}
-use Rattle.ordering.specs.Answer.{guard_of}
-use Rattle.report.specs.Report.{order_lines, memory_lines, refusal_lines, listing_with, listing_of, brief_of}
+use Rattle.ordering.specs.Answer.{guard_of, on_guards}
+use Rattle.report.specs.Report.{denial_lines, order_lines, memory_lines, refusal_lines, listing_with, listing_of, brief_of}
 use Rattle.report.specs.Ten.{ten_events_in, ten_order_lines, ten_memory_lines, ten_listing_with, ten_listing_of, ten_brief_of}
 
 module _ (s : List ℕ) (r : SameTen s) where
@@ -23,9 +28,12 @@ module _ (s : List ℕ) (r : SameTen s) where
 
   order_same : ten_order_lines s ≡ order_lines full s
   unfolding ten_order_lines order_lines
-  order_same =
-      let a = events_ten s r in
-      rw (events_same, ten_denial_law (trace_of full s).head (guard_of (trace_of full s).guards.locks) (events_in full s) a, ten_order_law (trace_of full s).head (events_in full s) a) refl
+  order_same = rw events_same (by (guards_in (trace_of full s)))
+    where
+      by : (g : Guards) → on_guards g (λ locks. denial_lines (ten_denial (head_in (trace_of full s)) (guard_of locks) (events_in full s)) (section_lines (ten_order (head_in (trace_of full s)) (events_in full s)))) []
+          ≡ on_guards g (λ locks. denial_lines (denial (head_in (trace_of full s)) (guard_of locks) (events_in full s)) (section_lines (order (head_in (trace_of full s)) (events_in full s)))) []
+      by (Some locks) = rw (ten_denial_law (head_in (trace_of full s)) (guard_of locks) (events_in full s) (events_ten s r), ten_order_law (head_in (trace_of full s)) (events_in full s) (events_ten s r)) refl
+      by None = refl
 
   memory_same : ten_memory_lines s ≡ memory_lines full s
   unfolding ten_memory_lines memory_lines

@@ -5,7 +5,7 @@ use Rattle.rules.specs.Memories.{memory, copies}
 use Rattle.rules.specs.Rules.{words_of, refused, told, said, number_in, line_in, on_marked}
 use Rattle.decimal.specs.Text.{over}
 use Rattle.records.specs.Records.{packed, value_in}
-use Rattle.trace.specs.Trace.{trace_of}
+use Rattle.trace.specs.Trace.{trace_of, head_in, guards_in}
 use Rattle.marking.specs.Marking.{read_in, marked_of, past_of, events_in}
 use Rattle.sections.specs.Denials.{Denial, fit, denied}
 use Rattle.sections.specs.Refusals.{denial}
@@ -13,7 +13,7 @@ use Rattle.sections.specs.Order.{order}
 use Rattle.listing.specs.Listing.{refused_line, unordered_line, text_of, state_lines, section_lines}
 use Rattle.ordering.specs.declared.Ordering.{Ordering}
 use Rattle.ordering.specs.declared.Ordering.TheVariants.{NoOrder}
-use Rattle.ordering.specs.Answer.{guard_of, Given}
+use Rattle.ordering.specs.Answer.{guard_of, on_guards, Given}
 use Rattle.ordering.specs.Traces.{ordering_of, entries_of}
 use Rattle.report.specs.declared.Report.{Report}
 
@@ -27,12 +27,12 @@ denial_lines (denied number line) sections = unordered_line line number ∷ []
 -- With `G -` there are neither.
 unfoldable pub order_lines : Limits → List ℕ → List (List ℕ)
 order_lines m s =
-    cond (trace_of m s).guards.given
-    (denial_lines (denial (trace_of m s).head (guard_of (trace_of m s).guards.locks) (events_in m s)) (section_lines (order (trace_of m s).head (events_in m s)))) []
+    on_guards (guards_in (trace_of m s))
+    (λ locks. denial_lines (denial (head_in (trace_of m s)) (guard_of locks) (events_in m s)) (section_lines (order (head_in (trace_of m s)) (events_in m s)))) []
 
 -- Events; each declared variable and its value in main memory; each usable copy.
 unfoldable pub memory_lines : Limits → List ℕ → List (List ℕ)
-memory_lines m s = state_lines (length (events_in m s)) (memory (trace_of m s).head (words_of (past_of m s))) (copies (trace_of m s).head (words_of (past_of m s)))
+memory_lines m s = state_lines (length (events_in m s)) (memory (head_in (trace_of m s)) (words_of (past_of m s))) (copies (head_in (trace_of m s)) (words_of (past_of m s)))
 
 -- Otherwise only `refused line number`.
 unfoldable pub refusal_lines : Limits → List ℕ → List (List ℕ)

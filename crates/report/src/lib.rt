@@ -2,15 +2,15 @@
 // is to be written.
 #![tactic(auto)]
 
-ghost use Rattle.std.specs.Prelude.{◌≡◌, ◌++◌, min};
+ghost use Rattle.std.specs.Prelude.{◌≡◌, ◌++◌};
 ghost use Rattle.rules.specs.Limits.{limits_of};
-ghost use Rattle.decimal.specs.Text.{Wrote};
-ghost use Rattle.listing.specs.Listing.{lines_for, write_all};
+ghost use Rattle.decimal.specs.Text.{ended, room, Wrote};
+ghost use Rattle.listing.specs.Listing.{line_room, refused_line, lines_for, write_all};
 ghost use Rattle.report.specs.Report.{too_little_report, Lends, Fills, Briefs};
-ghost use Rattle.report.specs.Computed.Parts.{ordering_lines};
+ghost use Rattle.report.specs.Computed.Parts.{ordering_lines, refused_report};
 
-use ordering::Ordering;
-use rules::{Counts, Course, Memories, RECORDS, Value, Verdict};
+use ordering::{Ordering, Outcome};
+use rules::{Counts, Course, Memories, RECORDS, Refusal, Value, Verdict};
 
 // What is said of a trace: the verdict, the number of events of an accepted one, what is said of its order, and the length of the listing.
 #[derive(Clone, Copy)]
@@ -21,24 +21,28 @@ pub struct Report {
     pub written: usize,
 }
 
-// The lesser of two counts.
-pub fn lesser(a: usize, b: usize) -> usize
-    ensures { result ≡ min a b }
-{
-    if a <= b { a } else { b }
-}
-
 // 7, line 0.
 fn lent_short() -> Report
     ensures { result ≡ too_little_report }
 {
-    let seven = Verdict::Refused(7, 0);
-    let nothing = Ordering::NoOrder;
     Report {
-        verdict: seven,
+        verdict: Err(Refusal { number: 7, line: 0 }),
         events: 0,
-        ordering: nothing,
+        ordering: Ordering::NoOrder,
         written: 0,
+    }
+}
+
+// The report of a trace that is refused: its listing is one line.
+fn refuse(out: &mut [u8], refusal: Refusal) -> Report
+    ensures says { result ≡ refused_report refusal result.written }
+    ensures writes { Wrote (room line_room (ended (refused_line refusal.line refusal.number))) out.old result.written out.new }
+{
+    Report {
+        verdict: Err(refusal),
+        events: 0,
+        ordering: Ordering::NoOrder,
+        written: listing::write_refused(out, refusal.line, usize::from(refusal.number)),
     }
 }
 
@@ -53,7 +57,7 @@ fn write_order(out: &mut [u8], o: Ordering, list: &[u64]) -> usize
             }
             listing::write_sections(out, &list[..c])
         }
-        Ordering::Unordered(rule, line) => listing::write_unordered(out, line, rule as usize),
+        Ordering::Unordered(r) => listing::write_unordered(out, r.line, usize::from(r.number)),
         Ordering::NoOrder => 0,
     }
 }
@@ -90,26 +94,21 @@ pub fn mark_lent(
     if rules::is_lent_short(places, out.len()) | rules::is_order_short(list.len(), scratch.len()) {
         return lent_short();
     }
-    let outcome = ordering::order_trace(course, bytes, what, value, list, scratch);
-    let m = outcome.marking;
-    let o = outcome.ordering;
-    let said = m.verdict;
-    if let Verdict::Refused(number, line) = said {
-        let written = listing::write_refused(out, line, number as usize);
-        return Report {
-            verdict: said,
-            events: 0,
-            ordering: o,
-            written: written,
-        };
-    }
-    let n = m.events;
-    let written = write_listing(out, n, m.head, m.memories, o, list);
-    Report {
-        verdict: said,
-        events: n,
-        ordering: o,
-        written: written,
+    match ordering::order_trace(course, bytes, what, value, list, scratch) {
+        Ok(Outcome { marking, ordering }) => Report {
+            verdict: Ok(()),
+            events: marking.events,
+            ordering,
+            written: write_listing(
+                out,
+                marking.events,
+                marking.head,
+                marking.memories,
+                ordering,
+                list,
+            ),
+        },
+        Err(refusal) => refuse(out, refusal),
     }
 }
 
@@ -125,16 +124,15 @@ pub fn mark_trace(
 ) -> Report
     ensures { Fills (limits_of course) bytes.now whats.old values.old out.old list.old scratch.old result whats.new values.new out.new list.new scratch.new }
 {
-    let mut what: [u32; RECORDS] = [0; RECORDS];
-    let mut value: [Value; RECORDS] = [0; RECORDS];
-    let places = lesser(whats.len(), values.len());
-    let r = mark_lent(
+    let mut what = [0; RECORDS];
+    let mut value = [0; RECORDS];
+    let places = whats.len().min(values.len());
+    let report = mark_lent(
         course, bytes, places, &mut what, &mut value, out, list, scratch,
     );
-    let n = r.events;
-    records::copy_whats(whats, &what[..n]);
-    records::copy_values(values, &value[..n]);
-    r
+    records::copy_row(whats, &what[..report.events]);
+    records::copy_row(values, &value[..report.events]);
+    report
 }
 
 // Marks a whole trace, with its records and its listing, where no order is wanted.
@@ -147,31 +145,27 @@ pub fn mark_unordered(
 ) -> Report
     ensures { Briefs (limits_of course) bytes.now whats.old values.old out.old result whats.new values.new out.new }
 {
-    if rules::is_lent_short(lesser(whats.len(), values.len()), out.len()) {
+    if rules::is_lent_short(whats.len().min(values.len()), out.len()) {
         return lent_short();
     }
-    let mut what: [u32; RECORDS] = [0; RECORDS];
-    let mut value: [Value; RECORDS] = [0; RECORDS];
-    let m = marking::mark(course, bytes, &mut what, &mut value);
-    let nothing = Ordering::NoOrder;
-    let said = m.verdict;
-    if let Verdict::Refused(number, line) = said {
-        let written = listing::write_refused(out, line, number as usize);
-        return Report {
-            verdict: said,
-            events: 0,
-            ordering: nothing,
-            written: written,
-        };
-    }
-    let n = m.events;
-    records::copy_whats(whats, &what[..n]);
-    records::copy_values(values, &value[..n]);
-    let written = listing::write_memories(out, n, m.head, m.memories);
-    Report {
-        verdict: said,
-        events: n,
-        ordering: nothing,
-        written: written,
+    let mut what = [0; RECORDS];
+    let mut value = [0; RECORDS];
+    match marking::mark(course, bytes, &mut what, &mut value) {
+        Ok(marking) => {
+            records::copy_row(whats, &what[..marking.events]);
+            records::copy_row(values, &value[..marking.events]);
+            Report {
+                verdict: Ok(()),
+                events: marking.events,
+                ordering: Ordering::NoOrder,
+                written: listing::write_memories(
+                    out,
+                    marking.events,
+                    marking.head,
+                    marking.memories,
+                ),
+            }
+        }
+        Err(refusal) => refuse(out, refusal),
     }
 }

@@ -24,7 +24,7 @@ pub returns-in-Unordered : goal.returns-in-Unordered
 unfolding ordering_lines
 returns-in-Unordered c =
     let a = c.args in
-    wrote_as _ (ordering_lines a.o a.list.now) a.out.now _ _ (ap (λ (o : Ordering). ordering_lines o a.list.now) (sym c.in-Unordered.is)) (wrote_one _ _ _ _ c.write_unordered.ensures)
+    wrote_as _ (ordering_lines a.o a.list.now) a.out.now _ _ (ap (λ (o : Ordering). ordering_lines o a.list.now) (sym c.in-Unordered.is)) (wrote_one _ _ _ _ (rw c.from.ensures at c.write_unordered.ensures))
 
 pub returns-in-NoOrder : goal.returns-in-NoOrder
 unfolding ordering_lines
