@@ -1,4 +1,4 @@
-// The event lines of a trace, read forward: line after line, each byte but those of a long number once.
+// The event lines of a trace, read forward: each byte is looked at once, line after line.
 #![tactic(auto)]
 
 ghost use Rattle.std.specs.Prelude.{◌≡◌, drop};
@@ -27,109 +27,117 @@ pub struct Read {
     pub verdict: Verdict,
 }
 
+// The functions below read on at `line.next`, and put what they read into the line.
+
 // The last field of a lock event other than F.
-fn lock_end(s: &[u8], at: usize, letter: u8, thread: usize) -> Option<Line>
-    ensures { result ≡ stage (last (lock_end letter thread)) at (drop at s.now) }
+fn lock_end(s: &[u8], line: Line) -> Option<Line>
+    ensures { result ≡ stage (last (lock_end line.letter line.thread)) line.next (drop line.next s.now) }
 {
-    let r = decimal::number_until(s, at, b'\n')?;
+    let r = decimal::number_until(s, line.next, b'\n')?;
     Some(Line {
-        letter,
-        thread,
         place: r.number,
         value: 0,
         next: r.next,
+        ..line
     })
 }
 
 // The last field of an F: the thread that it notifies.
-fn notify_end(s: &[u8], at: usize, letter: u8, thread: usize, place: usize) -> Option<Line>
-    ensures { result ≡ stage (last (notify_end letter thread place)) at (drop at s.now) }
+fn notify_end(s: &[u8], line: Line) -> Option<Line>
+    ensures { result ≡ stage (last (notify_end line.letter line.thread line.place)) line.next (drop line.next s.now) }
 {
-    let r = decimal::number_until(s, at, b'\n')?;
+    let r = decimal::number_until(s, line.next, b'\n')?;
     Some(Line {
-        letter,
-        thread,
-        place,
         value: Value::from(rules::cap(r.number)),
         next: r.next,
+        ..line
     })
 }
 
 // The fields of a lock event behind the thread: a lock, and behind that of an F a thread.
-fn lock_fields(s: &[u8], at: usize, letter: u8, thread: usize) -> Option<Line>
-    ensures { result ≡ stage (lock_fields letter thread) at (drop at s.now) }
+fn lock_fields(s: &[u8], line: Line) -> Option<Line>
+    ensures { result ≡ stage (lock_fields line.letter line.thread) line.next (drop line.next s.now) }
 {
-    if letter != b'F' {
-        return lock_end(s, at, letter, thread);
+    if line.letter != b'F' {
+        return lock_end(s, line);
     }
-    let r = decimal::number_until(s, at, b' ')?;
-    notify_end(s, r.next, letter, thread, r.number)
+    let r = decimal::number_until(s, line.next, b' ')?;
+    notify_end(
+        s,
+        Line {
+            place: r.number,
+            next: r.next,
+            ..line
+        },
+    )
 }
 
-// The line of an event with a value, where the last field is one.
-fn with_value(
-    letter: u8,
-    thread: usize,
-    place: usize,
-    value: Result<Value, NotValue>,
-    next: usize,
-) -> Option<Line>
-    ensures { result ≡ placed next (on_integer value (λ z. right letter thread place z)) }
+// The line of an event with a value, where its last field is one.
+fn with_value(line: Line, value: Result<Value, NotValue>) -> Option<Line>
+    ensures { result ≡ placed line.next (on_integer value (λ z. right line.letter line.thread line.place z)) }
 {
     let value = value.ok()?;
-    Some(Line {
-        letter,
-        thread,
-        place,
-        value,
-        next,
-    })
+    Some(Line { value, ..line })
 }
 
 // The last field of an event with a value.
-fn value_end(s: &[u8], at: usize, letter: u8, thread: usize, place: usize) -> Option<Line>
-    ensures { result ≡ stage (last (value_end value_width letter thread place)) at (drop at s.now) }
+fn value_end(s: &[u8], line: Line) -> Option<Line>
+    ensures { result ≡ stage (last (value_end value_width line.letter line.thread line.place)) line.next (drop line.next s.now) }
 {
-    if s.len() <= at {
+    if s.len() <= line.next {
         return None;
     }
-    if s[at] == b'-' {
-        let r = decimal::number_until(s, at + 1, b'\n')?;
+    if s[line.next] == b'-' {
+        let r = decimal::number_until(s, line.next + 1, b'\n')?;
         return with_value(
-            letter,
-            thread,
-            place,
+            Line {
+                next: r.next,
+                ..line
+            },
             decimal::negative(Some(r.number)),
-            r.next,
         );
     }
-    let r = decimal::number_until(s, at, b'\n')?;
+    let r = decimal::number_until(s, line.next, b'\n')?;
     with_value(
-        letter,
-        thread,
-        place,
+        Line {
+            next: r.next,
+            ..line
+        },
         decimal::positive(Some(r.number)),
-        r.next,
     )
 }
 
 // The fields behind the thread: those of a lock event, or a variable and a value.
-fn after_thread(s: &[u8], at: usize, letter: u8, thread: usize) -> Option<Line>
-    ensures { result ≡ stage (after_thread value_width letter thread) at (drop at s.now) }
+fn after_thread(s: &[u8], line: Line) -> Option<Line>
+    ensures { result ≡ stage (after_thread value_width line.letter line.thread) line.next (drop line.next s.now) }
 {
-    if rules::is_lock_letter(letter) {
-        return lock_fields(s, at, letter, thread);
+    if rules::is_lock_letter(line.letter) {
+        return lock_fields(s, line);
     }
-    let r = decimal::number_until(s, at, b' ')?;
-    value_end(s, r.next, letter, thread, r.number)
+    let r = decimal::number_until(s, line.next, b' ')?;
+    value_end(
+        s,
+        Line {
+            place: r.number,
+            next: r.next,
+            ..line
+        },
+    )
 }
 
 // The fields behind the letter.
-fn after_letter(s: &[u8], at: usize, letter: u8) -> Option<Line>
-    ensures { result ≡ stage (field (after_thread value_width letter)) at (drop at s.now) }
+fn after_letter(s: &[u8], line: Line) -> Option<Line>
+    ensures { result ≡ stage (field (after_thread value_width line.letter)) line.next (drop line.next s.now) }
 {
-    let r = decimal::number_until(s, at, b' ')?;
-    after_thread(s, r.next, letter, r.number)
+    let r = decimal::number_until(s, line.next, b' ')?;
+    after_thread(
+        s,
+        Line {
+            thread: r.number,
+            next: r.next,
+            ..line
+        },
+    )
 }
 
 // The line that starts at `at`.
@@ -150,7 +158,16 @@ fn line_at(s: &[u8], at: usize) -> Option<Line>
     if s[a] != b' ' {
         return None;
     }
-    after_letter(s, a + 1, letter)
+    after_letter(
+        s,
+        Line {
+            letter,
+            thread: 0,
+            place: 0,
+            value: 0,
+            next: a + 1,
+        },
+    )
 }
 
 // The events of the lines from a place on, one record for each at the front of the two rows: until a line that is no event, or an event

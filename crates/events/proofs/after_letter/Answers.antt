@@ -8,9 +8,9 @@ use Rattle.events.proofs.after_letter.Goals as goal
 pub returns-in_err-r : goal.returns-in_err-r
 returns-in_err-r c =
     let a = c.args in
-    c.from_residual.ensures ∙ sym (stage_bad (after_thread value_width a.letter) (thread_none a.letter) a.at (drop a.at a.s.now) (sym c.number_until.ensures ∙ c.in_err-r.was))
+    c.from_residual.ensures ∙ sym (stage_bad (after_thread value_width a.line.letter) (thread_none a.line.letter) a.line.next (drop a.line.next a.s.now) (sym c.number_until.ensures ∙ c.in_err-r.was))
 
 pub returns : goal.returns
 returns c =
     let a = c.args in
-    c.after_thread.ensures ∙ sym (stage_number (after_thread value_width a.letter) a.at a.s.now c.in_ok-r.r (sym c.number_until.ensures ∙ c.in_ok-r.was))
+    c.after_thread.ensures ∙ sym (stage_number (after_thread value_width a.line.letter) a.line.next a.s.now c.in_ok-r.r (sym c.number_until.ensures ∙ c.in_ok-r.was))

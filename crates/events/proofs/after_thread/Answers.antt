@@ -9,18 +9,18 @@ use Rattle.events.proofs.after_thread.Goals as goal
 pub returns-then-is_lock_letter : goal.returns-then-is_lock_letter
 returns-then-is_lock_letter c =
     let a = c.args in
-    c.lock_fields.ensures ∙ stage_then (is_lock_letter a.letter) (lock_fields a.letter a.thread) (field (λ v. last (value_end value_width a.letter a.thread v))) a.at (drop a.at a.s.now) (sym c.is_lock_letter.ensures ∙ c.if-is_lock_letter.true)
+    c.lock_fields.ensures ∙ stage_then (is_lock_letter a.line.letter) (lock_fields a.line.letter a.line.thread) (field (λ v. last (value_end value_width a.line.letter a.line.thread v))) a.line.next (drop a.line.next a.s.now) (sym c.is_lock_letter.ensures ∙ c.if-is_lock_letter.true)
 
 pub returns-in_err-r : goal.returns-in_err-r
 returns-in_err-r c =
     let a = c.args in
     c.from_residual.ensures
-    ∙ sym (stage_bad (λ v. last (value_end value_width a.letter a.thread v)) (λ n. refl) a.at (drop a.at a.s.now) (sym c.number_until.ensures ∙ c.in_err-r.was))
-    ∙ stage_else (is_lock_letter a.letter) (lock_fields a.letter a.thread) (field (λ v. last (value_end value_width a.letter a.thread v))) a.at (drop a.at a.s.now) (sym c.is_lock_letter.ensures ∙ c.if-is_lock_letter.false)
+    ∙ sym (stage_bad (λ v. last (value_end value_width a.line.letter a.line.thread v)) (λ n. refl) a.line.next (drop a.line.next a.s.now) (sym c.number_until.ensures ∙ c.in_err-r.was))
+    ∙ stage_else (is_lock_letter a.line.letter) (lock_fields a.line.letter a.line.thread) (field (λ v. last (value_end value_width a.line.letter a.line.thread v))) a.line.next (drop a.line.next a.s.now) (sym c.is_lock_letter.ensures ∙ c.if-is_lock_letter.false)
 
 pub returns : goal.returns
 returns c =
     let a = c.args in
     c.value_end.ensures
-    ∙ sym (stage_number (λ v. last (value_end value_width a.letter a.thread v)) a.at a.s.now c.in_ok-r.r (sym c.number_until.ensures ∙ c.in_ok-r.was))
-    ∙ stage_else (is_lock_letter a.letter) (lock_fields a.letter a.thread) (field (λ v. last (value_end value_width a.letter a.thread v))) a.at (drop a.at a.s.now) (sym c.is_lock_letter.ensures ∙ c.if-is_lock_letter.false)
+    ∙ sym (stage_number (λ v. last (value_end value_width a.line.letter a.line.thread v)) a.line.next a.s.now c.in_ok-r.r (sym c.number_until.ensures ∙ c.in_ok-r.was))
+    ∙ stage_else (is_lock_letter a.line.letter) (lock_fields a.line.letter a.line.thread) (field (λ v. last (value_end value_width a.line.letter a.line.thread v))) a.line.next (drop a.line.next a.s.now) (sym c.is_lock_letter.ensures ∙ c.if-is_lock_letter.false)

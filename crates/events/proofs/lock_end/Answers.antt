@@ -6,9 +6,9 @@ use Rattle.events.proofs.lock_end.Goals as goal
 pub returns-in_err-r : goal.returns-in_err-r
 returns-in_err-r c =
     let a = c.args in
-    rw (number_line (λ l. right a.letter a.thread l (pos 0)) a.at (drop a.at a.s.now), sym c.number_until.ensures ∙ c.in_err-r.was) c.from_residual.ensures
+    rw (number_line (λ l. right a.line.letter a.line.thread l (pos 0)) a.line.next (drop a.line.next a.s.now), sym c.number_until.ensures ∙ c.in_err-r.was) c.from_residual.ensures
 
 pub returns : goal.returns
 returns c =
     let a = c.args in
-    rw (number_line (λ l. right a.letter a.thread l (pos 0)) a.at (drop a.at a.s.now), sym c.number_until.ensures ∙ c.in_ok-r.was)
+    rw (number_line (λ l. right a.line.letter a.line.thread l (pos 0)) a.line.next (drop a.line.next a.s.now), sym c.number_until.ensures ∙ c.in_ok-r.was)

@@ -7,22 +7,22 @@ use Rattle.events.proofs.StageLaws.{stage_bad, stage_number}
 use Rattle.events.proofs.LineLaws.{stage_then, stage_else}
 use Rattle.events.proofs.lock_fields.Goals as goal
 
-pub returns-then-letter-ne70 : goal.returns-then-letter-ne70
-returns-then-letter-ne70 c =
+pub returns-then-line-ne70 : goal.returns-then-line-ne70
+returns-then-line-ne70 c =
     let a = c.args in
     c.lock_end.ensures
-    ∙ stage_else (eqb a.letter F) (field (λ l. last (notify_end a.letter a.thread l))) (last (lock_end a.letter a.thread)) a.at (drop a.at a.s.now) (ne_eqb _ _ c.if-letter-ne70.true)
+    ∙ stage_else (eqb a.line.letter F) (field (λ l. last (notify_end a.line.letter a.line.thread l))) (last (lock_end a.line.letter a.line.thread)) a.line.next (drop a.line.next a.s.now) (ne_eqb _ _ c.if-line-ne70.true)
 
 pub returns-in_err-r : goal.returns-in_err-r
 returns-in_err-r c =
     let a = c.args in
     c.from_residual.ensures
-    ∙ sym (stage_bad (λ l. last (notify_end a.letter a.thread l)) (λ n. refl) a.at (drop a.at a.s.now) (sym c.number_until.ensures ∙ c.in_err-r.was))
-    ∙ stage_then (eqb a.letter F) (field (λ l. last (notify_end a.letter a.thread l))) (last (lock_end a.letter a.thread)) a.at (drop a.at a.s.now) (eq-eqb _ _ c.if-letter-ne70.false)
+    ∙ sym (stage_bad (λ l. last (notify_end a.line.letter a.line.thread l)) (λ n. refl) a.line.next (drop a.line.next a.s.now) (sym c.number_until.ensures ∙ c.in_err-r.was))
+    ∙ stage_then (eqb a.line.letter F) (field (λ l. last (notify_end a.line.letter a.line.thread l))) (last (lock_end a.line.letter a.line.thread)) a.line.next (drop a.line.next a.s.now) (eq-eqb _ _ c.if-line-ne70.false)
 
 pub returns : goal.returns
 returns c =
     let a = c.args in
     c.notify_end.ensures
-    ∙ sym (stage_number (λ l. last (notify_end a.letter a.thread l)) a.at a.s.now c.in_ok-r.r (sym c.number_until.ensures ∙ c.in_ok-r.was))
-    ∙ stage_then (eqb a.letter F) (field (λ l. last (notify_end a.letter a.thread l))) (last (lock_end a.letter a.thread)) a.at (drop a.at a.s.now) (eq-eqb _ _ c.if-letter-ne70.false)
+    ∙ sym (stage_number (λ l. last (notify_end a.line.letter a.line.thread l)) a.line.next a.s.now c.in_ok-r.r (sym c.number_until.ensures ∙ c.in_ok-r.was))
+    ∙ stage_then (eqb a.line.letter F) (field (λ l. last (notify_end a.line.letter a.line.thread l))) (last (lock_end a.line.letter a.line.thread)) a.line.next (drop a.line.next a.s.now) (eq-eqb _ _ c.if-line-ne70.false)

@@ -10,11 +10,11 @@ use Rattle.events.proofs.notify_end.Goals as goal
 pub returns-in_err-r : goal.returns-in_err-r
 returns-in_err-r c =
     let a = c.args in
-    rw (number_line (λ u. right a.letter a.thread a.place (pos (capped u))) a.at (drop a.at a.s.now), sym c.number_until.ensures ∙ c.in_err-r.was) c.from_residual.ensures
+    rw (number_line (λ u. right a.line.letter a.line.thread a.line.place (pos (capped u))) a.line.next (drop a.line.next a.s.now), sym c.number_until.ensures ∙ c.in_err-r.was) c.from_residual.ensures
 
 pub returns : goal.returns
 returns c =
     let a = c.args in
     let e = rw c.cap.ensures at c.from.ensures in
     let v = to_z-of_z value_width (pos (capped c.in_ok-r.r.number)) (record { sfits = omega (arith, capped_low c.in_ok-r.r.number) }) in
-    rw (number_line (λ u. right a.letter a.thread a.place (pos (capped u))) a.at (drop a.at a.s.now), sym c.number_until.ensures ∙ c.in_ok-r.was, e, v)
+    rw (number_line (λ u. right a.line.letter a.line.thread a.line.place (pos (capped u))) a.line.next (drop a.line.next a.s.now), sym c.number_until.ensures ∙ c.in_ok-r.was, e, v)
