@@ -1,5 +1,5 @@
 -- The memories after the last event, from the words.
-use Rattle.std.specs.Prelude.{ℕ, zero, suc, ◌/◌, ◌%◌, false, cond, List, [], ◌∷◌, ◌++◌, ℤ, pos, replicate}
+use Rattle.std.specs.Prelude.{ℕ, zero, suc, ◌/◌, ◌%◌, cond, List, [], ◌∷◌, ◌++◌, ℤ}
 use Rattle.rules.specs.declared.Cached.{Cached}
 use Rattle.rules.specs.declared.Counts.{Counts}
 use Rattle.rules.specs.declared.Main.{Main}
@@ -46,7 +46,3 @@ cached_in w i = let t = i / full.variables in let v = i % full.variables in reco
 
 unfoldable pub memories_of : Words → Memories
 memories_of w = record { main = from (main_in w) 0 full.variables; copies = from (cached_in w) 0 cell_count }
-
--- after a refusal
-abbrev pub no_memories : Memories
-no_memories = record { main = replicate full.variables (record { value = pos 0 }); copies = replicate cell_count (record { value = pos 0; usable = false }) }

@@ -120,10 +120,11 @@ pub type Verdict = Result<(), Refusal>;
 // ---- Kinds and letters.
 
 // A number held at 255, which no head declares.
+#[tactic(auto, unfolding(crate::specs::Events::capped))]
 pub fn cap(n: usize) -> u32
     ensures { result ≡ capped n }
 {
-    if n < 255 { n as u32 } else { 255 }
+    n.min(255) as u32
 }
 
 // The thread that a number in the place of a value names; a negative one names none.
@@ -134,6 +135,7 @@ pub fn thread_of(x: Value) -> usize
 }
 
 // The kind with this letter: the thirteen letters; every other byte names none.
+#[tactic(auto, unfolding(crate::specs::Events::kind_of))]
 pub fn kind_of(letter: u8, place: usize, value: Value) -> Option<Kind>
     ensures { result ≡ kind_of letter place value }
 {
@@ -163,6 +165,7 @@ pub fn is_letter(k: u8) -> bool
 }
 
 // Whether a letter is that of a lock event.
+#[tactic(auto, unfolding(crate::specs::Events::is_lock_letter))]
 pub fn is_lock_letter(k: u8) -> bool
     ensures { result ≡ is_lock_letter k }
 {
@@ -195,19 +198,15 @@ pub fn place_of(k: Kind) -> usize
     ensures { result ≡ place k }
 {
     match k {
-        Kind::Use(v, _) => v,
-        Kind::Assign(v, _) => v,
-        Kind::Load(v, _) => v,
-        Kind::Store(v, _) => v,
-        Kind::Read(v, _) => v,
-        Kind::Write(v, _) => v,
-        Kind::Lock(l) => l,
-        Kind::Unlock(l) => l,
-        Kind::PrescientStore(v, _) => v,
-        Kind::PrescientAssign(v, _) => v,
-        Kind::Wait(l) => l,
-        Kind::Notify(l, _) => l,
-        Kind::Resume(l) => l,
+        Kind::Use(v, _)
+        | Kind::Assign(v, _)
+        | Kind::Load(v, _)
+        | Kind::Store(v, _)
+        | Kind::Read(v, _)
+        | Kind::Write(v, _)
+        | Kind::PrescientStore(v, _)
+        | Kind::PrescientAssign(v, _) => v,
+        Kind::Lock(l) | Kind::Unlock(l) | Kind::Wait(l) | Kind::Notify(l, _) | Kind::Resume(l) => l,
     }
 }
 
@@ -216,23 +215,21 @@ pub fn value_of(k: Kind) -> Value
     ensures { result ≡ value k }
 {
     match k {
-        Kind::Use(_, x) => x,
-        Kind::Assign(_, x) => x,
-        Kind::Load(_, x) => x,
-        Kind::Store(_, x) => x,
-        Kind::Read(_, x) => x,
-        Kind::Write(_, x) => x,
-        Kind::Lock(_) => 0,
-        Kind::Unlock(_) => 0,
-        Kind::PrescientStore(_, x) => x,
-        Kind::PrescientAssign(_, x) => x,
-        Kind::Wait(_) => 0,
-        Kind::Notify(_, u) => cap(u) as Value,
-        Kind::Resume(_) => 0,
+        Kind::Use(_, x)
+        | Kind::Assign(_, x)
+        | Kind::Load(_, x)
+        | Kind::Store(_, x)
+        | Kind::Read(_, x)
+        | Kind::Write(_, x)
+        | Kind::PrescientStore(_, x)
+        | Kind::PrescientAssign(_, x) => x,
+        Kind::Lock(_) | Kind::Unlock(_) | Kind::Wait(_) | Kind::Resume(_) => 0,
+        Kind::Notify(_, u) => Value::from(cap(u)),
     }
 }
 
 // The thread whose waiting an event with this letter, thread and value is about.
+#[tactic(auto, unfolding(crate::specs::Events::subject_of))]
 pub fn subject_of(k: u8, t: usize, x: Value) -> usize
     ensures { result ≡ subject_of k t x }
 {
@@ -262,10 +259,11 @@ pub fn most_counts(course: Course) -> Counts
 }
 
 // Whether variable v is volatile.
+#[tactic(auto, unfolding(crate::specs::Limits::volatile))]
 pub fn is_volatile(h: Counts, v: usize) -> bool
     ensures { result ≡ volatile h v }
 {
-    if v < VARIABLES { h.volatiles[v] } else { false }
+    v < VARIABLES && h.volatiles[v]
 }
 
 // Whether some variable is volatile: there is a V line.
@@ -287,13 +285,12 @@ pub fn is_allowed(course: Course, h: Counts) -> bool
     ensures { result ≡ allowed (limits_of course) h }
 {
     let most = most_counts(course);
-    let stray = stray_volatile(h);
     (1 <= h.threads)
         & (h.threads <= most.threads)
         & (1 <= h.variables)
         & (h.variables <= most.variables)
         & (h.locks <= most.locks)
-        & !stray
+        & !stray_volatile(h)
 }
 
 // The most events of a course.
@@ -320,28 +317,26 @@ pub fn excess_of(course: Course) -> u8
 pub fn is_declared(h: Counts, e: Event) -> bool
     ensures { result ≡ declared h e }
 {
-    let kind = e.kind;
-    let place = place_of(kind);
-    let k = letter_of(kind);
-    let subject = subject_of(k, e.thread, value_of(kind));
-    if is_lock_letter(k) {
-        return (e.thread < h.threads) & ((subject < h.threads) & (place < h.locks));
-    }
-    (e.thread < h.threads) & ((subject < h.threads) & (place < h.variables))
+    let k = letter_of(e.kind);
+    let subject = subject_of(k, e.thread, value_of(e.kind));
+    let places = if is_lock_letter(k) {
+        h.locks
+    } else {
+        h.variables
+    };
+    (e.thread < h.threads) & ((subject < h.threads) & (place_of(e.kind) < places))
 }
 
 // The line of the event after n events.
+#[tactic(auto, unfolding(crate::specs::Limits::first_line))]
 pub fn line_after(h: Counts, n: u32) -> usize
     ensures { result ≡ line_after h n }
 {
-    if any_volatile(h) {
-        n as usize + 4
-    } else {
-        n as usize + 3
-    }
+    n as usize + if any_volatile(h) { 4 } else { 3 }
 }
 
 // 7, where no order is wanted: places lent for records, bytes lent for output.
+#[tactic(auto, unfolding(crate::specs::Limits::lent_short))]
 pub fn is_lent_short(records: usize, out: usize) -> bool
     ensures { result ≡ lent_short full records out }
 {
@@ -349,6 +344,7 @@ pub fn is_lent_short(records: usize, out: usize) -> bool
 }
 
 // 7, where an order is wanted, also these: places lent for the order list and the scratch.
+#[tactic(auto, unfolding(crate::specs::Limits::order_short))]
 pub fn is_order_short(list: usize, scratch: usize) -> bool
     ensures { result ≡ order_short full list scratch }
 {
