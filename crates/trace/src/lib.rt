@@ -123,8 +123,8 @@ fn is_dash(s: &[u8]) -> bool
 }
 
 // Line 2, without its end.
-fn read_guards(s: &[u8], variables: usize, locks: usize) -> Option<Guards>
-    ensures { result ≡ guards_of variables locks (split_on 32 s.now) }
+fn read_guards(s: &[u8], h: Counts) -> Option<Guards>
+    ensures { result ≡ guards_of h.variables h.locks (split_on 32 s.now) }
 {
     if lines::read_letter(lines::field(s, 0)) != b'G' {
         return None;
@@ -132,10 +132,10 @@ fn read_guards(s: &[u8], variables: usize, locks: usize) -> Option<Guards>
     if is_dash(s) {
         return Some(None);
     }
-    if lines::count_fields(s) - 1 != variables {
+    if lines::count_fields(s) - 1 != h.variables {
         return None;
     }
-    let guards = read_locks(s, locks)?;
+    let guards = read_locks(s, h.locks)?;
     Some(Some(guards))
 }
 
@@ -178,10 +178,7 @@ fn find_second(s: &[u8], at: usize, head: Counts) -> Result<Trace, Refusal>
     if rest.len() <= b {
         return Err(Refusal { number: 6, line: 2 });
     }
-    let guards = read_guards(&rest[..b], head.variables, head.locks).ok_or(Refusal {
-        number: 6,
-        line: 2,
-    })?;
+    let guards = read_guards(&rest[..b], head).ok_or(Refusal { number: 6, line: 2 })?;
     Ok(Trace {
         head,
         guards,
