@@ -28,6 +28,16 @@ pub struct LastLine {
     pub number: Option<usize>,
 }
 
+const TOO_LONG: Refusal = Refusal { number: 1, line: 0 };
+
+const WRONG_TRAILER: Refusal = Refusal { number: 2, line: 0 };
+
+const WRONG_HEAD: Refusal = Refusal { number: 3, line: 1 };
+
+const WRONG_GUARDS: Refusal = Refusal { number: 6, line: 2 };
+
+const WRONG_VOLATILES: Refusal = Refusal { number: 6, line: 3 };
+
 // The number of a trailer, a line without its end.
 fn trailer_number(s: &[u8]) -> Option<usize>
     ensures { result ≡ trailer_number (split_on 32 s.now) }
@@ -101,7 +111,7 @@ fn read_within(f: &[u8], low: usize, high: usize) -> Option<usize>
     decimal::read_natural(f).filter(|n| low <= *n && *n < high)
 }
 
-// The locks of the variables, each one of `locks` locks, behind the first field. A place that there is not gets no lock.
+// The locks of the variables, each one of `locks` locks, behind the first field. A lock past the last place is left out.
 fn read_locks(s: &[u8], locks: usize) -> Option<[usize; VARIABLES]>
     ensures { result ≡ locks_from 0 no_locks locks (drop 1 (split_on 32 s.now)) }
 {
@@ -139,7 +149,7 @@ fn read_guards(s: &[u8], h: Counts) -> Option<Guards>
     Some(Some(guards))
 }
 
-// The rising numbers of volatile variables behind the first field. A number that has no place names none.
+// The rising numbers of volatile variables behind the first field. A number past the last place sets no flag.
 fn read_flags(s: &[u8], variables: usize) -> Option<[bool; VARIABLES]>
     ensures { result ≡ volatiles_from variables 0 no_volatiles (drop 1 (split_on 32 s.now)) }
 {
@@ -176,9 +186,9 @@ fn find_second(s: &[u8], at: usize, head: Counts) -> Result<Trace, Refusal>
     let rest = &s[at..];
     let b = lines::find(rest, b'\n');
     if rest.len() <= b {
-        return Err(Refusal { number: 6, line: 2 });
+        return Err(WRONG_GUARDS);
     }
-    let guards = read_guards(&rest[..b], head).ok_or(Refusal { number: 6, line: 2 })?;
+    let guards = read_guards(&rest[..b], head).ok_or(WRONG_GUARDS)?;
     Ok(Trace {
         head,
         guards,
@@ -193,9 +203,9 @@ fn find_first(course: Course, s: &[u8]) -> Result<Trace, Refusal>
 {
     let a = lines::find(s, b'\n');
     if s.len() <= a {
-        return Err(Refusal { number: 3, line: 1 });
+        return Err(WRONG_HEAD);
     }
-    let head = read_head(&s[..a]).ok_or(Refusal { number: 3, line: 1 })?;
+    let head = read_head(&s[..a]).ok_or(WRONG_HEAD)?;
     if !rules::is_allowed(course, head) {
         return Err(Refusal {
             number: rules::excess_of(course),
@@ -211,9 +221,9 @@ fn find_plain(course: Course, s: &[u8]) -> Result<Trace, Refusal>
     ensures { result ≡ plain_trace_of (limits_of course) s.now }
 {
     if 65536 < s.len() {
-        return Err(Refusal { number: 1, line: 0 });
+        return Err(TOO_LONG);
     }
-    let to = find_trailer(s).ok_or(Refusal { number: 2, line: 0 })?;
+    let to = find_trailer(s).ok_or(WRONG_TRAILER)?;
     find_first(course, &s[..to])
 }
 
@@ -234,10 +244,7 @@ pub fn find(course: Course, s: &[u8]) -> Result<Trace, Refusal>
         return Ok(t);
     }
     let b = lines::find(rest, b'\n');
-    let volatiles = read_volatiles(&rest[..b], t.head.variables).ok_or(Refusal {
-        number: 6,
-        line: 3,
-    })?;
+    let volatiles = read_volatiles(&rest[..b], t.head.variables).ok_or(WRONG_VOLATILES)?;
     Ok(Trace {
         head: Counts {
             volatiles,
