@@ -6,12 +6,12 @@ use mathlib.Core.Bool.{Bool, true, false, cond}
 use mathlib.Core.List.{List, [], ◌∷◌, ◌++◌, map, map-append, reverse}
 use mathlib.Core.Option.{some}
 use lib.IntN.{pos}
+use Rattle.std.proofs.lemmas.Simd.{map-map}
 use lib.ListN.{get_or, replicate}
 use Rattle.rules.specs.declared.Cached.{Cached}
 use Rattle.rules.specs.declared.Counts.{Counts}
 use Rattle.rules.specs.declared.Event.{Event}
 use Rattle.rules.specs.declared.Kind.TheVariants.{Assign, Store, Write, Unlock, PrescientAssign}
-use Rattle.rules.specs.declared.Slot.{Slot}
 use Rattle.rules.specs.Events.{A, B, L, N, S, W, letter, place, value}
 use Rattle.rules.specs.Limits.{cell_number}
 use Rattle.rules.specs.Memories.{below, each, cached_in, memories_of}
@@ -20,13 +20,13 @@ use Rattle.rules.specs.Ten.{AllTen, ten_words_of}
 use Rattle.rules.specs.Words.{stores, reads, pending, fresh, announced}
 use Rattle.rules.proofs.From.{from_at, each_same}
 use Rattle.rules.proofs.Ten.{ten_words}
-use Rattle.records.specs.Records.{packed, value_in}
+use Rattle.records.specs.Records.{packed}
 use Rattle.records.proofs.RowLaws.{Small}
 use Rattle.tails.specs.Tails.{Move, move, numbered, write, load, closes, settles, frees, moves_of}
 use Rattle.finishing.specs.declared.Entry.{Entry}
 use Rattle.finishing.specs.declared.Facts.{Facts}
 use Rattle.finishing.specs.Computed.Parts.{entry_of, rest_in, storing, assigning, closing, cell_entries, no_copy, cells_entries, lock_entries, thread_entries, tail_entries}
-use Rattle.finishing.proofs.EventScans.{facts_of, facts_are, depth_is}
+use Rattle.finishing.proofs.EventScans.{pairs, pairs_whats, facts_of, facts_are, depth_is}
 use Rattle.finishing.proofs.EventRests.{value_at, stores_are, reads_are}
 
 -- the record of a move
@@ -41,10 +41,6 @@ map_each f g (n ∷ ns) = map-append f (g n) (each g ns) ∙ ap (λ (l : List _)
 map_replicate : {A B : Type 0} (f : A → B) (n : ℕ) (x : A) → map f (replicate n x) ≡ replicate n (f x)
 map_replicate f zero x = refl
 map_replicate f (suc n) x = ap (λ (l : List _). f x ∷ l) (map_replicate f n x)
-
-map_twice : {A B C : Type 0} (f : B → C) (g : A → B) (h : A → C) → ((x : A) → f (g x) ≡ h x) → (l : List A) → map f (map g l) ≡ map h l
-map_twice f g h q [] = refl
-map_twice f g h q (x ∷ l) = ap₂ (λ (y : _) (ys : List _). y ∷ ys) (q x) (map_twice f g h q l)
 
 -- ---- one thread and variable, one thread and lock
 
@@ -69,18 +65,18 @@ module _ (es : List Event) (s : Small es) (t v : ℕ) where
       go false true false = refl
       go false false u = refl
 
-  cell_is : cell_entries copy_of t v (map packed es) (map value_in es) ≡ map record_of (settles w t v)
+  cell_is : cell_entries copy_of t v (pairs es) ≡ map record_of (settles w t v)
   unfolding cell_entries settles words_of
   cell_is =
       ap made (facts_are es s t v)
       ∙ (λ i. map (entry_of W t v) (stores_are es s t v i) ++ (closing_is i ++ map (entry_of L t v) (reads_are es s t v i)))
-      ∙ (λ i. map_twice (entry_of W t v) value_at (λ (x : Slot). record_of (write t v x)) (λ x. refl) (stores t v past) i ++ (map record_of (closes w t v) ++ map_twice (entry_of L t v) value_at (λ (x : Slot). record_of (load t v x)) (λ x. refl) (reads t v past) i))
-      ∙ sym (λ i. map_twice record_of (write t v) (λ (x : Slot). record_of (write t v x)) (λ x. refl) (stores t v past) i ++ (map record_of (closes w t v) ++ map_twice record_of (load t v) (λ (x : Slot). record_of (load t v x)) (λ x. refl) (reads t v past) i))
+      ∙ (λ i. map-map (entry_of W t v) value_at (stores t v past) i ++ (map record_of (closes w t v) ++ map-map (entry_of L t v) value_at (reads t v past) i))
+      ∙ sym (λ i. map-map record_of (write t v) (stores t v past) i ++ (map record_of (closes w t v) ++ map-map record_of (load t v) (reads t v past) i))
       ∙ ap (λ (l : List Entry). map record_of (map (write t v) (stores t v past)) ++ l) (sym (map-append record_of (closes w t v) (map (load t v) (reads t v past))))
       ∙ sym (map-append record_of (map (write t v) (stores t v past)) (closes w t v ++ map (load t v) (reads t v past)))
     where
       made : Facts → List Entry
-      made f = map (entry_of W t v) (rest_in W t v f.writes (map packed es) (map value_in es)) ++ (closing f copy_of t v ++ map (entry_of L t v) (rest_in L t v f.loads (map packed es) (map value_in es)))
+      made f = map (entry_of W t v) (rest_in W t v f.writes (pairs es)) ++ (closing f copy_of t v ++ map (entry_of L t v) (rest_in L t v f.loads (pairs es)))
 
   lock_is : AllTen (map some past) → lock_entries t (map packed es) v ≡ map record_of (frees w t v)
   unfolding lock_entries frees words_of ten_words_of
@@ -102,16 +98,16 @@ module _ (h : Counts) (es : List Event) (s : Small es) (a : AllTen (map some (re
       let q : (16 * t + v) % 16 ≡ v = omega arith in
       from_at (cached_in words) no_copy 0 128 (16 * t + v) (omega arith) ∙ ap (cached_in words) z ∙ (λ k. record { value = words.copy (p k) (q k); usable = words.usable (p k) (q k) })
 
-  thread_is : (t : ℕ) → t < h.threads → thread_entries h (memories_of words).copies (map packed es) (map value_in es) t ≡ map record_of (each (settles words t) (below h.variables) ++ each (frees words t) (below h.locks))
+  thread_is : (t : ℕ) → t < h.threads → thread_entries h (memories_of words).copies (pairs es) t ≡ map record_of (each (settles words t) (below h.variables) ++ each (frees words t) (below h.locks))
   unfolding thread_entries cells_entries
   thread_is t i =
       ap₂ (λ (x y : List Entry). x ++ y)
-      (each_same _ (λ v. map record_of (settles words t v)) h.variables (λ v j. ap (λ (c : Cached). cell_entries c t v (map packed es) (map value_in es)) (copy_at t v (omega arith) (omega arith)) ∙ cell_is es s t v)
+      (each_same _ (λ v. map record_of (settles words t v)) h.variables (λ v j. ap (λ (c : Cached). cell_entries c t v (pairs es)) (copy_at t v (omega arith) (omega arith)) ∙ cell_is es s t v)
       ∙ sym (map_each record_of (settles words t) (below h.variables)))
-      (each_same _ (λ l. map record_of (frees words t l)) h.locks (λ l j. lock_is es s t l a) ∙ sym (map_each record_of (frees words t) (below h.locks)))
+      (ap (λ (ws : List ℕ). each (lock_entries t ws) (below h.locks)) (pairs_whats es) ∙ each_same _ (λ l. map record_of (frees words t l)) h.locks (λ l j. lock_is es s t l a) ∙ sym (map_each record_of (frees words t) (below h.locks)))
       ∙ sym (map-append record_of (each (settles words t) (below h.variables)) (each (frees words t) (below h.locks)))
 
-  pub entries_are : tail_entries h (memories_of words).copies (map packed es) (map value_in es) ≡ map record_of (moves_of h words)
+  pub entries_are : tail_entries h (memories_of words).copies (pairs es) ≡ map record_of (moves_of h words)
   unfolding tail_entries moves_of
   entries_are =
       each_same _ (λ t. map record_of (each (settles words t) (below h.variables) ++ each (frees words t) (below h.locks))) h.threads thread_is

@@ -1,17 +1,16 @@
 -- A scan of the rows of a list of events gives the word that the events give.
-use Prim.Native.Nat.{ℕ, zero, suc, pred, ◌+◌, ◌≤◌, ◌<◌}
+use Prim.Native.Nat.{ℕ, suc, pred, ◌+◌, ◌<◌}
 use native.Mathlib.Omega.{arith}
 use native.Mathlib.Numerals.{add-one}
-use mathlib.Core.Path.{◌≡◌, refl, sym, ap, ap₂, ◌∙◌}
+use mathlib.Core.Path.{◌≡◌, refl, sym, ap, ◌∙◌}
 use mathlib.Core.Bool.{Bool, true, false, not, cond, ◌&&◌, ◌||◌}
-use mathlib.Core.List.{List, [], ◌∷◌, map, reverse, reverse-append}
+use mathlib.Core.List.{List, [], ◌∷◌, map, reverse, reverse_aux}
 use mathlib.Core.Option.{Option, some}
 use lib.Dec.{eqb}
-use lib.IntN.{ℤ, pos}
-use lib.ListN.{length, get_or, take, length-map}
-use lib.Seq.{take-suc, take_all}
+use lib.IntN.{ℤ}
+use Rattle.std.specs.List.{fold, zip}
+use Rattle.std.proofs.Math.Bool.{or-false}
 use Rattle.rules.specs.declared.Event.{Event}
-use Rattle.rules.specs.declared.Kind.TheVariants.{Lock}
 use Rattle.rules.specs.Events.{A, B, C, F, K, L, N, P, S, W, Y, letter, place, value, is, of, on}
 use Rattle.rules.specs.Words.{latest, value_in as value_of, letter_in as letters_of, count, by, fresh, pending, announced}
 use Rattle.rules.specs.Ten.{ten_depth}
@@ -19,48 +18,36 @@ use Rattle.records.specs.Records.{packed, value_in, letter_in}
 use Rattle.records.proofs.RecordLaws.{packed_letter, thread_back, place_back}
 use Rattle.records.proofs.RowLaws.{Small}
 use Rattle.rules.proofs.Letters.{capped_same, eqb_turn}
-use Rattle.finishing.specs.declared.Entry.{Entry}
 use Rattle.finishing.specs.declared.Facts.{Facts}
 use Rattle.finishing.specs.Tail.{some_new}
-use Rattle.finishing.specs.Computed.Parts.{entry, scanned, here, only_here, facts_after, facts_in, depth_after, hold_after, depth_in, new_after, any_new}
+use Rattle.finishing.specs.Computed.Parts.{entry, here, only_here, facts_after, facts_in, depth_after, hold_after, depth_in, new_letter, any_new, whats_of}
 
 -- thread and place are below 255
 abbrev pub Fits : Event → Type 0
 Fits e = (e.thread < 255) × (place e.kind < 255)
 
-no_event : Event
-no_event = record { thread = 0; line = 0; kind = Lock 0 }
+-- the records of events with their values
+abbrev pub pairs : List Event → List (ℕ × ℤ)
+pairs es = map (λ e. (packed e, value_in e)) es
+
+pub pairs_whats : (es : List Event) → whats_of (pairs es) ≡ map packed es
+pairs_whats [] = refl
+pairs_whats (e ∷ es) = ap (λ (ws : List ℕ). packed e ∷ ws) (pairs_whats es)
+
+pub pairs_zip : (es : List Event) → zip (map packed es) (map value_in es) ≡ pairs es
+pairs_zip [] = refl
+pairs_zip (e ∷ es) = ap (λ (rs : List (ℕ × ℤ)). (packed e, value_in e) ∷ rs) (pairs_zip es)
 
 -- ---- any scan
 
-module _ {X : Type 0} (f : Entry → X → X) (word : List Event → X) (step : (e : Event) (past : List Event) → Fits e → f (entry (packed e) (value_in e)) (word past) ≡ word (e ∷ past)) (es : List Event) (s : Small es) where
-  at_map : {A B : Type 0} (g : A → B) (l : List A) (d : A) (z : B) (i : ℕ) → i < length l → get_or (map g l) i z ≡ g (get_or l i d)
-  at_map g [] d z i h = absurd (omega arith)
-  at_map g (x ∷ l) d z zero h = refl
-  at_map g (x ∷ l) d z (suc i) h = at_map g l d z i (omega arith)
+-- f says what one record more makes of a word of the events; each record is what g gives of its event
+module _ {X R : Type 0} (f : X → R → X) (g : Event → R) (word : List Event → X) (step : (e : Event) (past : List Event) → Fits e → f (word past) (g e) ≡ word (e ∷ past)) where
+  scan_onto : (es past : List Event) → Small es → fold f (word past) (map g es) ≡ word (reverse_aux es past)
+  scan_onto [] past s = refl
+  scan_onto (e ∷ es) past s = ap (λ (x : X). fold f x (map g es)) (step e past (s.0, s.2)) ∙ scan_onto es (e ∷ past) s.3
 
-  small_at : (l : List Event) → Small l → (i : ℕ) → i < length l → Fits (get_or l i no_event)
-  small_at [] s i h = absurd (omega arith)
-  small_at (e ∷ l) s zero h = (s.0, s.2)
-  small_at (e ∷ l) s (suc i) h = small_at l s.3 i (omega arith)
-
-  scan_first : (i : ℕ) → i ≤ length es → scanned f (word []) (map packed es) (map value_in es) i ≡ word (reverse (take i es))
-  unfolding scanned
-  scan_first zero h = refl
-  scan_first (suc i) h =
-      let e = get_or es i no_event in
-      ap₂ f (ap₂ entry (at_map packed es no_event 0 i h) (at_map value_in es no_event (pos 0) i h)) (scan_first i (omega arith))
-      ∙ step e (reverse (take i es)) (small_at es s i h)
-      ∙ ap word (sym (reverse-append (take i es) (e ∷ [])) ∙ ap reverse (sym (take-suc es i no_event h)))
-
-  pub scan_all : scanned f (word []) (map packed es) (map value_in es) (length (map packed es)) ≡ word (reverse es)
-  scan_all = ap (scanned f (word []) (map packed es) (map value_in es)) (length-map es packed) ∙ scan_first (length es) (omega arith) ∙ ap (λ (l : List Event). word (reverse l)) (take_all (length es) es (omega arith))
-
--- one that looks at no value
-blind : {X : Type 0} (f : Entry → X → X) → ((w : ℕ) (a b : ℤ) (x : X) → f (entry w a) x ≡ f (entry w b) x) → (x : X) (ws : List ℕ) (xs ys : List ℤ) (i : ℕ) → scanned f x ws xs i ≡ scanned f x ws ys i
-unfolding scanned
-blind f q x ws xs ys zero = refl
-blind f q x ws xs ys (suc i) = ap (f (entry (get_or ws i 0) (get_or xs i (pos 0)))) (blind f q x ws xs ys i) ∙ q (get_or ws i 0) (get_or xs i (pos 0)) (get_or ys i (pos 0)) (scanned f x ws ys i)
+  pub scan_all : (es : List Event) → Small es → fold f (word []) (map g es) ≡ word (reverse es)
+  scan_all es s = scan_onto es [] s
 
 -- ---- the record of an event
 
@@ -177,29 +164,32 @@ module _ (t v : ℕ) (e : Event) (past : List Event) (s : Fits e) where
       both false true false d = refl
       both false false false d = refl
 
-new_more : (e : Event) (past : List Event) → new_after (entry (packed e) (value_in e)) (some_new past) ≡ some_new (e ∷ past)
-unfolding new_after some_new is
-new_more e past = rw (packed_letter e, eqb_turn (letter e.kind) Y, eqb_turn (letter e.kind) F, eqb_turn (letter e.kind) C) (ap (λ (z : Bool). (eqb Y (letter e.kind) || (eqb F (letter e.kind) || z)) || some_new past) (none (eqb C (letter e.kind))))
-  where
-    none : (b : Bool) → b ≡ (b || false)
-    none true = refl
-    none false = refl
-
 -- ---- the words of the rows of a list of events
 
 module _ (es : List Event) (s : Small es) where
-  pub facts_are : (t v : ℕ) → facts_in t v (map packed es) (map value_in es) ≡ facts_of t v (reverse es)
+  pub facts_are : (t v : ℕ) → facts_in t v (pairs es) ≡ facts_of t v (reverse es)
   unfolding facts_in pending announced fresh latest count letters_of value_of
-  facts_are t v = scan_all (only_here t v facts_after) (facts_of t v) (facts_more t v) es s
+  facts_are t v = scan_all (λ f r. only_here t v facts_after (entry r.0 r.1) f) (λ e. (packed e, value_in e)) (facts_of t v) (facts_more t v) es s
 
   pub depth_is : (t l : ℕ) → depth_in t l (map packed es) ≡ ten_depth t l (reverse es)
   unfolding depth_in ten_depth
-  depth_is t l =
-      blind (hold_after t l) (λ w a b x. refl) 0 (map packed es) [] (map value_in es) (length (map packed es))
-      ∙ scan_all (hold_after t l) (ten_depth t l) (depth_more t l) es s
+  depth_is t l = scan_all (hold_after t l) packed (ten_depth t l) (depth_more t l) es s
 
-  pub new_is : any_new (map packed es) ≡ some_new (reverse es)
-  unfolding any_new some_new new_after
-  new_is =
-      blind new_after (λ w a b x. refl) false (map packed es) [] (map value_in es) (length (map packed es))
-      ∙ scan_all new_after some_new (λ e past f. new_more e past) es s
+-- a Y, F or C is among them in either order
+turn : (n m a : Bool) → (m || (n || a)) ≡ ((n || m) || a)
+turn true true a = refl
+turn true false a = refl
+turn false m a = refl
+
+new_one : (e : Event) → new_letter (letter_in (packed e)) ≡ is (Y ∷ F ∷ C ∷ []) e
+unfolding is
+new_one e = rw (packed_letter e, eqb_turn (letter e.kind) Y, eqb_turn (letter e.kind) F, eqb_turn (letter e.kind) C) (ap (λ (z : Bool). eqb Y (letter e.kind) || (eqb F (letter e.kind) || z)) (sym (or-false (eqb C (letter e.kind)))))
+
+new_onto : (es past : List Event) → (some_new past || any_new (map packed es)) ≡ some_new (reverse_aux es past)
+unfolding some_new any_new
+new_onto [] past = or-false (some_new past)
+new_onto (e ∷ es) past = ap (λ (z : Bool). some_new past || (z || any_new (map packed es))) (new_one e) ∙ turn (is (Y ∷ F ∷ C ∷ []) e) (some_new past) (any_new (map packed es)) ∙ new_onto es (e ∷ past)
+
+pub new_is : (es : List Event) → any_new (map packed es) ≡ some_new (reverse es)
+unfolding some_new
+new_is es = new_onto es []

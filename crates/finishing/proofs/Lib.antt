@@ -1,6 +1,5 @@
 pub mod Adding
 pub mod Scans
-pub mod Resting
 pub mod EventScans
 pub mod EventRests
 pub mod Entries

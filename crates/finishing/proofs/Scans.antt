@@ -1,61 +1,77 @@
--- Scans of two rows, one record after the other; and of the rows of a list of events they give the word that the events give.
-use Prim.Native.Nat.{ℕ, zero, suc, ◌+◌, ◌≤◌}
+-- Scans of records, one after the other.
+use Prim.Native.Nat.{ℕ, zero, suc, pred, ◌+◌, ◌≤◌, ◌<◌}
 use native.Mathlib.Omega.{arith}
 use mathlib.Core.Path.{◌≡◌, refl, sym, ap, ◌∙◌}
 use mathlib.Core.Bool.{Bool, true, false, cond}
-use mathlib.Core.List.{List}
+use mathlib.Core.List.{List, [], ◌∷◌, ◌++◌}
 use lib.Dec.{eqb}
-use lib.IntN.{ℤ, pos}
-use lib.ListN.{length, get_or}
-use Rattle.rules.specs.Events.{K, N}
-use native.Mathlib.Numerals.{add-one}
+use lib.IntN.{ℤ}
+use lib.ListN.{length, get_or, take, length-append}
+use Rattle.std.specs.List.{fold, zip}
+use Rattle.std.proofs.lemmas.List.{take_more}
+use Rattle.std.proofs.lemmas.List.Sums.{fold_push}
+use Rattle.std.proofs.lemmas.Slice.Zip.{firsts-zip}
+use Rattle.rules.specs.Events.{K, L, N, W}
 use Rattle.records.specs.Records.{letter_in}
-use Rattle.finishing.specs.declared.Entry.{Entry}
 use Rattle.finishing.specs.declared.Facts.{Facts}
-use Rattle.finishing.specs.Computed.Parts.{entry, scanned, here, only_here, facts_after, depth_after}
+use Rattle.finishing.specs.Computed.Parts.{entry, here, only_here, facts_after, no_facts, facts_in, depth_after, hold_after, depth_in, whats_of}
 
--- ---- the loops
+-- records with their values, without them
+pub whats_are : (ws : List ℕ) (xs : List ℤ) (rs : List (ℕ × ℤ)) → zip ws xs ≡ rs → length xs ≡ length ws → ws ≡ whats_of rs
+whats_are ws xs rs q l = sym (firsts-zip ws xs l) ∙ ap whats_of q
 
-module _ {X : Type 0} (f : Entry → X → X) (x : X) (ws : List ℕ) (xs : List ℤ) where
-  pub scan_start : x ≡ scanned f x ws xs 0
-  unfolding scanned
-  scan_start = refl
+-- ---- the facts of a thread and variable
 
-  pub scan_more : (i : ℕ) (y z : X) → y ≡ scanned f x ws xs i → z ≡ f (entry (get_or ws i 0) (get_or xs i (pos 0))) y → z ≡ scanned f x ws xs (i + 1)
-  unfolding scanned
-  scan_more i y z p q = q ∙ ap (f (entry (get_or ws i 0) (get_or xs i (pos 0)))) p ∙ sym (ap (scanned f x ws xs) (add-one i))
-
-  pub scan_end : (i : ℕ) (y : X) → i ≤ length ws → length ws ≤ i → y ≡ scanned f x ws xs i → y ≡ scanned f x ws xs (length ws)
-  scan_end i y a b p = p ∙ ap (scanned f x ws xs) {x = i} {y = length ws} (omega arith)
-
--- how many loads and writes there are at most
 module _ (t v : ℕ) where
-  pub record Few (f : Facts) (i : ℕ) : Type 0 where
-    pub loads : f.loads ≤ i
-    pub writes : f.writes ≤ i
+  -- the facts after these records; there are no more loads and writes than records
+  pub record Scanned (rs : List (ℕ × ℤ)) (f : Facts) : Type 0 where
+    pub says : f ≡ facts_in t v rs
+    pub loads : f.loads ≤ length rs
+    pub writes : f.writes ≤ length rs
 
-  pub few_more : (e : Entry) (f : Facts) (i : ℕ) → Few f i → Few (only_here t v facts_after e f) (i + 1)
+  pub scanned_start : (f : Facts) → f ≡ no_facts → Scanned [] f
+  unfolding facts_in
+  scanned_start f q = record { says = q; loads = omega (arith, ap (λ (k : Facts). k.loads) q); writes = omega (arith, ap (λ (k : Facts). k.writes) q) }
+
+  -- one record more, of t on v or not
+  more : (rs : List (ℕ × ℤ)) (f g : Facts) (w : ℕ) (x : ℤ) → Scanned rs f → g ≡ only_here t v facts_after (entry w x) f → (g.loads ≤ f.loads + 1) × (g.writes ≤ f.writes + 1) → Scanned (rs ++ ((w, x) ∷ [])) g
+  unfolding facts_in
+  more rs f g w x s q b = record {
+    says = q ∙ ap (only_here t v facts_after (entry w x)) s.says ∙ sym (fold_push (λ y r. only_here t v facts_after (entry r.0 r.1) y) no_facts rs (w, x));
+    loads = omega (arith, b, s.loads, length-append rs ((w, x) ∷ []));
+    writes = omega (arith, b, s.writes, length-append rs ((w, x) ∷ []));
+  }
+
+  pub scanned_here : (rs : List (ℕ × ℤ)) (f g : Facts) (w : ℕ) (x : ℤ) → Scanned rs f → here t v w ≡ true → g ≡ facts_after (entry w x) f → Scanned (rs ++ ((w, x) ∷ [])) g
   unfolding facts_after
-  few_more e f i k = go (here t v e.what) (eqb (letter_in e.what) 76) (eqb (letter_in e.what) 87)
+  scanned_here rs f g w x s h q = more rs f g w x s (q ∙ rw h refl) few
     where
       one : (b : Bool) → cond b 1 0 ≤ 1
       one true = omega arith
       one false = omega arith
 
-      go : (b l w : Bool) → Few (cond b (facts_after e f) f) (i + 1)
-      go true l w = record { loads = omega (arith, k.loads, one (eqb (letter_in e.what) 76)); writes = omega (arith, k.writes, one (eqb (letter_in e.what) 87)) }
-      go false l w = record { loads = omega (arith, k.loads); writes = omega (arith, k.writes) }
+      few : (g.loads ≤ f.loads + 1) × (g.writes ≤ f.writes + 1)
+      few = (omega (arith, ap (λ (k : Facts). k.loads) q, one (eqb (letter_in w) L)), omega (arith, ap (λ (k : Facts). k.writes) q, one (eqb (letter_in w) W)))
 
-pub depth_few : (k d i : ℕ) (b : Bool) → d ≤ i → cond b (depth_after k d) d ≤ i + 1
-unfolding depth_after
-depth_few k d i b h = go b (eqb k K) (eqb k N)
-  where
-    less : (m : ℕ) → m ≤ i → Prim.Native.Nat.pred m ≤ i + 1
-    less zero q = omega arith
-    less (suc m) q = omega arith
+  pub scanned_other : (rs : List (ℕ × ℤ)) (f : Facts) (w : ℕ) (x : ℤ) → Scanned rs f → here t v w ≡ false → Scanned (rs ++ ((w, x) ∷ [])) f
+  scanned_other rs f w x s h = more rs f f w x s (rw h refl) (omega arith, omega arith)
 
-    go : (b c e : Bool) → cond b (cond c (suc d) (cond e (Prim.Native.Nat.pred d) d)) d ≤ i + 1
-    go true true e = omega arith
-    go true false true = less d h
-    go true false false = omega arith
-    go false c e = omega arith
+-- ---- how often a thread holds a lock
+
+module _ (t l : ℕ) where
+  pub hold_few : (d w : ℕ) → hold_after t l d w ≤ d + 1
+  unfolding depth_after
+  hold_few d w = go d (here t l w) (eqb (letter_in w) K) (eqb (letter_in w) N)
+    where
+      go : (d : ℕ) (b p q : Bool) → cond b (cond p (suc d) (cond q (pred d) d)) d ≤ d + 1
+      go d true true q = omega arith
+      go zero true false true = omega arith
+      go (suc d) true false true = omega arith
+      go d true false false = omega arith
+      go d false p q = omega arith
+
+  pub depth_more : (ws : List ℕ) (i d e : ℕ) → i < length ws → d ≡ depth_in t l (take i ws) → e ≡ hold_after t l d (get_or ws i 0) → e ≡ depth_in t l (take (i + 1) ws)
+  unfolding depth_in
+  depth_more ws i d e h p q =
+      q ∙ ap (λ (n : ℕ). hold_after t l n (get_or ws i 0)) p ∙ sym (fold_push (hold_after t l) 0 (take i ws) (get_or ws i 0))
+      ∙ ap (fold (hold_after t l) 0) (sym (take_more ws i 0 h))

@@ -12,7 +12,7 @@ use Rattle.rules.specs.Limits.{Limits, UpToFull, any_volatile}
 use Rattle.rules.specs.Rules.{accepted, refused, words_of, Accepted}
 use Rattle.rules.proofs.Bounds.{allowed_bounds, allowed_full}
 use Rattle.rules.proofs.Laws.{or_false_left}
-use Rattle.trace.specs.Trace.{trace_of}
+use Rattle.trace.specs.Trace.{head_in, trace_of}
 use Rattle.marking.specs.Marking.{marked_of, past_of}
 use Rattle.marking.proofs.Whole.{head_allowed, past_clean}
 use Rattle.tails.specs.Tails.{finished, Shortest}
@@ -23,11 +23,11 @@ use Rattle.finishing.proofs.Answers.{Tailed, past_ten_law, tail_few, verdict_ref
 module _ (m : Limits) (u : UpToFull m) (s : List ℕ) where
   module _ (a : marked_of m s ≡ accepted) (q : tailless m s ≡ false) where
     -- One always exists. It is legal, leaves nothing outstanding, fresh, owed or held, and no such tail has fewer events; and its lines.
-    pub paper_shortest : Shortest (trace_of m s).head (past_of m s) (tail_of m s)
+    pub paper_shortest : Shortest (head_in (trace_of m s)) (past_of m s) (tail_of m s)
     unfolding tail_of tailless
     paper_shortest =
-        accepted_shortest m (trace_of m s).head (past_of m s) u.excess (allowed_bounds (trace_of m s).head (allowed_full m (trace_of m s).head u (head_allowed m s a))).1
-        (or_false_left (any_volatile (trace_of m s).head) (some_new (past_of m s)) q) (past_ten_law m u s a q) (past_clean m s)
+        accepted_shortest m (head_in (trace_of m s)) (past_of m s) u.excess (allowed_bounds (head_in (trace_of m s)) (allowed_full m (head_in (trace_of m s)) u (head_allowed m s a))).1
+        (or_false_left (any_volatile (head_in (trace_of m s))) (some_new (past_of m s)) q) (past_ten_law m u s a q) (past_clean m s)
 
     -- it has at most 2,256 events (and `tail_reached` has events whose tail has so many)
     pub paper_room : length (tail_of m s) ≤ 2256
@@ -35,8 +35,8 @@ module _ (m : Limits) (u : UpToFull m) (s : List ℕ) where
 
     -- within the limit of events the trace with its tail is accepted, and then nothing is left
     pub paper_finished : length (reverse_aux (tail_of m s) (past_of m s)) ≤ m.events
-        → T (Accepted m (trace_of m s).head (reverse_aux (tail_of m s) (past_of m s))) × (finished (trace_of m s).head (words_of (reverse_aux (tail_of m s) (past_of m s))) ≡ true)
-    paper_finished b = let f = paper_shortest.finishes in (tail_accepted m (trace_of m s).head (past_of m s) (tail_of m s) f b, f.done)
+        → T (Accepted m (head_in (trace_of m s)) (reverse_aux (tail_of m s) (past_of m s))) × (finished (head_in (trace_of m s)) (words_of (reverse_aux (tail_of m s) (past_of m s))) ≡ true)
+    paper_finished b = let f = paper_shortest.finishes in (tail_accepted m (head_in (trace_of m s)) (past_of m s) (tail_of m s) f b, f.done)
 
   -- a tail is given exactly then; otherwise the trace's own refusal, or 24 at line 0
   pub given_exact : (places : ℕ) → (tail_verdict m s places ≡ accepted) ↔ HasTail m s places

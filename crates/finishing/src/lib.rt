@@ -2,45 +2,46 @@
 // and the copies that it leaves: thread by thread, its variables and then its locks.
 #![tactic(auto)]
 
-ghost use Rattle.std.specs.Prelude.{◌≡◌, cond, ◌&&◌, ◌||◌, [], ◌∷◌, map, ◌≤◌, ◌<◌, length, replicate, take, eqb, pos};
-ghost use Rattle.rules.specs.Events.{B, N, P};
+ghost use Rattle.std.specs.Prelude.{◌≡◌, ◌||◌, [], ◌∷◌, map, ◌≤◌, ◌<◌, length, replicate, take, pos, slice_index_or};
+ghost use Rattle.std.specs.List.{zip};
+ghost use Rattle.rules.specs.Events.{N};
 ghost use Rattle.rules.specs.Limits.{limits_of, any_volatile};
 ghost use Rattle.rules.specs.Memories.{below, each};
 ghost use Rattle.records.specs.Records.{letter_in};
 ghost use Rattle.finishing.specs.Tail.{Gives};
 ghost use Rattle.finishing.specs.Computed.Parts.{
   here,
-  only_here,
   facts_after,
   facts_in,
-  feeds,
-  rest_in,
   depth_after,
   depth_in,
   any_new,
-  Adds,
+  feeds,
+  rest_in,
   entry_of,
-  storing,
   assigning,
   closing,
-  cell_entries,
   cells_entries,
   lock_entries,
+  whats_of,
+  thread_entries,
   tail_entries,
+  filled,
+  added,
 };
+ghost use Rattle.finishing.specs.Computed.Filled.{Adds};
 
-use rules::{CELLS, Cached, Counts, Course, RECORDS, VARIABLES, Value, Verdict};
+use rules::{CELLS, Cached, Counts, Course, RECORDS, Refusal, VARIABLES, Value};
+use std::marker::Model;
 
 // The most events of a tail.
 pub const TAIL: usize = 2256;
 
-// What is said of the tail of a trace. `answer_of` in specs/Tail.antt says when each case is given, with its number and values.
+// How many events a tail has, and the line of the first.
 #[derive(Clone, Copy)]
-pub enum Tail {
-    // It has so many events, and the first of them this line.
-    Given(usize, usize),
-    // There is none: a number and a line.
-    Refused(u8, usize),
+pub struct Tail {
+    pub events: usize,
+    pub line: usize,
 }
 
 // An event as its record and its value.
@@ -50,400 +51,299 @@ struct Entry {
     value: Value,
 }
 
-// ---- What the records say of a thread and its variable or lock.
-
-// Whether a record is of thread t on variable or lock p.
-fn is_here(w: u32, t: usize, p: usize) -> bool
-    ensures { result ≡ here t p w }
-{
-    (records::thread_in(w) == t) & (records::place_in(w) == p)
+// A thread, and one of its variables or locks.
+#[derive(Clone, Copy)]
+struct Key {
+    thread: usize,
+    place: usize,
 }
 
+impl Key {
+    // Whether a record is of this thread on this variable or lock.
+    #[tactic(auto, unfolding(crate::specs::Computed::Parts::here))]
+    fn matches(self, what: u32) -> bool
+        ensures { result ≡ here self.thread self.place what }
+    {
+        records::thread_in(what) == self.thread && records::place_in(what) == self.place
+    }
+
+    // Whether a record is one that a letter pairs with: an S or P with W, an R with L.
+    #[tactic(auto, unfolding(crate::specs::Computed::Parts::feeds))]
+    fn feeds(self, letter: u8, what: u32) -> bool
+        ensures { result ≡ feeds letter self.thread self.place what }
+    {
+        self.matches(what)
+            && match records::letter_in(what) {
+                b'S' | b'P' => letter == b'W',
+                b'R' => letter == b'L',
+                _ => false,
+            }
+    }
+
+    // The event with a letter and a value.
+    fn entry(self, letter: u8, value: Value) -> Entry
+        ensures { result ≡ entry_of letter self.thread self.place value }
+    {
+        Entry {
+            what: records::what_of(letter, self.thread, self.place),
+            value,
+        }
+    }
+}
+
+// ---- What the records say of a thread and its variable or lock.
+
 // Whether an assign is pending, and its announced value; whether the copy is fresh; how many loads and writes there are.
-#[derive(Clone, Copy)]
+#[derive(Clone, Copy, Default)]
 struct Facts {
     pending: bool,
     announced: Value,
     fresh: bool,
-    loads: u32,
-    writes: u32,
+    loads: usize,
+    writes: usize,
 }
 
-fn one(b: bool) -> u32
-    ensures { result ≡ cond b 1 0 }
-{
-    if b { 1 } else { 0 }
-}
-
-// The value of a P is announced.
-fn announced_after(e: Entry, f: Facts, k: u8) -> Value
-    ensures { result ≡ cond (eqb k P) e.value f.announced }
-{
-    if k == b'P' { e.value } else { f.announced }
-}
-
-// The facts of thread t and variable v after one record more.
-fn facts_after(t: usize, v: usize, e: Entry, f: Facts) -> Facts
-    requires { (f.loads < 65536) × (f.writes < 65536) }
-    ensures { result ≡ only_here t v facts_after e f }
-{
-    if !is_here(e.what, t, v) {
-        return f;
+impl Facts {
+    // The facts after one record more of the same thread and variable.
+    #[tactic(auto, unfolding(crate::specs::Computed::Parts::facts_after))]
+    fn after(self, e: Entry) -> Facts
+        requires { (self.loads < 65536) × (self.writes < 65536) }
+        ensures { result ≡ facts_after e self }
+    {
+        match records::letter_in(e.what) {
+            b'P' => Facts {
+                pending: true,
+                announced: e.value,
+                ..self
+            },
+            b'B' => Facts {
+                pending: false,
+                fresh: false,
+                ..self
+            },
+            b'A' => Facts {
+                fresh: true,
+                ..self
+            },
+            b'S' => Facts {
+                fresh: false,
+                ..self
+            },
+            b'L' => Facts {
+                loads: self.loads + 1,
+                ..self
+            },
+            b'W' => Facts {
+                writes: self.writes + 1,
+                ..self
+            },
+            _ => self,
+        }
     }
-    let k = records::letter_in(e.what);
-    Facts {
-        pending: (k == b'P') | (f.pending & !(k == b'B')),
-        announced: announced_after(e, f, k),
-        fresh: (k == b'A') | (f.fresh & !((k == b'B') | (k == b'S'))),
-        loads: f.loads + one(k == b'L'),
-        writes: f.writes + one(k == b'W'),
+}
+
+// How often a thread holds a lock after one record more of both, where K and N alone lock and unlock.
+#[tactic(auto, unfolding(crate::specs::Computed::Parts::depth_after))]
+fn depth_after(what: u32, depth: u32) -> u32
+    requires { depth < 65536 }
+    ensures { result ≡ depth_after (letter_in what) depth }
+{
+    match records::letter_in(what) {
+        b'K' => depth + 1,
+        b'N' => depth.saturating_sub(1),
+        _ => depth,
     }
 }
 
-// The facts of thread t and variable v.
-fn facts_of(what: &[u32], value: &[Value], t: usize, v: usize) -> Facts
-    requires { (length what.now ≤ 2000) × (length what.now ≤ length value.now) }
-    ensures { result ≡ facts_in t v what.now value.now }
-{
-    let mut f = Facts {
-        pending: false,
-        announced: 0,
-        fresh: false,
-        loads: 0,
-        writes: 0,
-    };
-    let mut i: usize = 0;
-    while i < what.len() {
-        let e = Entry {
-            what: what[i],
-            value: value[i],
+// The records of an accepted trace, with the value of each beside it. A clause sees them as pairs.
+#[derive(Drop)]
+struct Rows<'a> {
+    what: &'a [u32],
+    value: &'a [Value],
+}
+
+impl<'a> Model for Rows<'a> {
+    ghost use Rattle.std.specs.Prelude.{◌≡◌, ◌≤◌, ℕ, ℤ, List, length};
+    ghost use Rattle.std.specs.List.{zip};
+
+    ghost Value = { List (ℕ × ℤ) };
+
+    ghost view = { λ r. zip r.what.now r.value.now };
+
+    ghost invariant = { λ r. (length r.value.now ≡ length r.what.now) × (length r.what.now ≤ 2000) };
+}
+
+impl<'a> Rows<'a> {
+    // The facts of a thread and variable.
+    fn facts_of(&self, key: Key) -> Facts
+        ensures { result ≡ facts_in key.thread key.place self.now }
+    {
+        let mut facts = Facts::default();
+        for (&what, &value) in self.what.iter().zip(self.value) {
+            if key.matches(what) {
+                facts = facts.after(Entry { what, value });
+            }
+        }
+        facts
+    }
+
+    // How often a thread holds a lock.
+    fn depth_of(&self, key: Key) -> u32
+        ensures { result ≡ depth_in key.thread key.place (whats_of self.now) }
+    {
+        let mut depth = 0;
+        for &what in self.what {
+            if key.matches(what) {
+                depth = depth_after(what, depth);
+            }
+        }
+        depth
+    }
+
+    // Whether one of the records is a Y, F or C.
+    fn any_new(&self) -> bool
+        ensures { result ≡ any_new (whats_of self.now) }
+    {
+        self.what.iter().any(|what| matches!(records::letter_in(*what), b'Y' | b'F' | b'C'))
+    }
+
+    // Puts the writes of the outstanding stores, letter a W, or the loads of the outstanding reads, letter an L: of all but the first `skip`.
+    fn put_rest(&self, key: Key, letter: u8, skip: usize, out: &mut Out)
+        ensures { Adds (map (entry_of letter key.thread key.place) (rest_in letter key.thread key.place skip self.now)) out.old out.new }
+    {
+        let fed = self
+            .what
+            .iter()
+            .zip(self.value)
+            .filter(|(what, _)| key.feeds(letter, **what));
+        for (_, &value) in fed.skip(skip) {
+            out.put(key.entry(letter, value));
+        }
+    }
+}
+
+// ---- The tail's records, into two rows.
+
+// Two rows with so many records at their front.
+#[derive(Drop)]
+struct Out<'a> {
+    whats: &'a mut [u32],
+    values: &'a mut [Value],
+    count: usize,
+}
+
+impl<'a> Out<'a> {
+    // Puts one record more; one that has no place is left out.
+    fn put(&mut self, e: Entry)
+        ensures { Adds (e ∷ []) self.old self.new }
+    {
+        let n = self.count;
+        if n < self.whats.len() && n < self.values.len() {
+            self.whats[n] = e.what;
+            self.values[n] = e.value;
+            self.count = n + 1;
+        }
+    }
+
+    // Puts the store and the write of a fresh copy, after an assign where it is not usable.
+    fn put_fresh(&mut self, copy: Cached, key: Key)
+        ensures { Adds (assigning copy key.thread key.place) self.old self.new }
+    {
+        if !copy.usable {
+            self.put(key.entry(b'A', copy.value));
+        }
+        self.put(key.entry(b'S', copy.value));
+        self.put(key.entry(b'W', copy.value));
+    }
+
+    // Puts the pending assign, or what a fresh copy asks for.
+    fn put_closing(&mut self, facts: Facts, copy: Cached, key: Key)
+        ensures { Adds (closing facts copy key.thread key.place) self.old self.new }
+    {
+        if facts.pending {
+            self.put(key.entry(b'B', facts.announced));
+        } else if facts.fresh {
+            self.put_fresh(copy, key);
+        }
+    }
+
+    // Puts the unlocks of so many holds.
+    fn put_unlocks(&mut self, key: Key, depth: u32)
+        ensures { Adds (replicate depth (entry_of N key.thread key.place (pos 0))) self.old self.new }
+    {
+        for _ in 0..depth {
+            self.put(key.entry(b'N', 0));
+        }
+    }
+}
+
+// An accepted trace: its head, the copies that it leaves, and its records.
+#[derive(Drop)]
+struct Accepted<'a> {
+    head: Counts,
+    copies: &'a [Cached; CELLS],
+    rows: Rows<'a>,
+    ghost allowed: { (head.threads ≤ 8) × (head.variables ≤ 16) },
+}
+
+impl<'a> Accepted<'a> {
+    // Puts what settles a variable for a thread.
+    fn finish_cell(&self, key: Key, out: &mut Out)
+        requires { (key.thread < 8) × (key.place < 16) }
+        ensures { Adds (cells_entries self.now.copies.now key.thread self.now.rows key.place) out.old out.new }
+    {
+        let facts = self.rows.facts_of(key);
+        let copy = self.copies[VARIABLES * key.thread + key.place];
+        self.rows.put_rest(key, b'W', facts.writes, out);
+        out.put_closing(facts, copy, key);
+        self.rows.put_rest(key, b'L', facts.loads, out);
+    }
+
+    // Puts what settles the variables for a thread.
+    fn finish_cells(&self, thread: usize, out: &mut Out)
+        requires { thread < 8 }
+        ensures { Adds (each (cells_entries self.now.copies.now thread self.now.rows) (below self.now.head.variables)) out.old out.new }
+    {
+        for place in 0..self.head.variables {
+            self.finish_cell(Key { thread, place }, out);
+        }
+    }
+
+    // Puts what gives up the locks of a thread.
+    fn finish_locks(&self, thread: usize, out: &mut Out)
+        ensures { Adds (each (lock_entries thread (whats_of self.now.rows)) (below self.now.head.locks)) out.old out.new }
+    {
+        for place in 0..self.head.locks {
+            let key = Key { thread, place };
+            out.put_unlocks(key, self.rows.depth_of(key));
+        }
+    }
+
+    // Puts the tail.
+    fn finish(&self, out: &mut Out)
+        ensures { Adds (tail_entries self.now.head self.now.copies.now self.now.rows) out.old out.new }
+    {
+        for thread in 0..self.head.threads {
+            self.finish_cells(thread, out);
+            self.finish_locks(thread, out);
+        }
+    }
+
+    // Puts the tail to the front of two rows; how many events it has there.
+    fn fill(&self, whats: &mut [u32], values: &mut [Value]) -> usize
+        ensures { filled result whats.new values.new ≡ added (tail_entries self.now.head self.now.copies.now self.now.rows) (filled 0 whats.old values.old) }
+    {
+        let mut out = Out {
+            whats,
+            values,
+            count: 0,
         };
-        f = facts_after(t, v, e, f);
-        i += 1;
+        self.finish(&mut out);
+        out.count
     }
-    f
-}
-
-// How often thread t holds lock l after one record more, where K and N alone lock and unlock.
-fn depth_after(t: usize, l: usize, w: u32, d: u32) -> u32
-    requires { d < 65536 }
-    ensures { result ≡ cond (here t l w) (depth_after (letter_in w) d) d }
-{
-    if !is_here(w, t, l) {
-        return d;
-    }
-    let k = records::letter_in(w);
-    if k == b'K' {
-        return d + 1;
-    }
-    if k == b'N' {
-        return if d == 0 { 0 } else { d - 1 };
-    }
-    d
-}
-
-// How often thread t holds lock l.
-fn depth_of(what: &[u32], t: usize, l: usize) -> u32
-    requires { length what.now ≤ 2000 }
-    ensures { result ≡ depth_in t l what.now }
-{
-    let mut d: u32 = 0;
-    let mut i: usize = 0;
-    while i < what.len() {
-        d = depth_after(t, l, what[i], d);
-        i += 1;
-    }
-    d
-}
-
-// Whether one of the records is a Y, F or C.
-fn any_new(what: &[u32]) -> bool
-    ensures { result ≡ any_new what.now }
-{
-    let mut any = false;
-    let mut i: usize = 0;
-    while i < what.len() {
-        let k = records::letter_in(what[i]);
-        any = ((k == b'Y') | ((k == b'F') | (k == b'C'))) | any;
-        i += 1;
-    }
-    any
-}
-
-// ---- The tail's records, into two rows. The functions answer how many stand there then; what has no place is left out.
-
-fn put(whats: &mut [u32], values: &mut [Value], n: usize, e: Entry) -> usize
-    ensures { Adds (e ∷ []) n whats.old values.old result whats.new values.new }
-{
-    if n < whats.len() {
-        if n < values.len() {
-            let x = e.value;
-            whats[n] = e.what;
-            values[n] = x;
-            return n + 1;
-        }
-    }
-    n
-}
-
-// Whether a record of thread t on variable v is one that letter k pairs with: an S or P with W, an R with L.
-fn feeds(k: u8, t: usize, v: usize, w: u32) -> bool
-    ensures { result ≡ feeds k t v w }
-{
-    let j = records::letter_in(w);
-    is_here(w, t, v) & (((k == b'W') & ((j == b'S') | (j == b'P'))) | ((k == b'L') & (j == b'R')))
-}
-
-// The writes of the outstanding stores of thread t on variable v, k a W, or the loads of its outstanding reads, k an L: of all but the first `skip`.
-fn put_rest(
-    what: &[u32],
-    value: &[Value],
-    t: usize,
-    v: usize,
-    k: u8,
-    skip: u32,
-    whats: &mut [u32],
-    values: &mut [Value],
-    n: usize,
-) -> usize
-    requires { length what.now ≤ length value.now }
-    ensures { Adds (map (entry_of k t v) (rest_in k t v skip what.now value.now)) n whats.old values.old result whats.new values.new }
-{
-    let w = records::what_of(k, t, v);
-    let mut left = skip;
-    let mut c = n;
-    let mut i: usize = 0;
-    while i < what.len() {
-        if !feeds(k, t, v, what[i]) {
-            i += 1;
-        } else if left == 0 {
-            let e = Entry {
-                what: w,
-                value: value[i],
-            };
-            c = put(whats, values, c, e);
-            i += 1;
-        } else {
-            left -= 1;
-            i += 1;
-        }
-    }
-    c
-}
-
-// The pending assign of thread t on variable v.
-fn announced_entry(f: Facts, t: usize, v: usize) -> Entry
-    ensures { result ≡ entry_of B t v f.announced }
-{
-    Entry {
-        what: records::what_of(b'B', t, v),
-        value: f.announced,
-    }
-}
-
-// The event with letter k and the value of the copy.
-fn copy_entry(k: u8, copy: Cached, t: usize, v: usize) -> Entry
-    ensures { result ≡ entry_of k t v copy.value }
-{
-    Entry {
-        what: records::what_of(k, t, v),
-        value: copy.value,
-    }
-}
-
-// The store and the write of the copy.
-fn put_stored(
-    copy: Cached,
-    t: usize,
-    v: usize,
-    whats: &mut [u32],
-    values: &mut [Value],
-    n: usize,
-) -> usize
-    ensures { Adds (storing copy t v) n whats.old values.old result whats.new values.new }
-{
-    let c = put(whats, values, n, copy_entry(b'S', copy, t, v));
-    put(whats, values, c, copy_entry(b'W', copy, t, v))
-}
-
-// The same of a fresh copy, after an assign where it is not usable.
-fn put_fresh(
-    copy: Cached,
-    t: usize,
-    v: usize,
-    whats: &mut [u32],
-    values: &mut [Value],
-    n: usize,
-) -> usize
-    ensures { Adds (assigning copy t v) n whats.old values.old result whats.new values.new }
-{
-    if copy.usable {
-        return put_stored(copy, t, v, whats, values, n);
-    }
-    let c = put(whats, values, n, copy_entry(b'A', copy, t, v));
-    put_stored(copy, t, v, whats, values, c)
-}
-
-// The pending assign; or what a fresh copy asks for.
-fn put_closing(
-    f: Facts,
-    copy: Cached,
-    t: usize,
-    v: usize,
-    whats: &mut [u32],
-    values: &mut [Value],
-    n: usize,
-) -> usize
-    ensures { Adds (closing f copy t v) n whats.old values.old result whats.new values.new }
-{
-    if f.pending {
-        return put(whats, values, n, announced_entry(f, t, v));
-    }
-    if f.fresh {
-        return put_fresh(copy, t, v, whats, values, n);
-    }
-    n
-}
-
-// What settles variable v for thread t.
-fn finish_cell(
-    what: &[u32],
-    value: &[Value],
-    copy: Cached,
-    t: usize,
-    v: usize,
-    whats: &mut [u32],
-    values: &mut [Value],
-    n: usize,
-) -> usize
-    requires { (length what.now ≤ 2000) × (length what.now ≤ length value.now) }
-    ensures { Adds (cell_entries copy t v what.now value.now) n whats.old values.old result whats.new values.new }
-{
-    let f = facts_of(what, value, t, v);
-    let a = put_rest(what, value, t, v, b'W', f.writes, whats, values, n);
-    let b = put_closing(f, copy, t, v, whats, values, a);
-    put_rest(what, value, t, v, b'L', f.loads, whats, values, b)
-}
-
-// What settles the first m variables for thread t.
-fn finish_cells(
-    what: &[u32],
-    value: &[Value],
-    copies: [Cached; CELLS],
-    t: usize,
-    m: usize,
-    whats: &mut [u32],
-    values: &mut [Value],
-    n: usize,
-) -> usize
-    requires what_len_bound { (length what.now ≤ 2000) × (length what.now ≤ length value.now) }
-    requires t_bound { (t < 8) × (m ≤ 16) }
-    ensures { Adds (each (cells_entries copies t what.now value.now) (below m)) n whats.old values.old result whats.new values.new }
-{
-    let mut c = n;
-    let mut v: usize = 0;
-    while v < m {
-        let i = VARIABLES * t + v;
-        let copy = copies[i];
-        c = finish_cell(what, value, copy, t, v, whats, values, c);
-        v += 1;
-    }
-    c
-}
-
-// The unlocks of d holds of thread t on lock l.
-fn put_unlocks(
-    t: usize,
-    l: usize,
-    d: u32,
-    whats: &mut [u32],
-    values: &mut [Value],
-    n: usize,
-) -> usize
-    ensures { Adds (replicate d (entry_of N t l (pos 0))) n whats.old values.old result whats.new values.new }
-{
-    let w = records::what_of(b'N', t, l);
-    let mut c = n;
-    let mut i: u32 = 0;
-    while i < d {
-        let e = Entry { what: w, value: 0 };
-        c = put(whats, values, c, e);
-        i += 1;
-    }
-    c
-}
-
-// Thread t gives up the first m locks.
-fn finish_locks(
-    what: &[u32],
-    t: usize,
-    m: usize,
-    whats: &mut [u32],
-    values: &mut [Value],
-    n: usize,
-) -> usize
-    requires { length what.now ≤ 2000 }
-    ensures { Adds (each (lock_entries t what.now) (below m)) n whats.old values.old result whats.new values.new }
-{
-    let mut c = n;
-    let mut l: usize = 0;
-    while l < m {
-        let d = depth_of(what, t, l);
-        c = put_unlocks(t, l, d, whats, values, c);
-        l += 1;
-    }
-    c
-}
-
-// The tail of the records of an accepted trace.
-fn finish_rows(
-    h: Counts,
-    copies: [Cached; CELLS],
-    what: &[u32],
-    value: &[Value],
-    whats: &mut [u32],
-    values: &mut [Value],
-) -> usize
-    requires what_len_bound { (length what.now ≤ 2000) × (length what.now ≤ length value.now) }
-    requires threads_bound { (h.threads ≤ 8) × (h.variables ≤ 16) }
-    ensures { Adds (tail_entries h copies what.now value.now) 0 whats.old values.old result whats.new values.new }
-{
-    let mut c: usize = 0;
-    let mut t: usize = 0;
-    while t < h.threads {
-        c = finish_cells(what, value, copies, t, h.variables, whats, values, c);
-        c = finish_locks(what, t, h.locks, whats, values, c);
-        t += 1;
-    }
-    c
-}
-
-// The same of the first n records of two rows.
-fn finish_front(
-    h: Counts,
-    copies: [Cached; CELLS],
-    n: usize,
-    what: &[u32],
-    value: &[Value],
-    whats: &mut [u32],
-    values: &mut [Value],
-) -> usize
-    requires n_bound { (n ≤ 2000) × ((n ≤ length what.now) × (n ≤ length value.now)) }
-    requires threads_bound { (h.threads ≤ 8) × (h.variables ≤ 16) }
-    ensures { Adds (tail_entries h copies (take n what.now) (take n value.now)) 0 whats.old values.old result whats.new values.new }
-{
-    finish_rows(h, copies, &what[..n], &value[..n], whats, values)
 }
 
 // ---- The tail of a trace.
-
-// Whether there is no tail for a trace with these counts and these records: a variable is volatile, or one of the first n records is a Y, F or C.
-fn has_none(h: Counts, what: &[u32], n: usize) -> bool
-    requires { n ≤ length what.now }
-    ensures { result ≡ (any_volatile h || any_new (take n what.now)) }
-{
-    rules::any_volatile(h) | any_new(&what[..n])
-}
 
 // Puts the tail of a trace to the front of two rows that have room for every tail. A refused trace gives its own refusal; 24 where it has a V line, Y, F or C.
 pub fn make_tail(
@@ -451,41 +351,53 @@ pub fn make_tail(
     bytes: &[u8],
     whats: &mut [u32; TAIL],
     values: &mut [Value; TAIL],
-) -> Tail
+) -> Result<Tail, Refusal>
     ensures { Gives (limits_of course) bytes.now whats.old values.old result whats.new values.new }
 {
-    let mut what: [u32; RECORDS] = [0; RECORDS];
-    let mut value: [Value; RECORDS] = [0; RECORDS];
-    let m = marking::mark(course, bytes, &mut what, &mut value);
-    let said = m.verdict;
-    if let Verdict::Refused(number, line) = said {
-        return Tail::Refused(number, line);
+    let mut what = [0; RECORDS];
+    let mut value = [0; RECORDS];
+    let marked = marking::mark(course, bytes, &mut what, &mut value)?;
+    let n = marked.events;
+    let rows = Rows {
+        what: &what[..n],
+        value: &value[..n],
+    };
+    if rules::any_volatile(marked.head) || rows.any_new() {
+        return Err(Refusal {
+            number: 24,
+            line: 0,
+        });
     }
-    let h = m.head;
-    let n = m.events;
-    if has_none(h, &what, n) {
-        return Tail::Refused(24, 0);
-    }
-    let memories = m.memories;
-    let copies = memories.copies;
-    let c = finish_front(h, copies, n, &what, &value, whats, values);
-    Tail::Given(c, rules::line_after(h, n as u32))
+    let accepted = Accepted {
+        head: marked.head,
+        copies: &marked.memories.copies,
+        rows,
+    };
+    let events = accepted.fill(whats, values);
+    let line = rules::line_after(marked.head, n as u32);
+    Ok(Tail { events, line })
 }
 
 // Puts the tail of a trace to the front of two lent rows; 24 also where one of them has too few places. All or none.
-pub fn finish(course: Course, bytes: &[u8], whats: &mut [u32], values: &mut [Value]) -> Tail
+pub fn finish(
+    course: Course,
+    bytes: &[u8],
+    whats: &mut [u32],
+    values: &mut [Value],
+) -> Result<Tail, Refusal>
     ensures { Gives (limits_of course) bytes.now whats.old values.old result whats.new values.new }
 {
-    let mut what: [u32; TAIL] = [0; TAIL];
-    let mut value: [Value; TAIL] = [0; TAIL];
-    let made = make_tail(course, bytes, &mut what, &mut value);
-    let Tail::Given(n, _) = made else {
-        return made;
-    };
-    if (whats.len() < n) | (values.len() < n) {
-        return Tail::Refused(24, 0);
+    let mut what = [0; TAIL];
+    let mut value = [0; TAIL];
+    let tail = make_tail(course, bytes, &mut what, &mut value)?;
+    let n = tail.events;
+    if whats.len() < n || values.len() < n {
+        return Err(Refusal {
+            number: 24,
+            line: 0,
+        });
     }
-    records::copy_whats(whats, &what[..n]);
-    records::copy_values(values, &value[..n]);
-    made
+    records::copy_row(whats, &what[..n]);
+    records::copy_row(values, &value[..n]);
+    Ok(tail)
 }

@@ -1,101 +1,63 @@
 -- `finishing::make_tail` meets its contract. Assumes nothing.
-use lib.ListN.{length-replicate}
-use lib.IntN.{pos}
-use Rattle.finishing.proofs.Answers.{what_long, value_long, gives_none, verdict_refused, verdict_tailless, tailless_is, few, bounds, made_gives}
-use borrow.Author.Rules.{rules}
 use native.Mathlib.Omega.{arith}
-use Prim.Native.Nat.{ℕ}
-use mathlib.Core.Path.{sym, ap, ◌∙◌, subst}
-use Rattle.finishing.specs.declared.Tail.TheVariants.{Given}
-use Rattle.finishing.specs.Tail.{Gives}
-use Rattle.rules.specs.Limits.{limits_of}
-use Rattle.rules.specs.Rules.{told}
+use borrow.Author.Rules.{rules}
+use mathlib.Core.Path.{◌≡◌, refl, sym, ap₂, ◌∙◌}
+use mathlib.Core.Bool.{Bool, true, ◌||◌, or-true}
+use lib.ListN.{take}
+use lib.Seq.{length-take-le}
+use Rattle.std.specs.List.{zip}
+use Rattle.std.proofs.lemmas.Result.{err_from_is_err_and}
+use Rattle.rules.specs.Limits.{limits_of, any_volatile}
 use Rattle.rules.proofs.Bounds.{up_to_full}
-use Rattle.marking.proofs.Handed.{is_accepted, rows_hold}
+use Rattle.finishing.specs.Computed.Parts.{any_new, whats_of}
+use Rattle.finishing.proofs.Answers.{marked_refused, handed, gives_tailless, made_gives}
 use Rattle.finishing.proofs.make_tail.Goals as goal
+use Rattle.finishing.proofs.make_tail.Goals.{then-any_volatile-via-then-any_volatile, then-any_volatile-via-else-any_volatile+then-any_new}
 
-pub returns-in-Refused : goal.returns-in-Refused
-returns-in-Refused c =
+pub returns-in_err-marked : goal.returns-in_err-marked
+returns-in_err-marked c =
     let a = c.args in
-    let m = c.mark-m in
-    gives_none (limits_of a.course) (up_to_full a.course) a.bytes.now a.whats.now a.values.now c.in-Refused.number c.in-Refused.line (verdict_refused (limits_of a.course) (up_to_full a.course) a.bytes.now _ c.in-Refused.number c.in-Refused.line (sym m.ensures.says ∙ ap told c.in-Refused.is))
-
-pub slice_bounds-has_none-end : goal.slice_bounds-has_none-end
-slice_bounds-has_none-end c =
-    let a = c.args in
-    let m = c.mark-m in
-    let u = up_to_full a.course in
     let k = limits_of a.course in
-    let e = is_accepted k u a.bytes.now _ _ m.result m.new.what m.new.value m.ensures c.in_default.is in
-    what_long k u a.bytes.now _ _ m.result m.new.what m.new.value m.ensures e (length-replicate {A = ℕ} 2000 0)
-
-pub has_none-requires : goal.has_none-requires
-has_none-requires c =
-    let a = c.args in
-    let m = c.mark-m in
     let u = up_to_full a.course in
-    let k = limits_of a.course in
-    let e = is_accepted k u a.bytes.now _ _ m.result m.new.what m.new.value m.ensures c.in_default.is in
-    (rows_hold k u a.bytes.now _ _ m.result m.new.what m.new.value m.ensures e).0
+    let p = err_from_is_err_and c.from_residual.result c.from_residual.ensures.1 in
+    rw (p.1, p.2) (marked_refused k u a.bytes.now c.in_err-marked.ensures a.whats.now a.values.now)
 
-pub returns-then-has_none : goal.returns-then-has_none
-returns-then-has_none c =
-    let a = c.args in
-    let m = c.mark-m in
-    let u = up_to_full a.course in
-    let k = limits_of a.course in
-    let s = a.bytes.now in
-    let e = is_accepted k u s _ _ m.result m.new.what m.new.value m.ensures c.in_default.is in
-    let t = sym (tailless_is k u s _ _ m.result m.new.what m.new.value m.ensures e) ∙ sym c.has_none.ensures ∙ c.if-has_none.true in
-    gives_none k u s a.whats.now a.values.now 24 0 (verdict_tailless k u s e _ t)
+pub slice_bounds-what-end : goal.slice_bounds-what-end
+slice_bounds-what-end c = (handed (limits_of c.args.course) (up_to_full c.args.course) c.args.bytes.now c.in_ok-marked.ensures).what
 
-pub slice_bounds-finish_front-end : goal.slice_bounds-finish_front-end
-slice_bounds-finish_front-end c =
-    let a = c.args in
-    let m = c.mark-m in
-    let u = up_to_full a.course in
-    let k = limits_of a.course in
-    let e = is_accepted k u a.bytes.now _ _ m.result m.new.what m.new.value m.ensures c.in_default.is in
-    what_long k u a.bytes.now _ _ m.result m.new.what m.new.value m.ensures e (length-replicate {A = ℕ} 2000 0)
+pub slice_bounds-rows-end : goal.slice_bounds-rows-end
+slice_bounds-rows-end c = sym (length-take-le _ _ (handed (limits_of c.args.course) (up_to_full c.args.course) c.args.bytes.now c.in_ok-marked.ensures).what)
 
-pub slice_bounds-finish_front-end-2 : goal.slice_bounds-finish_front-end-2
-slice_bounds-finish_front-end-2 c =
-    let a = c.args in
-    let m = c.mark-m in
-    let u = up_to_full a.course in
-    let k = limits_of a.course in
-    let e = is_accepted k u a.bytes.now _ _ m.result m.new.what m.new.value m.ensures c.in_default.is in
-    value_long k u a.bytes.now _ _ m.result m.new.what m.new.value m.ensures e (length-replicate 2000 (pos 0))
+pub slice_bounds-value-end : goal.slice_bounds-value-end
+slice_bounds-value-end c = (handed (limits_of c.args.course) (up_to_full c.args.course) c.args.bytes.now c.in_ok-marked.ensures).value
 
-pub finish_front-c-requires : goal.finish_front-c-requires
-finish_front-c-requires c =
+pub slice_bounds-rows-end-2 : goal.slice_bounds-rows-end-2
+slice_bounds-rows-end-2 c = sym (length-take-le _ _ (handed (limits_of c.args.course) (up_to_full c.args.course) c.args.bytes.now c.in_ok-marked.ensures).value)
+
+pub returns-then-any_volatile : goal.returns-then-any_volatile
+returns-then-any_volatile c =
     let a = c.args in
-    let m = c.mark-m in
-    let u = up_to_full a.course in
     let k = limits_of a.course in
-    let s = a.bytes.now in
-    let e = is_accepted k u s _ _ m.result m.new.what m.new.value m.ensures c.in_default.is in
-    record { n_bound = (few k u s _ _ m.result m.new.what m.new.value m.ensures e, rows_hold k u s _ _ m.result m.new.what m.new.value m.ensures e); threads_bound = bounds k u s _ _ m.result m.new.what m.new.value m.ensures e }
+    let u = up_to_full a.course in
+    let marking = c.in_ok-marked.marked in
+    let rows = zip (take marking.events c.mark.new.what) (take marking.events c.mark.new.value) in
+    let q : (any_volatile marking.head || any_new (whats_of rows)) ≡ true =
+    elim c.then-any_volatile.branch [
+      | then-any_volatile-via-then-any_volatile w ↦ rw (sym c.any_volatile.ensures ∙ w.if-any_volatile.true) refl
+      | then-any_volatile-via-else-any_volatile+then-any_new w ↦ rw (sym w.any_new.ensures ∙ w.if-any_new.true) (or-true (any_volatile marking.head))
+    ] in
+    gives_tailless k u a.bytes.now c.in_ok-marked.ensures q a.whats.now a.values.now
+
+pub invariant_of-accepted : goal.invariant_of-accepted
+invariant_of-accepted c =
+    let h = handed (limits_of c.args.course) (up_to_full c.args.course) c.args.bytes.now c.in_ok-marked.ensures in
+    record { allowed = (h.threads, h.variables) }
 
 pub overflow_cast-n : goal.overflow_cast-n
-overflow_cast-n c =
-    let a = c.args in
-    let m = c.mark-m in
-    let u = up_to_full a.course in
-    let k = limits_of a.course in
-    let s = a.bytes.now in
-    let e = is_accepted k u s _ _ m.result m.new.what m.new.value m.ensures c.in_default.is in
-    omega (arith, few k u s _ _ m.result m.new.what m.new.value m.ensures e)
+overflow_cast-n c = omega (arith, (handed (limits_of c.args.course) (up_to_full c.args.course) c.args.bytes.now c.in_ok-marked.ensures).few)
 
 pub returns : goal.returns
 returns c =
     let a = c.args in
-    let m = c.mark-m in
-    let f = c.finish_front-c in
-    let u = up_to_full a.course in
-    let k = limits_of a.course in
-    let s = a.bytes.now in
-    let e = is_accepted k u s _ _ m.result m.new.what m.new.value m.ensures c.in_default.is in
-    let t = sym (tailless_is k u s _ _ m.result m.new.what m.new.value m.ensures e) ∙ sym c.has_none.ensures ∙ c.if-has_none.false in
-    subst (λ (l : ℕ). Gives k s a.whats.now a.values.now (Given f.result l) f.new.whats f.new.values) (sym c.line_after.ensures)
-    (made_gives k u s _ _ m.result m.new.what m.new.value m.ensures e t a.whats.now a.values.now (search rules) (search rules) f.result f.new.whats f.new.values f.ensures)
+    let q = ap₂ (λ (x y : Bool). x || y) (sym c.any_volatile.ensures ∙ c.if-any_volatile.false) (sym c.any_new.ensures ∙ c.if-any_new.false) in
+    rw c.line_after-line.ensures (made_gives (limits_of a.course) (up_to_full a.course) a.bytes.now c.in_ok-marked.ensures q (search rules) (search rules) c.fill-events.ensures)
