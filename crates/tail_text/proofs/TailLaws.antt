@@ -1,22 +1,22 @@
 -- The text of a tail is that of its records, and 65,536 bytes have room for it.
-use Prim.Native.Nat.{ℕ, zero, suc, ◌+◌, ◌*◌, ◌≤◌, ◌<◌}
+use Prim.Native.Nat.{ℕ, ◌+◌, ◌*◌, ◌≤◌, ◌<◌}
 use native.Mathlib.Omega.{arith}
 use native.Mathlib.Nat.{mul-suc}
 use mathlib.Core.Path.{◌≡◌, refl, sym, ap, ap₂, ◌∙◌}
 use mathlib.Core.Bool.{Bool, true, false, not, ◌&&◌, cond}
-use mathlib.Core.List.{List, [], ◌∷◌, ◌++◌, map, reverse_aux, append_assoc}
+use mathlib.Core.List.{List, [], ◌∷◌, ◌++◌, map, reverse_aux}
 use mathlib.Core.Option.{some}
 use lib.Dec.{T, eqb}
-use lib.IntN.{ℤ}
-use lib.ListN.{length, take, length-append, length-map}
+use lib.IntN.{ℤ, pos}
+use Rattle.std.specs.List.{zip}
+use Rattle.std.specs.Prelude.{Ok, Err}
+use lib.ListN.{length, replicate, take, length-append}
 use Rattle.rules.specs.declared.Counts.{Counts}
 use Rattle.rules.specs.declared.Event.{Event}
 use Rattle.rules.specs.Events.{F, letter, place, value, is, on_lock, subject}
 use Rattle.rules.specs.Limits.{Limits, UpToFull, full, allowed, declared}
-use Rattle.rules.specs.Memories.{below, each}
 use Rattle.rules.specs.Rules.{Marked, accepted, refused, legal}
 use Rattle.rules.proofs.Bounds.{allowed_bounds, allowed_full, declared_bounds, subject_bound}
-use Rattle.rules.proofs.From.{each_suc}
 use Rattle.rules.proofs.Laws.{legal_known}
 use Rattle.decimal.specs.Text.{row_text, word_row, word_value, ended, room, Wrote}
 use Rattle.decimal.proofs.TextLaws.{value_short, room_yes, wrote_line, wrote_like}
@@ -24,7 +24,7 @@ use Rattle.decimal.proofs.RowLaws.{row_line_short}
 use Rattle.records.specs.Records.{packed, value_in}
 use Rattle.records.proofs.RecordLaws.{held_some, held_event_law}
 use Rattle.records.proofs.RowLaws.{Small}
-use Rattle.trace.specs.Trace.{trace_of}
+use Rattle.trace.specs.Trace.{head_in, trace_of}
 use Rattle.writer.specs.Text.{event_line, events_text}
 use Rattle.serial.specs.Lists.{All}
 use Rattle.tails.proofs.Tails.{legal_start}
@@ -34,12 +34,12 @@ use Rattle.listing.specs.Listing.{refused_line}
 use Rattle.listing.specs.Listing as listing
 use Rattle.listing.proofs.RoomEnough.{one_digit, two_digits}
 use Rattle.finishing.specs.declared.Tail.{Tail}
-use Rattle.finishing.specs.declared.Tail.TheVariants as tail
+use Rattle.rules.specs.declared.Refusal.{Refusal}
 use Rattle.finishing.specs.Tail.{tail_of, tail_verdict, Gives}
 use Rattle.finishing.proofs.Answers.{Tailed, verdict_tailed, is_refused, is_made, whats_front, values_front}
 use Rattle.finishing.proofs.Theorems.{paper_shortest, paper_room}
 use Rattle.tail_text.specs.TailText.{text_for, tail_text, tail_output}
-use Rattle.tail_text.specs.Computed.Rows.{line_room, line_for, record_text, text_at, records_text}
+use Rattle.tail_text.specs.Computed.Rows.{line_room, line_for, record_text, records_text}
 
 -- ---- the line of an event
 
@@ -61,18 +61,10 @@ line_most e h k = by (on_lock e && not (eqb (letter e.kind) F))
 
 -- ---- the lines of events
 
-each_front : {A : Type 0} (f : ℕ → List A) (n : ℕ) → each f (below (suc n)) ≡ f 0 ++ each (λ i. f (suc i)) (below n)
-each_front f zero = unfold below each in refl
-each_front f (suc n) =
-    each_suc f (suc n) ∙ ap (λ (l : List _). l ++ f (suc n)) (each_front f n) ∙ append_assoc (f 0) (each (λ i. f (suc i)) (below n)) (f (suc n))
-    ∙ ap (λ (l : List _). f 0 ++ l) (sym (each_suc (λ i. f (suc i)) n))
-
-records_are : (es : List Event) → Small es → records_text (map packed es) (map value_in es) ≡ events_text es
+records_are : (es : List Event) → Small es → records_text (zip (map packed es) (map value_in es)) ≡ events_text es
 unfolding records_text events_text
-records_are [] s = unfold below each in refl
-records_are (e ∷ es) s =
-    each_front (text_at (map packed (e ∷ es)) (map value_in (e ∷ es))) (length (map packed es))
-    ∙ ap₂ (λ (x y : List ℕ). x ++ y) (record_line e s.0 s.1 s.2) (records_are es s.3)
+records_are [] s = refl
+records_are (e ∷ es) s = ap₂ (λ (x y : List ℕ). x ++ y) (record_line e s.0 s.1 s.2) (records_are es s.3)
 
 -- ---- events that a head declares
 
@@ -101,17 +93,17 @@ module _ (h : Counts) (a : allowed full h ≡ true) where
 
 module _ (m : Limits) (u : UpToFull m) (s : List ℕ) where
   abbrev h : Counts
-  h = (trace_of m s).head
+  h = head_in (trace_of m s)
 
   module _ (t : Tailed m u s) where
-    full_allowed : allowed full (trace_of m s).head ≡ true
+    full_allowed : allowed full (head_in (trace_of m s)) ≡ true
     full_allowed = allowed_full m h u (head_allowed m s t.accepts)
 
-    known : Known (trace_of m s).head (tail_of m s)
+    known : Known (head_in (trace_of m s)) (tail_of m s)
     known = known_tail h (tail_of m s) (past_of m s) (paper_shortest m u s t.accepts t.tails).finishes.follows
 
     -- the lines of its records are those of its events, and a line's room remains behind them
-    tail_lines : records_text (map packed (tail_of m s)) (map value_in (tail_of m s)) ≡ events_text (tail_of m s)
+    tail_lines : records_text (zip (map packed (tail_of m s)) (map value_in (tail_of m s))) ≡ events_text (tail_of m s)
     tail_lines = records_are (tail_of m s) (known_small h full_allowed (tail_of m s) known)
 
     tail_most : length (events_text (tail_of m s)) + line_room ≤ tail_output
@@ -130,27 +122,21 @@ module _ (m : Limits) (u : UpToFull m) (s : List ℕ) where
       by accepted q = omega (arith, ap length (text_is accepted q), tail_most (verdict_tailed m u s 2256 q))
       by (refused number line) q = omega (arith, ap length (text_is (refused number line) q), row_line_short (114 ∷ 101 ∷ 102 ∷ 117 ∷ 115 ∷ 101 ∷ 100 ∷ []) (line ∷ number ∷ []))
 
-  -- ---- what is written of it, from rows that have room for every tail, into an output that has
+  -- ---- what is written of it, from rows of zeros that have room for every tail, into an output that has
 
-  module _ (ws₀ : List ℕ) (xs₀ : List ℤ) (made : Tail) (ws : List ℕ) (xs : List ℤ) (x : length ws₀ ≡ 2256) (y : length xs₀ ≡ 2256) (g : Gives m s ws₀ xs₀ made ws xs) (o : List ℕ) (e : tail_output ≤ length o) where
-    pub refused_text : (n l : ℕ) → made ≡ tail.Refused n l → (r : ℕ) (p : List ℕ) → Wrote (room listing.line_room (ended (refused_line l n))) o r p → Wrote (room tail_output (tail_text m s)) o r p
-    refused_text n l q r p w = wrote_line listing.line_room tail_output (ended (refused_line l n)) (tail_text m s) o p r (omega arith) e (sym (text_is (refused n l) (is_refused m u s ws₀ xs₀ made ws xs x y g n l q))) w
+  module _ {ws : List ℕ} {xs : List ℤ} (o : List ℕ) (e : tail_output ≤ length o) where
+    pub refused_text : {r : Refusal} → Gives m s (replicate 2256 0) (replicate 2256 (pos 0)) (Err r) ws xs → {k : ℕ} {p : List ℕ} → Wrote (room listing.line_room (ended (refused_line r.line r.number))) o k p → Wrote (room tail_output (tail_text m s)) o k p
+    refused_text {r} g {k} {p} w = wrote_line listing.line_room tail_output (ended (refused_line r.line r.number)) (tail_text m s) o p k (omega arith) e (sym (text_is (refused r.number r.line) (is_refused m u s g))) w
 
-    module _ (n l : ℕ) (q : made ≡ tail.Given n l) where
-      abbrev verdict_is : tail_verdict m s 2256 ≡ accepted
-      verdict_is = (is_made m u s ws₀ xs₀ made ws xs x y g n l q).accepts
-
+    module _ {tail : Tail} (g : Gives m s (replicate 2256 0) (replicate 2256 (pos 0)) (Ok tail) ws xs) where
       abbrev tailed : Tailed m u s
-      tailed = verdict_tailed m u s 2256 verdict_is
+      tailed = verdict_tailed m u s 2256 (is_made m u s g).accepts
 
-      lines_are : records_text (take n ws) (take n xs) ≡ events_text (tail_of m s)
-      lines_are = ap₂ records_text (whats_front m u s ws₀ xs₀ made ws xs x y g n l q) (values_front m u s ws₀ xs₀ made ws xs x y g n l q) ∙ tail_lines tailed
+      lines_are : records_text (zip (take tail.events ws) (take tail.events xs)) ≡ events_text (tail_of m s)
+      lines_are = ap₂ (λ (ws : List ℕ) (xs : List ℤ). records_text (zip ws xs)) (whats_front m u s g) (values_front m u s g) ∙ tail_lines tailed
 
-      pub given_asked : (length (take n ws) ≤ length (take n xs)) × (length (records_text (take n ws) (take n xs)) + line_room ≤ length o)
-      given_asked =
-          let a = ap length (whats_front m u s ws₀ xs₀ made ws xs x y g n l q) ∙ length-map (tail_of m s) packed in
-          let b = ap length (values_front m u s ws₀ xs₀ made ws xs x y g n l q) ∙ length-map (tail_of m s) value_in in
-          (omega (arith, a, b), omega (arith, ap length lines_are, tail_most tailed, e))
+      pub given_room : length (records_text (zip (take tail.events ws) (take tail.events xs))) + line_room ≤ length o
+      given_room = omega (arith, ap length lines_are, tail_most tailed, e)
 
-      pub given_text : (r : ℕ) (p : List ℕ) → Wrote (λ _. records_text (take n ws) (take n xs)) o r p → Wrote (room tail_output (tail_text m s)) o r p
-      given_text r p w = wrote_like (λ _. records_text (take n ws) (take n xs)) (room tail_output (tail_text m s)) o p r (lines_are ∙ sym (text_is accepted verdict_is) ∙ room_yes tail_output (tail_text m s) o e) w
+      pub given_text : {k : ℕ} {p : List ℕ} → Wrote (λ _. records_text (zip (take tail.events ws) (take tail.events xs))) o k p → Wrote (room tail_output (tail_text m s)) o k p
+      given_text {k} {p} w = wrote_like (λ _. records_text (zip (take tail.events ws) (take tail.events xs))) (room tail_output (tail_text m s)) o p k (lines_are ∙ sym (text_is accepted (is_made m u s g).accepts) ∙ room_yes tail_output (tail_text m s) o e) w

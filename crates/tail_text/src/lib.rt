@@ -2,50 +2,44 @@
 #![tactic(auto)]
 
 ghost use Rattle.std.specs.Prelude.{◌+◌, ◌≤◌, length};
+ghost use Rattle.std.specs.List.{zip};
 ghost use Rattle.rules.specs.Limits.{limits_of};
 ghost use Rattle.decimal.specs.Text.{room, Wrote};
 ghost use Rattle.tail_text.specs.TailText.{tail_output, tail_text};
 ghost use Rattle.tail_text.specs.Computed.Rows.{line_room, record_text, records_text};
 
-use finishing::{TAIL, Tail};
-use rules::{Course, Event, Named, Value};
+use finishing::TAIL;
+use rules::{Course, Event, Value};
 
 // An output of so many bytes has room for every tail.
 pub const TAIL_TEXT: usize = 65536;
 
 // The line of the event that a record names; nothing where it names none. No line tells its own number.
-fn write_record(out: &mut [u8], w: u32, x: Value) -> usize
-    ensures { Wrote (room line_room (record_text w x)) out.old result out.new }
+fn write_record(out: &mut [u8], what: u32, value: Value) -> usize
+    ensures { Wrote (room line_room (record_text what value)) out.old result out.new }
 {
-    let thread = records::thread_in(w);
-    let place = records::place_in(w);
-    let named = rules::kind_of(records::letter_in(w), place, x);
-    match named {
-        Named::Nothing => 0,
-        Named::Of(kind) => {
-            let e = Event {
-                thread: thread,
-                line: 0,
-                kind: kind,
-            };
-            writer::write_event(out, e)
-        }
-    }
+    let place = records::place_in(what);
+    let Some(kind) = rules::kind_of(records::letter_in(what), place, value) else {
+        return 0;
+    };
+    let e = Event {
+        thread: records::thread_in(what),
+        line: 0,
+        kind,
+    };
+    writer::write_event(out, e)
 }
 
 // The lines of the records of two rows.
 fn write_records(out: &mut [u8], what: &[u32], value: &[Value]) -> usize
-    requires { (length what.now ≤ length value.now) × (length (records_text what.now value.now) + line_room ≤ length out.old) }
-    ensures { Wrote (λ _. records_text what.now value.now) out.old result out.new }
+    requires { length (records_text (zip what.now value.now)) + line_room ≤ length out.old }
+    ensures { Wrote (λ _. records_text (zip what.now value.now)) out.old result out.new }
 {
-    let mut a: usize = 0;
-    let mut i: usize = 0;
-    while i < what.len() {
-        let k = write_record(&mut out[a..], what[i], value[i]);
-        a += k;
-        i += 1;
+    let mut length = 0;
+    for (&what, &value) in what.iter().zip(value) {
+        length += write_record(&mut out[length..], what, value);
     }
-    a
+    length
 }
 
 // Puts the text of the tail of a trace at the front of the output; its length. An output under 65,536 bytes stays as it was, with length 0.
@@ -55,11 +49,10 @@ pub fn list_tail(course: Course, s: &[u8], out: &mut [u8]) -> usize
     if out.len() < TAIL_TEXT {
         return 0;
     }
-    let mut what: [u32; TAIL] = [0; TAIL];
-    let mut value: [Value; TAIL] = [0; TAIL];
-    let made = finishing::make_tail(course, s, &mut what, &mut value);
-    match made {
-        Tail::Refused(number, line) => listing::write_refused(out, line, number as usize),
-        Tail::Given(n, _) => write_records(out, &what[..n], &value[..n]),
+    let mut what = [0; TAIL];
+    let mut value = [0; TAIL];
+    match finishing::make_tail(course, s, &mut what, &mut value) {
+        Err(refusal) => listing::write_refused(out, refusal.line, usize::from(refusal.number)),
+        Ok(tail) => write_records(out, &what[..tail.events], &value[..tail.events]),
     }
 }

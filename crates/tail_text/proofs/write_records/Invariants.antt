@@ -1,11 +1,8 @@
--- `tail_text::write_records` meets its contract: after i turns the first i lines are written. Assumes nothing.
-use Prim.Native.Nat.{◌-◌}
-use lib.ListN.{length}
+-- `tail_text::write_records` meets its contract: the lines of the records so far are written. Assumes nothing.
+use mathlib.Core.List.{map}
+use Rattle.std.specs.List.{zip}
 use Rattle.tail_text.proofs.RowTexts.{Lined}
 use Rattle.tail_text.proofs.write_records.Given as goal
 
-abbrev pub invariant-loop-i : goal.invariant-loop-i
-invariant-loop-i l = Lined l.what l.value l.initial.out l.i l.a l.out
-
-abbrev pub decreases-loop-i : goal.decreases-loop-i
-decreases-loop-i l = length l.what - l.i
+abbrev pub invariant-loop-what : goal.invariant-loop-what
+invariant-loop-what l = Lined (zip l.fn.what l.fn.value) (map (λ p. (p.0.now, p.1.now)) l.yielded) l.initial.out l.length l.out
