@@ -2,10 +2,9 @@
 // and the copies that it leaves: thread by thread, its variables and then its locks.
 #![tactic(auto)]
 
-ghost use Rattle.std.specs.Prelude.{◌≡◌, ◌||◌, [], ◌∷◌, map, ◌≤◌, ◌<◌, length, replicate, take, pos, slice_index_or};
-ghost use Rattle.std.specs.List.{zip};
+ghost use Rattle.std.specs.Prelude.{◌≡◌, [], ◌∷◌, map, ◌≤◌, ◌<◌, replicate, pos};
 ghost use Rattle.rules.specs.Events.{N};
-ghost use Rattle.rules.specs.Limits.{limits_of, any_volatile};
+ghost use Rattle.rules.specs.Limits.{limits_of};
 ghost use Rattle.rules.specs.Memories.{below, each};
 ghost use Rattle.records.specs.Records.{letter_in};
 ghost use Rattle.finishing.specs.Tail.{Gives};
@@ -24,7 +23,6 @@ ghost use Rattle.finishing.specs.Computed.Parts.{
   cells_entries,
   lock_entries,
   whats_of,
-  thread_entries,
   tail_entries,
   filled,
   added,
