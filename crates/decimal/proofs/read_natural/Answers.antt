@@ -15,6 +15,6 @@ returns c =
     let f = c.args.f.now in
     let h : length f ≡ 0 → ⊥ = eqb-false _ _ (sym c.is_empty.ensures ∙ c.if-is_empty.false) in
     c.digits.ensures ∙ elim c.else-f-eq48.branch [
-      | else-f-eq48-via-then-f-eq48+else-f-gt1 w ↦ natural_plain f h (inl w.if-f-gt1.false)
+      | else-f-eq48-via-then-f-eq48+else-f-gt1 w ↦ natural_plain f h (inl (w.if-f-eq48.true, w.if-f-gt1.false))
       | else-f-eq48-via-else-f-eq48 w ↦ natural_plain f h (inr w.if-f-eq48.false)
     ]
