@@ -7,6 +7,7 @@ use mathlib.Core.List.{List, [], ◌∷◌}
 use borrow.Author.Tests.{lt-ltb, le-ltb, ltb-false}
 use lib.Dec.{ltb}
 use lib.ListN.{length}
+use Rattle.std.specs.Prelude.{Some, None}
 use Rattle.rules.specs.Limits.{Limits, full}
 use Rattle.rules.specs.Rules.{accepted, told, said}
 use Rattle.decimal.specs.Text.{over, Wrote}
@@ -32,10 +33,10 @@ sheet_told (turned_away n) = refl
 
 module _ (m : Limits) (s out : List ℕ) where
   -- 7
-  pub short_answer : length out < full.output → Sessions m s out too_little out
-  short_answer h =
+  pub short_answer : length out < full.output → (r : Session) → r ≡ too_little → Sessions m s out r out
+  short_answer h r a =
       let e = lt-ltb (length out) full.output h in
-      record { told_is = sym (rw e refl); says = sym (rw e refl); prints = sym (rw e refl) }
+      record { told_is = ap (λ (x : Session). told x.verdict) a ∙ sym (rw e refl); says = a ∙ sym (rw e refl); prints = sym (rw e refl) }
 
   module _ (lent : full.output ≤ length out) where
     answer : (q : Sheet) (r : Session) (out' : List ℕ) → sheet_of s ≡ q → r ≡ session_with m q → out' ≡ over (text_of (sheet_lines m q)) out → Sessions m s out r out'
@@ -55,32 +56,33 @@ module _ (m : Limits) (s out : List ℕ) where
     unfolding sheet_of numbers_of
     long_answer h r out' a p = answer (turned_away 1) r out' (rw (lt-ltb full.bytes (length s) h) refl) a p
 
-    module _ (fits : length s ≤ full.bytes) (t : Tally) (e : t ≡ tally_of m (find_from (length s) s [])) where
+    module _ (fits : length s ≤ full.bytes) where
       sheet_is : sheet_of s ≡ find_from (length s) s []
       unfolding sheet_of
       sheet_is = rw (le-ltb full.bytes (length s) fits) refl
 
       -- 31
-      pub lost_answer : t.found ≡ false → (r : Session) (out' : List ℕ) → r ≡ session_with full (turned_away 31) → out' ≡ over (text_of (refused_line 0 31 ∷ [])) out
-          → Sessions m s out r out'
+      pub lost_answer : None ≡ tally_of m (find_from (length s) s []) → (r : Session) (out' : List ℕ) → r ≡ session_with full (turned_away 31)
+          → out' ≡ over (text_of (refused_line 0 31 ∷ [])) out → Sessions m s out r out'
       unfolding numbers_of
-      lost_answer f r out' a p = by (find_from (length s) s []) refl e
+      lost_answer e r out' a p = by (find_from (length s) s []) refl e
         where
-          by : (q : Sheet) → find_from (length s) s [] ≡ q → t ≡ tally_of m q → Sessions m s out r out'
-          by (holds ts) d g = absurd (let y : true ≡ false = sym (ap (λ (x : Tally). x.found) g) ∙ f in let z : ◌≡◌ {A = ℕ} 0 1 = cc in omega arith)
+          by : (q : Sheet) → find_from (length s) s [] ≡ q → None ≡ tally_of m q → Sessions m s out r out'
+          by (holds ts) d g = cc
           by (turned_away n) d g =
               let k : n ≡ 31 = find_away (length s) s [] n d in
               answer (turned_away 31) r out' (sheet_is ∙ d ∙ ap (λ (i : ℕ). turned_away i) k) a p
 
       -- the counts
-      pub counted_answer : t.found ≡ true → (written : ℕ) (out' : List ℕ) → Wrote (write_all (counted_lines t.count (count_in t.counts))) out written out'
+      pub counted_answer : (t : Tally) → Some t ≡ tally_of m (find_from (length s) s []) → (written : ℕ) (out' : List ℕ) → Wrote (write_all (counted_lines t.count (count_in t.counts))) out written out'
           → Sessions m s out (record { verdict = said accepted; traces = t.count; accepted = count_in t.counts 0; written = written }) out'
-      counted_answer f written out' w = by (find_from (length s) s []) refl e
+      counted_answer t e written out' w = by (find_from (length s) s []) refl e
         where
-          by : (q : Sheet) → find_from (length s) s [] ≡ q → t ≡ tally_of m q
+          by : (q : Sheet) → find_from (length s) s [] ≡ q → Some t ≡ tally_of m q
               → Sessions m s out (record { verdict = said accepted; traces = t.count; accepted = count_in t.counts 0; written = written }) out'
-          by (turned_away n) d g = absurd (let y : false ≡ true = sym (ap (λ (x : Tally). x.found) g) ∙ f in let z : ◌≡◌ {A = ℕ} 0 1 = cc in omega arith)
-          by (holds ts) d g =
+          by (turned_away n) d g = cc
+          by (holds ts) d h =
+              let g : t ≡ record { count = length ts; counts = counts_of (numbers_of m ts) } = cc in
               let ls = counted_lines t.count (count_in t.counts) in
               let same : ls ≡ sheet_lines m (holds ts) = ap (λ (x : Tally). counted_lines x.count (count_in x.counts)) g ∙ counted_lines_law m ts in
               let text : write_all ls out ≡ text_of (sheet_lines m (holds ts)) = ap (λ (z : List (List ℕ)). write_all z out) same ∙ written_whole m (holds ts) out lent in

@@ -8,6 +8,7 @@ use borrow.Author.Tests.{eq-eqb, ne_eqb, eqb-true, le-leb, leb-true, ltb-true, l
 use lib.Dec.{eqb, leb, ltb}
 use lib.ListN.{length, get_or, take, drop, length-append, length-drop, take-append-drop}
 use lib.Seq.{take-append-add, drop-append-add, get_or-append-add, take-append_seam, drop-append_seam, get_or-take, get_or-drop}
+use Rattle.std.specs.Prelude.{Option, Some, None}
 use Rattle.serial.specs.Lists.{All}
 use Rattle.lines.specs.Lines.{up_to, split_on, on_first, letter}
 use Rattle.lines.proofs.PartLaws.{empty}
@@ -19,8 +20,6 @@ use Rattle.trace.specs.Trace.{check_at, last_line, last_number, trailer_number, 
 use Rattle.trace.proofs.TraceLaws.{last_le, part_drop}
 use Rattle.listing.proofs.ListLaws.{both}
 use Rattle.rules.specs.Limits.{full}
-use Rattle.session.specs.declared.Start.{Start}
-use Rattle.session.specs.declared.Start.TheVariants as start
 use Rattle.session.specs.Session.{traces_in}
 use Rattle.session.specs.Sheet.{pointed, start_of, Sheet, holds, turned_away, on_start, find_from, sheet_of, joined, Ends}
 
@@ -154,7 +153,7 @@ ends_more p e = by (last_line p) (last_z p (last_line p) (right_number p e.trail
 
 -- ---- the start of the last trace
 
-start_behind : (xs p : List ℕ) → Ends p → start_of (xs ++ p) ≡ start.At (length xs)
+start_behind : (xs p : List ℕ) → Ends p → start_of (xs ++ p) ≡ Some (length xs)
 unfolding start_of
 start_behind xs p e =
     let m = ends_more p e in
@@ -194,39 +193,39 @@ cut s a n r h d b = record { within = inside; ends = record { begins = first; tr
         let e : n ≡ last_line (drop a s) = omega (arith, l, d, h) in
         sym (number_behind (take a s) (drop a s) (omega (arith, l, inside))) ∙ ap last_number (take-append-drop a s) ∙ r ∙ ap (λ (k : ℕ). natural.Of k) e
 
-start_cut : (s : List ℕ) (a : ℕ) → start_of s ≡ start.At a → Cut s a
+start_cut : (s : List ℕ) (a : ℕ) → start_of s ≡ Some a → Cut s a
 unfolding start_of
 start_cut s a h = by (last_number s) refl h
   where
     on : (n : ℕ) → last_number s ≡ natural.Of n → (p q : Bool) → leb n (last_line s) ≡ p → eqb (get_or s (last_line s - n) 0) 72 ≡ q
-        → cond (p && q) (start.At (last_line s - n)) start.Nowhere ≡ start.At a → Cut s a
+        → cond (p && q) (Some (last_line s - n)) None ≡ Some a → Cut s a
     on n r true true u v h =
         let d : last_line s - n ≡ a = cc in
         cut s a n r (leb-true n (last_line s) u) d (ap (λ (k : ℕ). get_or s k 0) (sym d) ∙ eqb-true (get_or s (last_line s - n) 0) 72 v)
     on n r true false u v h = absurd (let z : ◌≡◌ {A = ℕ} 0 1 = cc in omega arith)
     on n r false q u v h = absurd (let z : ◌≡◌ {A = ℕ} 0 1 = cc in omega arith)
 
-    by : (n : Natural) → last_number s ≡ n → pointed s (last_line s) n ≡ start.At a → Cut s a
+    by : (n : Natural) → last_number s ≡ n → pointed s (last_line s) n ≡ Some a → Cut s a
     by natural.Bad r h = absurd (let z : ◌≡◌ {A = ℕ} 0 1 = cc in omega arith)
     by (natural.Of n) r h = on n r (leb n (last_line s)) (eqb (get_or s (last_line s - n) 0) 72) refl refl h
 
 -- each start is before the end
-pub start_lt : (s : List ℕ) (a : ℕ) → start_of s ≡ start.At a → a < length s
+pub start_lt : (s : List ℕ) (a : ℕ) → start_of s ≡ Some a → a < length s
 start_lt s a h = omega (arith, (start_cut s a h).within, last_le s)
 
 -- ---- the rounds
 
-pub find_round : (k : ℕ) (s : List ℕ) (ps : List (List ℕ)) (a : ℕ) → 0 < length s → start_of s ≡ start.At a
+pub find_round : (k : ℕ) (s : List ℕ) (ps : List (List ℕ)) (a : ℕ) → 0 < length s → start_of s ≡ Some a
     → find_from (suc k) s ps ≡ find_from k (take a s) (drop a s ∷ ps)
 unfolding find_from
 find_round k s ps a h e =
-    rw (ne_eqb (length s) 0 (λ z. omega arith)) (ap (λ (q : Start). on_start q (turned_away 31) (λ a. find_from k (take a s) (drop a s ∷ ps))) e)
+    rw (ne_eqb (length s) 0 (λ z. omega arith)) (ap (λ (q : Option ℕ). on_start q (turned_away 31) (λ a. find_from k (take a s) (drop a s ∷ ps))) e)
 
-pub find_lost : (k : ℕ) (s : List ℕ) (ps : List (List ℕ)) → 0 < length s → start_of s ≡ start.Nowhere → find_from k s ps ≡ turned_away 31
+pub find_lost : (k : ℕ) (s : List ℕ) (ps : List (List ℕ)) → 0 < length s → start_of s ≡ None → find_from k s ps ≡ turned_away 31
 unfolding find_from
 find_lost zero s ps h e = rw (ne_eqb (length s) 0 (λ z. omega arith))
 find_lost (suc k) s ps h e =
-    rw (ne_eqb (length s) 0 (λ z. omega arith)) (ap (λ (q : Start). on_start q (turned_away 31) (λ a. find_from k (take a s) (drop a s ∷ ps))) e)
+    rw (ne_eqb (length s) 0 (λ z. omega arith)) (ap (λ (q : Option ℕ). on_start q (turned_away 31) (λ a. find_from k (take a s) (drop a s ∷ ps))) e)
 
 pub find_done : (k : ℕ) (s : List ℕ) (ps : List (List ℕ)) → length s ≡ 0 → find_from k s ps ≡ holds ps
 unfolding find_from
@@ -311,12 +310,12 @@ find_whole zero s qs ps e = by (eqb (length s) 0) refl e
     by false z e = absurd (subst Away e tt)
 find_whole (suc k) s qs ps e = by (eqb (length s) 0) refl (start_of s) refl e (λ a. find_whole k (take a s) (drop a s ∷ qs) ps)
   where
-    by : (t : Bool) → eqb (length s) 0 ≡ t → (q : Start) → start_of s ≡ q
+    by : (t : Bool) → eqb (length s) 0 ≡ t → (q : Option ℕ) → start_of s ≡ q
         → cond t (holds qs) (on_start q (turned_away 31) (λ a. find_from k (take a s) (drop a s ∷ qs))) ≡ holds ps
         → ((a : ℕ) → find_from k (take a s) (drop a s ∷ qs) ≡ holds ps → Whole (take a s) (drop a s ∷ qs) ps) → Whole s qs ps
     by true z q r e f = whole_none s qs ps z e
-    by false z start.Nowhere r e f = absurd (subst Away e tt)
-    by false z (start.At a) r e f = whole_more s a qs ps (start_cut s a r) (f a e)
+    by false z None r e f = absurd (subst Away e tt)
+    by false z (Some a) r e f = whole_more s a qs ps (start_cut s a r) (f a e)
 
 -- What is found is the sheet, and each trace begins with `H` and has a right trailer.
 found_ends : (s : List ℕ) (ts : List (List ℕ)) → find_from (length s) s [] ≡ holds ts → (joined ts ≡ s) × All Ends ts
@@ -341,11 +340,11 @@ away_number zero s ts = by (eqb (length s) 0)
     by false = refl
 away_number (suc k) s ts = by (eqb (length s) 0) (start_of s) (λ a. away_number k (take a s) (drop a s ∷ ts))
   where
-    by : (b : Bool) (q : Start) → ((a : ℕ) → away_with (find_from k (take a s) (drop a s ∷ ts)) ≡ 31)
+    by : (b : Bool) (q : Option ℕ) → ((a : ℕ) → away_with (find_from k (take a s) (drop a s ∷ ts)) ≡ 31)
         → away_with (cond b (holds ts) (on_start q (turned_away 31) (λ a. find_from k (take a s) (drop a s ∷ ts)))) ≡ 31
     by true q f = refl
-    by false start.Nowhere f = refl
-    by false (start.At a) f = f a
+    by false None f = refl
+    by false (Some a) f = f a
 
 pub find_away : (k : ℕ) (s : List ℕ) (ts : List (List ℕ)) (n : ℕ) → find_from k s ts ≡ turned_away n → n ≡ 31
 find_away k s ts n e = ap away_with (sym e) ∙ away_number k s ts

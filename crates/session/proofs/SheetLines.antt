@@ -1,18 +1,20 @@
 -- The lines of a sheet: each fits its room, and the output has room for all of them.
-use Prim.Native.Nat.{ℕ, suc, ◌≤◌, ◌<◌, ◌+◌, ◌/◌}
+use Prim.Native.Nat.{ℕ, zero, suc, ◌≤◌, ◌<◌, ◌+◌, ◌-◌, ◌/◌}
 use native.Mathlib.Omega.{arith}
 use mathlib.Core.Path.{◌≡◌, refl, sym, ap, ◌∙◌}
 use mathlib.Core.Bool.{Bool, true, false, cond}
 use mathlib.Core.List.{List, [], ◌∷◌, ◌++◌}
 use borrow.Author.Tests.{eq-eqb, ne_eqb}
 use lib.Dec.{eqb}
-use lib.ListN.{length, length-append}
+use borrow.Rule.Slice.PartMut.{put_mid}
+use lib.ListN.{length, take, drop, length-append}
+use Rattle.decimal.specs.Text.{Wrote}
 use Rattle.rules.specs.Limits.{Limits, full}
 use Rattle.rules.specs.Memories.{below, each}
 use Rattle.rules.proofs.From.{each_more, each_same}
 use Rattle.serial.specs.Lists.{All}
 use Rattle.listing.specs.Listing.{accepted_line, refused_line, papers_line, share_line, text_of, write_all}
-use Rattle.listing.proofs.LineLaws.{Fits, row_fits, share_fits, all_text}
+use Rattle.listing.proofs.LineLaws.{Fits, Listed, row_fits, share_fits, all_text, listed_start, listed_step, listed_end}
 use Rattle.listing.proofs.ListLaws.{both}
 use Rattle.listing.proofs.RoomEnough.{text_most, each_all, each_most}
 use Rattle.session.specs.Sheet.{Sheet, holds, turned_away, sheet_of}
@@ -106,13 +108,9 @@ count_not k n h = rw (eq-eqb n 0 h)
 
 -- ---- the share as it is divided by a greatest common divisor
 
-pub share_none : (a n d : ℕ) → d ≡ common a a n → a ≡ 0 → share_line (a / d) 1 ≡ lowest_line a n
+pub share_lowest : (a n d b : ℕ) → d ≡ common a a n → b ≡ cond (eqb a 0) 1 (n / d) → share_line (a / d) b ≡ lowest_line a n
 unfolding above beneath
-share_none a n d e z = rw (e, eq-eqb a 0 z)
-
-pub share_some : (a n d : ℕ) → d ≡ common a a n → (a ≡ 0 → ⊥) → share_line (a / d) (n / d) ≡ lowest_line a n
-unfolding above beneath
-share_some a n d e z = rw (e, ne_eqb a 0 z)
+share_lowest a n d b e f = (λ i. share_line (a / e i) (f i)) ∙ ap (λ (k : ℕ). share_line (a / common a a n) (cond (eqb a 0) 1 (n / k))) e
 
 -- ---- the same counts give the same lines
 
@@ -122,3 +120,29 @@ counted_same n f g h =
     let r = each_same (λ k. count_lines (suc k) (f (suc k))) (λ k. count_lines (suc k) (g (suc k))) greatest (λ k l. ap (count_lines (suc k)) (h (suc k) (omega arith))) in
     let e : f 0 ≡ g 0 = h 0 (omega arith) in
     (λ i. papers_line n ∷ accepted_line (e i) ∷ (r i ++ (lowest_line (e i) n ∷ [])))
+
+-- ---- the loop over the numbers
+
+-- the lines of the numbers below k stand at the front of p, the first `a` bytes of it
+abbrev pub ListedBelow : (ℕ → ℕ) → List ℕ → ℕ → ℕ → List ℕ → Type 0
+ListedBelow f o k a p = Listed (λ i. refused_lines (i - 1) f) (suc greatest) o k a p
+
+pub below_start : (f : ℕ → ℕ) (o : List ℕ) → ListedBelow f o 1 0 o
+below_start f o =
+    let r = listed_start (λ i. refused_lines i f) greatest o (refused_fit 0 f) (refused_none f) in
+    record { within = omega arith; fit = r.fit; wrote = r.wrote }
+
+pub below_step : (f : ℕ → ℕ) (o : List ℕ) (k a : ℕ) (p : List ℕ) → ListedBelow f o k a p → 0 < k → k < suc greatest
+    → (q : List ℕ) (b : ℕ) → Wrote (write_all (count_lines k (f k))) (take (length p - a) (drop a p)) b q → ListedBelow f o (k + 1) (a + b) (put_mid a (length p - a) p q)
+below_step f o zero a p r h l q b w = absurd (omega arith)
+below_step f o (suc k) a p r h l q b w = listed_step _ _ _ _ _ _ r l (count_lines (suc k) (f (suc k))) (same k) (refused_fit _ f) q b w
+  where
+    same : (k : ℕ) → refused_lines (suc k - 1) f ++ count_lines (suc k) (f (suc k)) ≡ refused_lines (suc k + 1 - 1) f
+    same k =
+        let x : suc k - 1 ≡ k = omega arith in
+        let y : suc k ≡ k + 1 = omega arith in
+        let z : k + 1 ≡ suc k + 1 - 1 = omega arith in
+        (λ i. refused_lines (x i) f ++ count_lines (y i) (f (y i))) ∙ refused_more k f ∙ ap (λ (i : ℕ). refused_lines i f) z
+
+pub below_end : (f : ℕ → ℕ) (o : List ℕ) (k a : ℕ) (p : List ℕ) → ListedBelow f o k a p → suc greatest ≤ k → Wrote (write_all (refused_lines greatest f)) o a p
+below_end f o k a p r h = listed_end _ _ _ _ _ _ r h

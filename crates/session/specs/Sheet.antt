@@ -1,12 +1,10 @@
 -- Document 02 (j), the session sheet: "Papers of a sitting are joined end to end", and how these traces are found again.
-use Rattle.std.specs.Prelude.{ℕ, zero, suc, ◌-◌, ◌≡◌, cond, ◌&&◌, List, [], ◌∷◌, ◌++◌, eqb, ltb, leb, length, get_or, take, drop}
+use Rattle.std.specs.Prelude.{ℕ, zero, suc, ◌-◌, ◌≡◌, cond, ◌&&◌, Option, Some, None, List, [], ◌∷◌, ◌++◌, eqb, ltb, leb, length, get_or, take, drop}
 use Rattle.rules.specs.Limits.{full}
 use Rattle.decimal.specs.declared.Natural.{Natural}
 use Rattle.decimal.specs.declared.Natural.TheVariants as natural
 use Rattle.trace.specs.declared.Trailer.TheVariants as trailer
 use Rattle.trace.specs.Trace.{last_line, last_number, trailer_of}
-use Rattle.session.specs.declared.Start.{Start}
-use Rattle.session.specs.declared.Start.TheVariants as start
 
 -- ---- what a sheet is
 
@@ -24,12 +22,12 @@ pub record Ends (t : List ℕ) : Type 0 where
 -- ---- how it is read
 
 -- A trailer at `at` with the number n points back by n bytes: not before the first byte, and at an `H`.
-abbrev pub pointed : List ℕ → ℕ → Natural → Start
-pointed s at natural.Bad = start.Nowhere
-pointed s at (natural.Of n) = cond (leb n at && eqb (get_or s (at - n) 0) 72) (start.At (at - n)) start.Nowhere
+abbrev pub pointed : List ℕ → ℕ → Natural → Option ℕ
+pointed s at natural.Bad = None
+pointed s at (natural.Of n) = cond (leb n at && eqb (get_or s (at - n) 0) 72) (Some (at - n)) None
 
 -- where the last trace starts
-unfoldable pub start_of : List ℕ → Start
+unfoldable pub start_of : List ℕ → Option ℕ
 start_of s = pointed s (last_line s) (last_number s)
 
 -- the traces that a sheet holds, in their order, or the number of its refusal (line 0)
@@ -37,9 +35,9 @@ pub data Sheet : Type 0 where
   holds : List (List ℕ) → Sheet
   turned_away : ℕ → Sheet
 
-abbrev pub on_start : {A : Type 0} → Start → A → (ℕ → A) → A
-on_start start.Nowhere stop f = stop
-on_start (start.At a) stop f = f a
+abbrev pub on_start : {A : Type 0} → Option ℕ → A → (ℕ → A) → A
+on_start None stop f = stop
+on_start (Some a) stop f = f a
 
 -- "Find them from the last trailer backwards." The traces ts are found already. Turned away: 31, what is left does not end in a trailer, or a
 -- trailer points before the first byte or not at an `H`. Each round takes a byte at least, so that `length s` rounds are enough.

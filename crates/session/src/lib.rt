@@ -10,17 +10,10 @@ ghost use Rattle.listing.specs.Listing.{refused_line, text_of, line_room, write_
 ghost use Rattle.session.specs.Sheet.{pointed, start_of, turned_away, find_from};
 ghost use Rattle.session.specs.Counting.{divides_both, common};
 ghost use Rattle.session.specs.Session.{count_lines, refused_lines, lowest_line, greatest, counted_lines, session_with, Sessions};
-ghost use Rattle.session.specs.Computed.Tally.{count_in, tally_of, head_lines, end_lines};
+ghost use Rattle.session.specs.Computed.Tally.{count_in, tally_of, refused_with, head_lines, end_lines};
 
 use decimal::Natural;
 use rules::{Course, OUTPUT, RECORDS, Value, Verdict};
-
-// Where the last trace of what is left of a sheet starts.
-#[derive(Clone, Copy)]
-pub enum Start {
-    Nowhere,
-    At(usize),
-}
 
 // What is said of a sheet: its refusal, or how many traces it holds and how many of them are accepted, both 0 after a refusal; and the length of
 // its text.
@@ -35,10 +28,9 @@ pub struct Session {
 // A trace is accepted, or refused with a number below this.
 const NUMBERS: usize = 31;
 
-// Whether the traces of a sheet are found, how many they are, and how often each number occurs, 0 of those that are accepted.
+// How many traces a sheet holds, and how often each number occurs, 0 of those that are accepted.
 #[derive(Clone, Copy)]
 struct Tally {
-    found: bool,
     count: usize,
     counts: [usize; NUMBERS],
 }
@@ -46,29 +38,25 @@ struct Tally {
 // ---- Finding.
 
 // Where a trailer at `at` with this number points; it must be an `H`.
-fn point(s: &[u8], at: usize, number: Natural) -> Start
+fn point(s: &[u8], at: usize, number: Natural) -> Option<usize>
     requires { at < length s.now }
     ensures { result ≡ pointed s.now at number }
 {
     let Natural::Of(n) = number else {
-        return Start::Nowhere;
+        return None;
     };
-    if at < n {
-        return Start::Nowhere;
-    }
-    let a = at - n;
+    let a = at.checked_sub(n)?;
     let head = s[a] == b'H';
-    if head { Start::At(a) } else { Start::Nowhere }
+    head.then_some(a)
 }
 
 // Where the last trace of what is left starts.
-fn find_start(s: &[u8]) -> Start
+fn find_start(s: &[u8]) -> Option<usize>
     requires { 0 < length s.now }
     ensures { result ≡ start_of s.now }
 {
     let l = trace::last_line(s);
-    let number = l.number;
-    point(s, l.at, number)
+    point(s, l.at, l.number)
 }
 
 // ---- Counting.
@@ -83,45 +71,28 @@ fn number_of(
     ensures { result ≡ number_in (marked_of (limits_of course) t.now) }
 {
     let marked = marking::mark(course, t, what, value);
-    let verdict = marked.verdict;
-    rules::number_of(verdict) as usize
+    usize::from(rules::number_of(marked.verdict))
 }
 
-// Nothing is counted after 31.
-fn count_none() -> Tally
-    ensures { result ≡ tally_of full (turned_away 31) }
-{
-    Tally {
-        found: false,
-        count: 0,
-        counts: [0; NUMBERS],
-    }
-}
-
-// Finds the traces from the last trailer backwards, and counts their numbers.
-fn count_traces(course: Course, s: &[u8]) -> Tally
+// Finds the traces from the last trailer backwards, and counts their numbers; `None` where what is left does not end in a trace.
+fn count_traces(course: Course, s: &[u8]) -> Option<Tally>
     ensures { result ≡ tally_of (limits_of course) (find_from (length s.now) s.now []) }
 {
     let mut what: [u32; RECORDS] = [0; RECORDS];
     let mut value: [Value; RECORDS] = [0; RECORDS];
     let mut counts = [0usize; NUMBERS];
-    let mut n: usize = 0;
-    let mut left = s.len();
-    while 0 < left {
-        let Start::At(a) = find_start(&s[..left]) else {
-            return count_none();
-        };
-        let k = number_of(course, &s[a..left], &mut what, &mut value);
-        let c = counts[k];
-        counts[k] = c + 1;
-        n += 1;
-        left = a;
+    let mut count = 0;
+    let mut left = s;
+    // Kept: each trailer says where the trace before it ends, so no `for` knows the rounds.
+    while !left.is_empty() {
+        let a = find_start(left)?;
+        let (rest, trace) = left.split_at(a);
+        let k = number_of(course, trace, &mut what, &mut value);
+        counts[k] += 1;
+        count += 1;
+        left = rest;
     }
-    Tally {
-        found: true,
-        count: n,
-        counts,
-    }
+    Some(Tally { count, counts })
 }
 
 // ---- The share.
@@ -137,12 +108,10 @@ fn divides_both(d: usize, a: usize, n: usize) -> bool
 fn divisor(a: usize, n: usize) -> usize
     ensures { result ≡ common a a n }
 {
-    let mut d = a;
-    while 0 < d {
+    for d in (1..=a).rev() {
         if divides_both(d, a, n) {
             return d;
         }
-        d -= 1;
     }
     1
 }
@@ -154,10 +123,8 @@ fn write_lowest(out: &mut [u8], a: usize, n: usize) -> usize
     ensures { Wrote (room line_room (ended (lowest_line a n))) out.old result out.new }
 {
     let d = divisor(a, n);
-    if a == 0 {
-        return listing::write_share(out, a / d, 1);
-    }
-    listing::write_share(out, a / d, n / d)
+    let beneath = if a == 0 { 1 } else { n / d };
+    listing::write_share(out, a / d, beneath)
 }
 
 // The line of a number that occurs n times.
@@ -171,56 +138,49 @@ fn write_count(out: &mut [u8], k: usize, n: usize) -> usize
 }
 
 // The lines of the numbers that occur, rising.
-fn write_counts(out: &mut [u8], counts: [usize; NUMBERS]) -> usize
-    ensures { Wrote (write_all (refused_lines greatest (count_in counts))) out.old result out.new }
+fn write_counts(out: &mut [u8], counts: &[usize; NUMBERS]) -> usize
+    ensures { Wrote (write_all (refused_lines greatest (count_in counts.now))) out.old result out.new }
 {
-    let mut a: usize = 0;
-    let mut k: usize = 0;
-    while k < NUMBERS - 1 {
-        let n = counts[k + 1];
-        let b = write_count(&mut out[a..], k + 1, n);
-        a += b;
-        k += 1;
+    let mut a = 0;
+    for k in 1..NUMBERS {
+        a += write_count(&mut out[a..], k, counts[k]);
     }
     a
 }
 
 // The numbers of traces and of accepted ones.
-fn write_heads(out: &mut [u8], n: usize, accepted: usize) -> usize
-    ensures { Wrote (write_all (head_lines n accepted)) out.old result out.new }
+fn write_heads(out: &mut [u8], tally: &Tally) -> usize
+    ensures { Wrote (write_all (head_lines tally.now.count (count_in tally.now.counts 0))) out.old result out.new }
 {
-    let a = listing::write_papers(out, n);
-    let b = listing::write_accepted(&mut out[a..], accepted);
+    let a = listing::write_papers(out, tally.count);
+    let b = listing::write_accepted(&mut out[a..], tally.counts[0]);
     a + b
 }
 
 // The numbers that occur, and the share.
-fn write_ends(out: &mut [u8], n: usize, accepted: usize, counts: [usize; NUMBERS]) -> usize
-    ensures { Wrote (write_all (end_lines n accepted (count_in counts))) out.old result out.new }
+fn write_ends(out: &mut [u8], tally: &Tally) -> usize
+    ensures { Wrote (write_all (end_lines tally.now.count (count_in tally.now.counts 0) (count_in tally.now.counts))) out.old result out.new }
 {
-    let a = write_counts(out, counts);
-    let b = write_lowest(&mut out[a..], accepted, n);
+    let a = write_counts(out, &tally.counts);
+    let b = write_lowest(&mut out[a..], tally.counts[0], tally.count);
     a + b
 }
 
-// All lines of n traces whose numbers are counted.
-fn write_tally(out: &mut [u8], n: usize, counts: [usize; NUMBERS]) -> usize
-    ensures { Wrote (write_all (counted_lines n (count_in counts))) out.old result out.new }
+// All lines of the traces that are counted.
+fn write_tally(out: &mut [u8], tally: &Tally) -> usize
+    ensures { Wrote (write_all (counted_lines tally.now.count (count_in tally.now.counts))) out.old result out.new }
 {
-    let accepted = counts[0];
-    let a = write_heads(out, n, accepted);
-    let b = write_ends(&mut out[a..], n, accepted, counts);
+    let a = write_heads(out, tally);
+    let b = write_ends(&mut out[a..], tally);
     a + b
 }
 
 // ---- The whole.
 
-// A sheet that is turned away with this number.
-fn refuse(out: &mut [u8], number: u8) -> Session
-    requires { full.output ≤ length out.old }
-    ensures { (result ≡ session_with full (turned_away number)) × (out.new ≡ over (text_of (refused_line 0 number ∷ [])) out.old) }
+// A sheet that is turned away with this number, after a text of this length.
+fn turned_away(number: u8, written: usize) -> Session
+    ensures { result ≡ refused_with number written }
 {
-    let written = listing::write_refused(out, 0, number as usize);
     Session {
         verdict: Verdict::Refused(number, 0),
         traces: 0,
@@ -229,32 +189,33 @@ fn refuse(out: &mut [u8], number: u8) -> Session
     }
 }
 
+// The same, and its line.
+fn refuse(out: &mut [u8], number: u8) -> Session
+    requires { full.output ≤ length out.old }
+    ensures { (result ≡ session_with full (turned_away number)) × (out.new ≡ over (text_of (refused_line 0 number ∷ [])) out.old) }
+{
+    let written = listing::write_refused(out, 0, usize::from(number));
+    turned_away(number, written)
+}
+
 // Marks the traces of a sheet by a course and puts the counts at the front of the output: 7 for an output under 32,768 bytes, then 1, then 31.
 pub fn mark_sheet(course: Course, bytes: &[u8], out: &mut [u8]) -> Session
     ensures { Sessions (limits_of course) bytes.now out.old result out.new }
 {
     if out.len() < OUTPUT {
-        return Session {
-            verdict: Verdict::Refused(7, 0),
-            traces: 0,
-            accepted: 0,
-            written: 0,
-        };
+        return turned_away(7, 0);
     }
     if 65536 < bytes.len() {
         return refuse(out, 1);
     }
-    let t = count_traces(course, bytes);
-    if !t.found {
+    let Some(tally) = count_traces(course, bytes) else {
         return refuse(out, 31);
-    }
-    let counts = t.counts;
-    let n = t.count;
-    let written = write_tally(out, n, counts);
+    };
+    let written = write_tally(out, &tally);
     Session {
         verdict: Verdict::Accepted,
-        traces: n,
-        accepted: counts[0],
+        traces: tally.count,
+        accepted: tally.counts[0],
         written,
     }
 }

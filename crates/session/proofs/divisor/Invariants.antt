@@ -5,6 +5,3 @@ use Rattle.session.proofs.divisor.Given as goal
 
 abbrev pub invariant-loop-d : goal.invariant-loop-d
 invariant-loop-d l = common l.d l.a l.n ≡ common l.a l.a l.n
-
-abbrev pub decreases-loop-d : goal.decreases-loop-d
-decreases-loop-d l = l.d

@@ -4,4 +4,4 @@ use Rattle.rules.specs.Rules.{number_in}
 use Rattle.session.proofs.number_of.Goals as goal
 
 pub returns : goal.returns
-returns c = c.number_of.ensures ∙ ap number_in c.mark-marked.ensures.says
+returns c = c.from.ensures ∙ c.number_of.ensures ∙ ap number_in c.mark-marked.ensures.says

@@ -19,7 +19,7 @@ whole c = wrote_all _ _ _ _ _ _ _ c.write_counts-a.ensures (wrote_one _ _ _ _ c.
 pub overflow_add-result : goal.overflow_add-result
 overflow_add-result c =
     let a = c.args in
-    omega (arith, all_place _ a.out.now _ _ (end_fit a.n a.accepted _) (whole c), all_length _ a.out.now _ _ (end_fit a.n a.accepted _) (whole c))
+    omega (arith, all_place _ a.out.now _ _ (end_fit a.tally.now.count _ _) (whole c), all_length _ a.out.now _ _ (end_fit a.tally.now.count _ _) (whole c))
 
 pub returns : goal.returns
 returns c = whole c

@@ -13,7 +13,7 @@ use Rattle.session.proofs.write_tally.Goals as goal
 use Rattle.session.proofs.write_tally.Goals.{After-slice_known-3-1}
 
 starts : goal.slice_bounds-write_ends-count
-starts c = all_place _ c.args.out.now _ _ (head_fit c.args.n _) c.write_heads-a.ensures
+starts c = all_place _ c.args.out.now _ _ (head_fit c.args.tally.now.count _) c.write_heads-a.ensures
 
 pub slice_bounds-write_ends-count : goal.slice_bounds-write_ends-count
 slice_bounds-write_ends-count c = starts c
@@ -27,8 +27,8 @@ Both c =
     let a = c.args in
     let u = c.write_heads-a in
     let v = c.write_ends-b in
-    let f = count_in a.counts in
-    Wrote (write_all (head_lines a.n (f 0) ++ end_lines a.n (f 0) f)) a.out.now (u.result + v.result) (put_mid u.result (length u.new.out - u.result) u.new.out v.new.out)
+    let f = count_in a.tally.now.counts in
+    Wrote (write_all (head_lines a.tally.now.count (f 0) ++ end_lines a.tally.now.count (f 0) f)) a.out.now (u.result + v.result) (put_mid u.result (length u.new.out - u.result) u.new.out v.new.out)
 
 whole : (c : After-slice_known-3-1) → Both c
 whole c = wrote_all _ _ _ _ _ _ _ c.write_heads-a.ensures c.write_ends-b.ensures
@@ -36,7 +36,7 @@ whole c = wrote_all _ _ _ _ _ _ _ c.write_heads-a.ensures c.write_ends-b.ensures
 pub overflow_add-result : goal.overflow_add-result
 overflow_add-result c =
     let a = c.args in
-    omega (arith, all_place _ a.out.now _ _ (counted_fit a.n _) (whole (goal.at.overflow_add-result c).After-slice_known-3-1), all_length _ a.out.now _ _ (counted_fit a.n _) (whole (goal.at.overflow_add-result c).After-slice_known-3-1))
+    omega (arith, all_place _ a.out.now _ _ (counted_fit a.tally.now.count _) (whole (goal.at.overflow_add-result c).After-slice_known-3-1), all_length _ a.out.now _ _ (counted_fit a.tally.now.count _) (whole (goal.at.overflow_add-result c).After-slice_known-3-1))
 
 pub returns : goal.returns
-returns c = wrote_as _ _ _ _ _ (both_parts c.args.n _) (whole (goal.at.returns c).After-slice_known-3-1)
+returns c = wrote_as _ _ _ _ _ (both_parts c.args.tally.now.count _) (whole (goal.at.returns c).After-slice_known-3-1)
