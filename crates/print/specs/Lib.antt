@@ -1,0 +1,2 @@
+-- what must be believed
+pub mod Input
