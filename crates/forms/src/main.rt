@@ -5,10 +5,9 @@
 ghost use Rattle.std.specs.Prelude.{◌≤◌};
 
 use finishing::Tail;
-use machine::Answer;
 use ordering::Ordering;
 use report::Report;
-use rules::{Counts, Course, Event, Kind, Value};
+use rules::{Counts, Course, Event, Kind, Value, Verdict};
 use state::State;
 use std::io::Print;
 
@@ -26,81 +25,89 @@ fn show(rt: &impl Print, out: &[u8], k: usize) {
     }
 }
 
+// What a writer puts at the front of an output with room enough.
+fn written<F: FnOnce(&mut [u8]) -> usize>(rt: &impl Print, write: F)
+    requires { F.IsAlwaysCallable write }
+{
+    let mut out = [35u8; 514];
+    let k = write(&mut out);
+    show(rt, &out, k);
+}
+
 // `=` and the numbers.
 fn row(rt: &impl Print, ns: &[usize]) {
-    let mut out = [0u8; 256];
-    let k = decimal::write_row_line(&mut out, b"=", ns);
-    show(rt, &out, k);
+    written(rt, |out| decimal::write_row_line(out, b"=", ns));
+}
+
+// What one place of what is lent holds.
+trait Shown {
+    fn write(&self, rt: &impl Print);
+}
+
+impl Shown for u8 {
+    fn write(&self, rt: &impl Print) {
+        row(rt, &[usize::from(*self)]);
+    }
+}
+
+impl Shown for u32 {
+    fn write(&self, rt: &impl Print) {
+        row(rt, &[*self as usize]);
+    }
+}
+
+impl Shown for u64 {
+    fn write(&self, rt: &impl Print) {
+        row(rt, &[*self as usize]);
+    }
 }
 
 // `v 0 0` and the value.
-fn value(rt: &impl Print, x: Value) {
-    let mut out = [0u8; 256];
-    let ns: [usize; 2] = [0, 0];
-    let k = decimal::write_value_line(&mut out, b"v", &ns, x);
-    show(rt, &out, k);
-}
-
-// `=` and a number.
-fn small(rt: &impl Print, x: u8) {
-    let ns = [x as usize];
-    row(rt, &ns);
-}
-
-fn large(rt: &impl Print, x: u32) {
-    let ns = [x as usize];
-    row(rt, &ns);
-}
-
-// One place of what is lent.
-fn byte(rt: &impl Print, out: &[u8], i: usize) {
-    if i < out.len() {
-        small(rt, out[i]);
+impl Shown for Value {
+    fn write(&self, rt: &impl Print) {
+        written(
+            rt,
+            |out| decimal::write_value_line(out, b"v", &[0, 0], *self),
+        );
     }
 }
 
-fn word(rt: &impl Print, what: &[u32], i: usize) {
-    if i < what.len() {
-        large(rt, what[i]);
+// The line of the event, and the event.
+impl Shown for Event {
+    fn write(&self, rt: &impl Print) {
+        row(rt, &[self.line]);
+        written(rt, |out| writer::write_event(out, *self));
     }
 }
 
-fn value_at(rt: &impl Print, values: &[Value], i: usize) {
-    if i < values.len() {
-        value(rt, values[i]);
+// One place of what is lent, where it is lent.
+fn place<T: Shown>(rt: &impl Print, lent: &[T], i: usize) {
+    if let Some(x) = lent.get(i) {
+        x.write(rt);
     }
+}
+
+// Number and line of a refusal, both 0 where nothing is refused.
+fn refusal(v: Verdict) -> [usize; 2] {
+    [usize::from(rules::number_of(v)), rules::line_of(v)]
 }
 
 // ---- A trace where no order is wanted.
 
-// 1 where there is an order, else 0.
-fn ordered(o: Ordering) -> usize {
+// 1 where there is an order, else 0; then its sections, what denies it, or 0.
+fn about_order(o: Ordering) -> [usize; 2] {
     match o {
-        Ordering::Ordered(_) => 1,
-        Ordering::Unordered(_, _) => 0,
-        Ordering::NoOrder => 0,
-    }
-}
-
-// The sections of an order, what denies it, or 0.
-fn about_order(o: Ordering) -> usize {
-    match o {
-        Ordering::Ordered(c) => c,
-        Ordering::Unordered(number, _) => number as usize,
-        Ordering::NoOrder => 0,
+        Ordering::Ordered(c) => [1, c],
+        Ordering::Unordered(number, _) => [0, usize::from(number)],
+        Ordering::NoOrder => [0, 0],
     }
 }
 
 // Number, line, events, written, whether there is an order, and what is said of it.
 fn reported(rt: &impl Print, r: Report) {
-    let v = r.verdict;
-    let o = r.ordering;
-    let number = rules::number_of(v);
-    let line = rules::line_of(v);
-    let given = ordered(o);
-    let order = about_order(o);
-    let ns = [number as usize, line, r.events, r.written, given, order];
-    row(rt, &ns);
+    let [number, line] = refusal(r.verdict);
+    let [ordered, order] = about_order(r.ordering);
+    row(rt, &[number, line, r.events, r.written, ordered, order]);
 }
 
 // What is said, the listing, and what the lent memory then holds.
@@ -115,11 +122,11 @@ fn unordered(
     let r = report::mark_unordered(course, paper, what, values, out);
     reported(rt, r);
     show(rt, out, r.written);
-    word(rt, what, 0);
-    word(rt, what, 10);
-    value_at(rt, values, 1);
-    value_at(rt, values, 10);
-    byte(rt, out, 43);
+    place(rt, what, 0);
+    place(rt, what, 10);
+    place(rt, values, 1);
+    place(rt, values, 10);
+    place(rt, out, 43);
 }
 
 // With one place too few of each, then with enough; and three locks in the short course.
@@ -134,98 +141,73 @@ fn orderless(rt: &impl Print, paper: &[u8]) {
     unordered(rt, Course::Full, paper, &mut what, &mut fewer, &mut out);
     unordered(rt, Course::Full, paper, &mut what, &mut values, &mut narrow);
     unordered(rt, Course::Full, paper, &mut what, &mut values, &mut out);
-    unordered(
-        rt,
-        Course::Short,
-        b"H 2 1 3\nG -\nZ 12\n",
-        &mut what,
-        &mut values,
-        &mut out,
-    );
+    let locks = b"H 2 1 3\nG -\nZ 12\n";
+    unordered(rt, Course::Short, locks, &mut what, &mut values, &mut out);
 }
 
 // ---- The writers of a trace.
 
 fn event(rt: &impl Print, thread: usize, kind: Kind) {
-    let mut out = [35u8; 128];
     let e = Event {
-        thread: thread,
+        thread,
         line: 3,
-        kind: kind,
+        kind,
     };
-    let k = writer::write_event(&mut out, e);
-    show(rt, &out, k);
+    written(rt, |out| writer::write_event(out, e));
 }
 
 fn counts(threads: usize, variables: usize, locks: usize) -> Counts {
     Counts {
-        threads: threads,
-        variables: variables,
-        locks: locks,
+        threads,
+        variables,
+        locks,
         volatiles: [false; 16],
     }
-}
-
-fn head(rt: &impl Print, h: Counts) {
-    let mut out = [35u8; 128];
-    let k = writer::write_head(&mut out, h);
-    show(rt, &out, k);
-}
-
-fn guards(rt: &impl Print, given: bool, ns: &[usize]) {
-    let mut out = [35u8; 128];
-    let k = writer::write_guards(&mut out, given, ns);
-    show(rt, &out, k);
-}
-
-fn volatiles(rt: &impl Print, ns: &[usize]) {
-    let mut out = [35u8; 514];
-    let k = writer::write_volatiles(&mut out, ns);
-    show(rt, &out, k);
-}
-
-fn trailer(rt: &impl Print, n: usize) {
-    let mut out = [35u8; 128];
-    let k = writer::write_trailer(&mut out, n);
-    show(rt, &out, k);
 }
 
 // The paper of document 01.
 fn canonical(rt: &impl Print) {
     let h = counts(2, 1, 1);
-    let locks: [usize; 1] = [0];
-    head(rt, h);
-    guards(rt, true, &locks);
-    event(rt, 0, Kind::Lock(0));
-    event(rt, 0, Kind::Assign(0, 5));
-    event(rt, 0, Kind::Store(0, 5));
-    event(rt, 0, Kind::Write(0, 5));
-    event(rt, 0, Kind::Unlock(0));
-    event(rt, 1, Kind::Lock(0));
-    event(rt, 1, Kind::Read(0, 5));
-    event(rt, 1, Kind::Load(0, 5));
-    event(rt, 1, Kind::Use(0, 5));
-    event(rt, 1, Kind::Unlock(0));
-    trailer(rt, 84);
+    written(rt, |out| writer::write_head(out, h));
+    written(rt, |out| writer::write_guards(out, true, &[0]));
+    let events = [
+        (0, Kind::Lock(0)),
+        (0, Kind::Assign(0, 5)),
+        (0, Kind::Store(0, 5)),
+        (0, Kind::Write(0, 5)),
+        (0, Kind::Unlock(0)),
+        (1, Kind::Lock(0)),
+        (1, Kind::Read(0, 5)),
+        (1, Kind::Load(0, 5)),
+        (1, Kind::Use(0, 5)),
+        (1, Kind::Unlock(0)),
+    ];
+    for (thread, kind) in events {
+        event(rt, thread, kind);
+    }
+    written(rt, |out| writer::write_trailer(out, 84));
 }
 
 fn limits(rt: &impl Print) {
-    let locks: [usize; 1] = [0];
-    guards(rt, false, &locks);
-    let first: [usize; 1] = [0];
+    written(rt, |out| writer::write_guards(out, false, &[0]));
     let all: [usize; 16] = [0, 1, 2, 3, 4, 5, 6, 7, 8, 9, 10, 11, 12, 13, 14, 15];
-    volatiles(rt, &first);
-    volatiles(rt, &all);
-    event(rt, 7, Kind::Assign(15, -9223372036854775808));
-    event(rt, 7, Kind::Load(15, 9223372036854775807));
-    event(rt, 0, Kind::PrescientStore(15, -1));
-    event(rt, 7, Kind::PrescientAssign(0, 100));
-    event(rt, 18446744073709551615, Kind::Lock(18446744073709551615));
-    event(rt, 7, Kind::Wait(7));
-    event(rt, 0, Kind::Notify(7, 7));
-    // A thread that is notified is held at 255.
-    event(rt, 0, Kind::Notify(0, 18446744073709551615));
-    event(rt, 7, Kind::Resume(0));
+    written(rt, |out| writer::write_volatiles(out, &all[..1]));
+    written(rt, |out| writer::write_volatiles(out, &all));
+    let events = [
+        (7, Kind::Assign(15, Value::MIN)),
+        (7, Kind::Load(15, Value::MAX)),
+        (0, Kind::PrescientStore(15, -1)),
+        (7, Kind::PrescientAssign(0, 100)),
+        (usize::MAX, Kind::Lock(usize::MAX)),
+        (7, Kind::Wait(7)),
+        (0, Kind::Notify(7, 7)),
+        // A thread that is notified is held at 255.
+        (0, Kind::Notify(0, usize::MAX)),
+        (7, Kind::Resume(0)),
+    ];
+    for (thread, kind) in events {
+        event(rt, thread, kind);
+    }
 }
 
 // One byte less than each writer asks for: nothing is written.
@@ -233,23 +215,22 @@ fn little_room(rt: &impl Print) {
     let mut out = [35u8; 97];
     let mut narrow = [35u8; 35];
     let mut last = [35u8; 33];
-    let h = counts(2, 1, 1);
-    let locks: [usize; 1] = [0];
     let e = Event {
         thread: 0,
         line: 3,
         kind: Kind::Lock(0),
     };
-    let a = writer::write_head(&mut out, h);
-    let b = writer::write_event(&mut out, e);
-    let c = writer::write_guards(&mut narrow, true, &locks);
-    let d = writer::write_trailer(&mut last, 84);
-    let f = writer::write_volatiles(&mut last, &locks);
-    let ns = [a, b, c, d, f];
-    row(rt, &ns);
-    byte(rt, &out, 0);
-    byte(rt, &narrow, 0);
-    byte(rt, &last, 0);
+    let lengths = [
+        writer::write_head(&mut out, counts(2, 1, 1)),
+        writer::write_event(&mut out, e),
+        writer::write_guards(&mut narrow, true, &[0]),
+        writer::write_trailer(&mut last, 84),
+        writer::write_volatiles(&mut last, &[0]),
+    ];
+    row(rt, &lengths);
+    place(rt, &out, 0);
+    place(rt, &narrow, 0);
+    place(rt, &last, 0);
 }
 
 // ---- Rows of records.
@@ -257,14 +238,8 @@ fn little_room(rt: &impl Print) {
 // Number and line, and variable 0 in main memory.
 fn marked(rt: &impl Print, h: Counts, what: &[u32], values: &[Value]) {
     let r = machine::mark_row(h, what, values);
-    let v = r.verdict;
-    let m = r.memories;
-    let number = rules::number_of(v);
-    let line = rules::line_of(v);
-    let ns = [number as usize, line];
-    row(rt, &ns);
-    let first = m.main[0];
-    value(rt, first.value);
+    row(rt, &refusal(r.verdict));
+    r.memories.main[0].value.write(rt);
 }
 
 fn rows(rt: &impl Print) {
@@ -324,98 +299,89 @@ fn waiting_rows(rt: &impl Print) {
 fn part(rt: &impl Print, course: Course, paper: &[u8]) {
     let found = trace::find_events(course, paper);
     put(rt, found);
-    let ns = [found.len()];
-    row(rt, &ns);
+    row(rt, &[found.len()]);
 }
 
 // ---- Steps over a lent state.
 
-// The state is lent for one call, and answered as it comes back.
-fn stepped(course: Course, mut s: State, e: Event) -> Answer {
-    let v = event_rows::step_in_place(course, &mut s, e);
-    Answer {
-        verdict: v,
-        state: s,
+// Number, line, and the events so far.
+fn step(rt: &impl Print, course: Course, s: &mut State, thread: usize, kind: Kind) {
+    let e = Event {
+        thread,
+        line: 0,
+        kind,
+    };
+    let v = event_rows::step_in_place(course, s, e);
+    let [number, line] = refusal(v);
+    row(rt, &[number, line, s.events as usize]);
+}
+
+// One step after the other, each of a thread, in the full course.
+fn steps(rt: &impl Print, s: &mut State, events: &[(usize, Kind)]) {
+    for (thread, kind) in events {
+        step(rt, Course::Full, s, *thread, *kind);
     }
 }
 
-// Number, line, and the events so far.
-fn step_in(rt: &impl Print, course: Course, s: State, thread: usize, kind: Kind) -> State {
-    let e = Event {
-        thread: thread,
-        line: 0,
-        kind: kind,
-    };
-    let a = stepped(course, s, e);
-    let v = a.verdict;
-    let t = a.state;
-    let number = rules::number_of(v);
-    let line = rules::line_of(v);
-    let ns = [number as usize, line, t.events as usize];
-    row(rt, &ns);
-    t
-}
-
-fn step(rt: &impl Print, s: State, thread: usize, kind: Kind) -> State {
-    step_in(rt, Course::Full, s, thread, kind)
-}
-
 // Holder and depth of lock 0, and variable 0 in main memory.
-fn held(rt: &impl Print, s: State) {
+fn held(rt: &impl Print, s: &State) {
     let lock = s.holds[0];
-    let main = s.memory[0];
-    let ns = [lock.holder as usize, lock.depth as usize];
-    row(rt, &ns);
-    value(rt, main.value);
+    row(rt, &[lock.holder, lock.depth as usize]);
+    s.memory[0].value.write(rt);
 }
 
 // A lock that another thread holds.
 fn locks(rt: &impl Print, h: Counts) {
     let mut s = state::initial(h);
-    s = step(rt, s, 0, Kind::Lock(0));
-    s = step(rt, s, 0, Kind::Lock(0));
-    s = step(rt, s, 0, Kind::Unlock(0));
-    s = step(rt, s, 1, Kind::Lock(0));
-    held(rt, s);
+    let events = [
+        (0, Kind::Lock(0)),
+        (0, Kind::Lock(0)),
+        (0, Kind::Unlock(0)),
+        (1, Kind::Lock(0)),
+    ];
+    steps(rt, &mut s, &events);
+    held(rt, &s);
 }
 
 // All kinds without a wait; then 5, 9 and 8, which leave the state as it was.
 fn kinds(rt: &impl Print, h: Counts) {
     let mut s = state::initial(h);
-    s = step(rt, s, 0, Kind::Lock(0));
-    s = step(rt, s, 0, Kind::Read(0, 0));
-    s = step(rt, s, 0, Kind::Load(0, 0));
-    s = step(rt, s, 0, Kind::Use(0, 0));
-    s = step(rt, s, 0, Kind::Assign(0, 9223372036854775807));
-    s = step(rt, s, 0, Kind::Store(0, 9223372036854775807));
-    s = step(rt, s, 0, Kind::Write(0, 9223372036854775807));
-    s = step(rt, s, 0, Kind::PrescientStore(0, -9223372036854775808));
-    s = step(rt, s, 0, Kind::Write(0, -9223372036854775808));
-    s = step(rt, s, 0, Kind::PrescientAssign(0, -9223372036854775808));
-    s = step(rt, s, 0, Kind::Unlock(0));
-    held(rt, s);
-    s = step(rt, s, 2, Kind::Lock(0));
+    let events = [
+        (0, Kind::Lock(0)),
+        (0, Kind::Read(0, 0)),
+        (0, Kind::Load(0, 0)),
+        (0, Kind::Use(0, 0)),
+        (0, Kind::Assign(0, Value::MAX)),
+        (0, Kind::Store(0, Value::MAX)),
+        (0, Kind::Write(0, Value::MAX)),
+        (0, Kind::PrescientStore(0, Value::MIN)),
+        (0, Kind::Write(0, Value::MIN)),
+        (0, Kind::PrescientAssign(0, Value::MIN)),
+        (0, Kind::Unlock(0)),
+    ];
+    steps(rt, &mut s, &events);
+    held(rt, &s);
+    step(rt, Course::Full, &mut s, 2, Kind::Lock(0));
     s.events = 2000;
-    s = step(rt, s, 0, Kind::Lock(0));
+    step(rt, Course::Full, &mut s, 0, Kind::Lock(0));
     s.events = 2001;
-    s = step(rt, s, 0, Kind::Lock(0));
-    held(rt, s);
+    step(rt, Course::Full, &mut s, 0, Kind::Lock(0));
+    held(rt, &s);
 }
 
 // The short course: its event 200, then 25, 8 for 201 events, which the full course takes, and 8 for three threads.
 fn short_steps(rt: &impl Print, h: Counts) {
     let mut s = state::initial(h);
     s.events = 199;
-    s = step_in(rt, Course::Short, s, 0, Kind::Lock(0));
-    s = step_in(rt, Course::Short, s, 2, Kind::Lock(0));
+    step(rt, Course::Short, &mut s, 0, Kind::Lock(0));
+    step(rt, Course::Short, &mut s, 2, Kind::Lock(0));
     s.events = 201;
-    s = step_in(rt, Course::Short, s, 0, Kind::Lock(0));
-    s = step(rt, s, 0, Kind::Lock(0));
-    held(rt, s);
-    let many = counts(3, 2, 2);
-    s = state::initial(many);
-    s = step_in(rt, Course::Short, s, 0, Kind::Lock(0));
-    held(rt, s);
+    step(rt, Course::Short, &mut s, 0, Kind::Lock(0));
+    step(rt, Course::Full, &mut s, 0, Kind::Lock(0));
+    held(rt, &s);
+    s = state::initial(counts(3, 2, 2));
+    step(rt, Course::Short, &mut s, 0, Kind::Lock(0));
+    held(rt, &s);
 }
 
 // A volatile variable: lines are one further down. A use without its load, a second assign, an early store; then 8 for a volatile variable that is not
@@ -424,53 +390,63 @@ fn volatile_steps(rt: &impl Print) {
     let mut h = counts(1, 2, 1);
     h.volatiles[0] = true;
     let mut s = state::initial(h);
-    s = step(rt, s, 0, Kind::Use(0, 0));
-    s = step(rt, s, 0, Kind::Assign(0, 5));
-    s = step(rt, s, 0, Kind::Assign(0, 6));
-    s = step(rt, s, 0, Kind::Store(0, 5));
-    s = step(rt, s, 0, Kind::PrescientStore(0, 5));
-    s = step(rt, s, 0, Kind::Write(0, 5));
-    h.volatiles[2] = true;
-    s.counts = h;
-    s = step(rt, s, 0, Kind::Lock(0));
-    held(rt, s);
+    let events = [
+        (0, Kind::Use(0, 0)),
+        (0, Kind::Assign(0, 5)),
+        (0, Kind::Assign(0, 6)),
+        (0, Kind::Store(0, 5)),
+        (0, Kind::PrescientStore(0, 5)),
+        (0, Kind::Write(0, 5)),
+    ];
+    steps(rt, &mut s, &events);
+    s.counts.volatiles[2] = true;
+    step(rt, Course::Full, &mut s, 0, Kind::Lock(0));
+    held(rt, &s);
 }
 
 // What thread 0 waits for: its lock's number plus 1, the holds that it gave up, and whether it is notified.
-fn awaited(rt: &impl Print, s: State) {
+fn awaited(rt: &impl Print, s: &State) {
     let w = s.waits[0];
-    let ns = [w.lock, w.depth as usize, w.notified as usize];
-    row(rt, &ns);
+    row(rt, &[w.lock, w.depth as usize, usize::from(w.notified)]);
 }
 
 // Thread 0 gives up two holds, is notified and takes them again. Refused on the way: F for a thread that does not wait; of the waiting thread an assign, and a
 // C before it is notified; F by a thread without the lock, for an undeclared thread, on another lock and a second time; C while another holds the lock.
 fn waiting_steps(rt: &impl Print, h: Counts) {
     let mut s = state::initial(h);
-    s = step(rt, s, 0, Kind::Lock(0));
-    s = step(rt, s, 0, Kind::Lock(0));
-    s = step(rt, s, 0, Kind::Notify(0, 1));
-    s = step(rt, s, 0, Kind::Wait(0));
-    held(rt, s);
-    awaited(rt, s);
-    s = step(rt, s, 0, Kind::Assign(0, 5));
-    s = step(rt, s, 0, Kind::Read(0, 0));
-    s = step(rt, s, 0, Kind::Resume(0));
-    s = step(rt, s, 1, Kind::Notify(0, 0));
-    s = step(rt, s, 1, Kind::Lock(0));
-    s = step(rt, s, 1, Kind::Notify(0, 2));
-    s = step(rt, s, 1, Kind::Notify(1, 0));
-    s = step(rt, s, 1, Kind::Notify(0, 0));
-    awaited(rt, s);
-    s = step(rt, s, 1, Kind::Notify(0, 0));
-    s = step(rt, s, 0, Kind::Resume(0));
-    s = step(rt, s, 1, Kind::Unlock(0));
-    s = step(rt, s, 0, Kind::Resume(0));
-    held(rt, s);
-    awaited(rt, s);
+    let given_up = [
+        (0, Kind::Lock(0)),
+        (0, Kind::Lock(0)),
+        (0, Kind::Notify(0, 1)),
+        (0, Kind::Wait(0)),
+    ];
+    steps(rt, &mut s, &given_up);
+    held(rt, &s);
+    awaited(rt, &s);
+    let notified = [
+        (0, Kind::Assign(0, 5)),
+        (0, Kind::Read(0, 0)),
+        (0, Kind::Resume(0)),
+        (1, Kind::Notify(0, 0)),
+        (1, Kind::Lock(0)),
+        (1, Kind::Notify(0, 2)),
+        (1, Kind::Notify(1, 0)),
+        (1, Kind::Notify(0, 0)),
+    ];
+    steps(rt, &mut s, &notified);
+    awaited(rt, &s);
+    let resumed = [
+        (1, Kind::Notify(0, 0)),
+        (0, Kind::Resume(0)),
+        (1, Kind::Unlock(0)),
+        (0, Kind::Resume(0)),
+    ];
+    steps(rt, &mut s, &resumed);
+    held(rt, &s);
+    awaited(rt, &s);
 }
 
-fn steps(rt: &impl Print) {
+fn lent_states(rt: &impl Print) {
     put(rt, b"steps in place\n");
     let h = counts(2, 2, 2);
     volatile_steps(rt);
@@ -482,54 +458,25 @@ fn steps(rt: &impl Print) {
 
 // ---- Lent rows of events.
 
-// The first places of the row are lent for one call, and the row is answered as it comes back.
-fn filled(
-    mut rows: [Event; 5],
-    places: usize,
-    h: Counts,
-    what: &[u32],
-    values: &[Value],
-    n: usize,
-) -> [Event; 5]
-    requires { places ≤ 5 }
-{
-    event_rows::fill_records(&mut rows[..places], h, what, values, n);
-    rows
-}
-
 // An event that is in no row of records.
-fn filler() -> Event {
-    Event {
-        thread: 7,
-        line: 9,
-        kind: Kind::Use(7, 7),
+const FILLER: Event = Event {
+    thread: 7,
+    line: 9,
+    kind: Kind::Use(7, 7),
+};
+
+fn all_places(rt: &impl Print, rows: &[Event]) {
+    for e in rows {
+        e.write(rt);
     }
-}
-
-// The line of an event, and the event.
-fn listed(rt: &impl Print, e: Event) {
-    let mut out = [35u8; 128];
-    let ns = [e.line];
-    row(rt, &ns);
-    let k = writer::write_event(&mut out, e);
-    show(rt, &out, k);
-}
-
-fn all_listed(rt: &impl Print, rows: [Event; 5]) {
-    listed(rt, rows[0]);
-    listed(rt, rows[1]);
-    listed(rt, rows[2]);
-    listed(rt, rows[3]);
-    listed(rt, rows[4]);
 }
 
 fn fill(rt: &impl Print, places: usize, what: &[u32], values: &[Value], n: usize)
     requires { places ≤ 5 }
 {
-    let h = counts(1, 2, 1);
-    let e = filler();
-    let rows = filled([e; 5], places, h, what, values, n);
-    all_listed(rt, rows);
+    let mut rows = [FILLER; 5];
+    event_rows::fill_records(&mut rows[..places], counts(1, 2, 1), what, values, n);
+    all_places(rt, &rows);
 }
 
 // As many events as are asked for, as there are records, as are lent, as there are values, as are lent again; then up to a number that packs
@@ -560,103 +507,47 @@ fn fills(rt: &impl Print) {
 
 // ---- A trace into lent events.
 
-// What is said of a trace, and the row of its events.
+// How many places are lent.
 #[derive(Clone, Copy)]
-struct Outcome {
-    report: Report,
-    rows: [Event; 2000],
-}
-
-// The first places of the row are lent for one call, and the row is answered as it comes back.
-fn events_marked(
-    course: Course,
-    bytes: &[u8],
-    mut rows: [Event; 2000],
-    places: usize,
-    out: &mut [u8],
-    list: &mut [u64],
-    scratch: &mut [u64],
-) -> Outcome
-    requires { places ≤ 2000 }
-{
-    let r = event_rows::mark_events(course, bytes, &mut rows[..places], out, list, scratch);
-    Outcome {
-        report: r,
-        rows: rows,
-    }
-}
-
-fn entry(rt: &impl Print, list: &[u64], i: usize) {
-    if i < list.len() {
-        let ns = [list[i] as usize];
-        row(rt, &ns);
-    }
-}
-
-// The first event, the tenth, and the place after it.
-fn events_in(rt: &impl Print, rows: [Event; 2000]) {
-    listed(rt, rows[0]);
-    listed(rt, rows[9]);
-    listed(rt, rows[10]);
-}
-
-// The first three places of the order list; of the scratch the first, the last that must be lent and the next, where they are lent.
-fn lists(rt: &impl Print, list: &[u64], scratch: &[u64]) {
-    entry(rt, list, 0);
-    entry(rt, list, 1);
-    entry(rt, list, 2);
-    entry(rt, scratch, 0);
-    entry(rt, scratch, 999);
-    entry(rt, scratch, 1000);
-}
-
-// What is said, the listing, and what the lent memory then holds.
-fn eventful(
-    rt: &impl Print,
-    course: Course,
-    paper: &[u8],
-    places: usize,
-    out: &mut [u8],
-    list: &mut [u64],
-    scratch: &mut [u64],
-)
-    requires { places ≤ 2000 }
-{
-    let e = filler();
-    let o = events_marked(course, paper, [e; 2000], places, out, list, scratch);
-    let r = o.report;
-    let rows = o.rows;
-    reported(rt, r);
-    show(rt, out, r.written);
-    byte(rt, out, r.written);
-    events_in(rt, rows);
-    lists(rt, list, scratch);
-}
-
-// So many places are lent.
-fn eventful_in(
-    rt: &impl Print,
-    course: Course,
-    paper: &[u8],
-    places: usize,
+struct Lent {
+    events: usize,
     bytes: usize,
     entries: usize,
     cells: usize,
-)
-    requires { (places ≤ 2000) × ((bytes ≤ 32768) × ((entries ≤ 1000) × (cells ≤ 1001))) }
+}
+
+const ENOUGH: Lent = Lent {
+    events: 2000,
+    bytes: 32768,
+    entries: 1000,
+    cells: 1000,
+};
+
+// What is said, the listing, and what the lent memory then holds: after the listing the next byte; the first event, the tenth, and the place after it; the first
+// three places of the order list; of the scratch the first, the last that must be lent and the next, where they are lent.
+fn eventful(rt: &impl Print, course: Course, paper: &[u8], lent: Lent)
+    requires { (lent.events ≤ 2000) × ((lent.bytes ≤ 32768) × ((lent.entries ≤ 1000) × (lent.cells ≤ 1001))) }
 {
-    let mut out = [35u8; 32768];
-    let mut list = [77u64; 1000];
-    let mut scratch = [77u64; 1001];
-    eventful(
-        rt,
-        course,
-        paper,
-        places,
-        &mut out[..bytes],
-        &mut list[..entries],
-        &mut scratch[..cells],
-    );
+    let mut rows = [FILLER; 2000];
+    let mut bytes = [35u8; 32768];
+    let mut entries = [77u64; 1000];
+    let mut cells = [77u64; 1001];
+    let out = &mut bytes[..lent.bytes];
+    let list = &mut entries[..lent.entries];
+    let scratch = &mut cells[..lent.cells];
+    let r = event_rows::mark_events(course, paper, &mut rows[..lent.events], out, list, scratch);
+    reported(rt, r);
+    show(rt, out, r.written);
+    place(rt, out, r.written);
+    for i in [0, 9, 10] {
+        place(rt, &rows, i);
+    }
+    for i in 0..3 {
+        place(rt, list, i);
+    }
+    for i in [0, 999, 1000] {
+        place(rt, scratch, i);
+    }
 }
 
 // 7, with one place too few of each; then a trace that is refused, one without an order, and one with it, also from a longer
@@ -664,121 +555,94 @@ fn eventful_in(
 // an order without sections, and no guards.
 fn traces(rt: &impl Print, paper: &[u8]) {
     put(rt, b"a trace into events\n");
-    eventful_in(rt, Course::Full, paper, 1999, 32768, 1000, 1000);
-    eventful_in(rt, Course::Full, paper, 2000, 32767, 1000, 1000);
-    eventful_in(rt, Course::Full, paper, 2000, 32768, 999, 1000);
-    eventful_in(rt, Course::Full, paper, 2000, 32768, 1000, 999);
-    eventful_in(
+    eventful(
         rt,
         Course::Full,
-        b"H 2 1 1\nG 0\nU 0 0 0\nZ 20\n",
-        2000,
-        32768,
-        1000,
-        1000,
+        paper,
+        Lent {
+            events: 1999,
+            ..ENOUGH
+        },
     );
-    eventful_in(
+    eventful(
+        rt,
+        Course::Full,
+        paper,
+        Lent {
+            bytes: 32767,
+            ..ENOUGH
+        },
+    );
+    eventful(
+        rt,
+        Course::Full,
+        paper,
+        Lent {
+            entries: 999,
+            ..ENOUGH
+        },
+    );
+    eventful(
+        rt,
+        Course::Full,
+        paper,
+        Lent {
+            cells: 999,
+            ..ENOUGH
+        },
+    );
+    eventful(rt, Course::Full, b"H 2 1 1\nG 0\nU 0 0 0\nZ 20\n", ENOUGH);
+    eventful(
         rt,
         Course::Full,
         b"H 1 1 1\nG 0\nA 0 0 -9223372036854775808\nZ 39\n",
-        2000,
-        32768,
-        1000,
-        1000,
+        ENOUGH,
     );
-    eventful_in(rt, Course::Full, paper, 2000, 32768, 1000, 1000);
-    eventful_in(rt, Course::Full, paper, 2000, 32768, 1000, 1001);
-    eventful_in(rt, Course::Short, paper, 2000, 32768, 1000, 1000);
-    eventful_in(
+    eventful(rt, Course::Full, paper, ENOUGH);
+    eventful(
         rt,
-        Course::Short,
-        b"H 3 1 1\nG -\nZ 12\n",
-        2000,
-        32768,
-        1000,
-        1000,
+        Course::Full,
+        paper,
+        Lent {
+            cells: 1001,
+            ..ENOUGH
+        },
     );
-    eventful_in(
+    eventful(rt, Course::Short, paper, ENOUGH);
+    eventful(rt, Course::Short, b"H 3 1 1\nG -\nZ 12\n", ENOUGH);
+    eventful(
         rt,
         Course::Full,
         b"H 2 1 1\nG 0\nK 0 0\nR 0 0 0\nL 0 0 0\nU 0 0 0\nY 0 0\nK 1 0\nA 1 0 5\nS 1 0 5\nW 1 0 5\nF 1 0 0\nN 1 0\nC 0 0\nR 0 0 5\nL 0 0 5\nU 0 0 5\nN 0 0\nZ 128\n",
-        2000,
-        32768,
-        1000,
-        1000,
+        ENOUGH,
     );
-    eventful_in(
+    eventful(
         rt,
         Course::Full,
         b"H 1 1 1\nG 0\nK 0 0\nY 0 0\nZ 24\n",
-        2000,
-        32768,
-        1000,
-        1000,
+        ENOUGH,
     );
-    eventful_in(
-        rt,
-        Course::Full,
-        b"H 1 1 1\nG 0\nZ 12\n",
-        2000,
-        32768,
-        1000,
-        1000,
-    );
-    eventful_in(
-        rt,
-        Course::Full,
-        b"H 1 1 1\nG -\nZ 12\n",
-        2000,
-        32768,
-        1000,
-        1000,
-    );
+    eventful(rt, Course::Full, b"H 1 1 1\nG 0\nZ 12\n", ENOUGH);
+    eventful(rt, Course::Full, b"H 1 1 1\nG -\nZ 12\n", ENOUGH);
 }
 
 // ---- The tail of a trace into lent events.
 
-// What is said of a tail, and the row of its events.
-#[derive(Clone, Copy)]
-struct Finished {
-    tail: Tail,
-    rows: [Event; 5],
-}
-
-// The first places of the row are lent for one call, and the row is answered as it comes back.
-fn events_finished(course: Course, bytes: &[u8], mut rows: [Event; 5], places: usize) -> Finished
-    requires { places ≤ 5 }
-{
-    let t = event_rows::finish_events(course, bytes, &mut rows[..places]);
-    Finished {
-        tail: t,
-        rows: rows,
-    }
-}
-
 // Number, line, events, and the line of the first.
-fn told(rt: &impl Print, t: Tail) {
+fn told(t: Tail) -> [usize; 4] {
     match t {
-        Tail::Given(n, line) => {
-            let ns = [0, 0, n, line];
-            row(rt, &ns);
-        }
-        Tail::Refused(number, line) => {
-            let ns = [number as usize, line, 0, 0];
-            row(rt, &ns);
-        }
+        Tail::Given(n, line) => [0, 0, n, line],
+        Tail::Refused(number, line) => [usize::from(number), line, 0, 0],
     }
 }
 
 fn finish(rt: &impl Print, course: Course, paper: &[u8], places: usize)
     requires { places ≤ 5 }
 {
-    let e = filler();
-    let o = events_finished(course, paper, [e; 5], places);
-    let t = o.tail;
-    let rows = o.rows;
-    told(rt, t);
-    all_listed(rt, rows);
+    let mut rows = [FILLER; 5];
+    let tail = event_rows::finish_events(course, paper, &mut rows[..places]);
+    row(rt, &told(tail));
+    all_places(rt, &rows);
 }
 
 // A tail of four events, with one place more, all of them and one too few; none left to do; a trace that is refused; 24 of a volatile variable
@@ -816,7 +680,7 @@ fn main(rt: HostRuntime) {
     part(&rt, Course::Full, b"H 1 1 0\nG -\nV 0\nA 0 0 5\nZ 24\n");
     part(&rt, Course::Short, paper);
     part(&rt, Course::Short, b"H 1 5 1\nG -\nK 0 0\nZ 18\n");
-    steps(&rt);
+    lent_states(&rt);
     fills(&rt);
     traces(&rt, paper);
     tails(&rt);
