@@ -1,5 +1,6 @@
 -- What a program in C is told in plain numbers: of one step, of a whole trace, of its tail, and of the sheet of a sitting.
-use Rattle.std.specs.Prelude.{ℕ, ◌≡◌, cond, List, ℤ}
+use Rattle.std.specs.Prelude.{ℕ, ◌≡◌, cond, List, ℤ, Some, None, is_some}
+use Rattle.std.specs.Option.{unwrap_or}
 use Rattle.rules.specs.declared.Verdict.{Verdict}
 use Rattle.rules.specs.declared.Named.{Named}
 use Rattle.rules.specs.declared.Named.TheVariants.{Nothing, Of}
@@ -58,12 +59,21 @@ step_reply m s k t p x = on_named m s t (kind_of k p x)
 -- an order has so many sections, none too; a denied one has a number, 20 to 22, and a line; without guards, after a refusal and where none is
 -- wanted there is none
 abbrev pub order_reply : Ordering → OrderReply
-order_reply (Ordered c) = record { ordered = 1; sections = c; denial = 0; line = 0 }
-order_reply (Unordered number line) = record { ordered = 0; sections = 0; denial = number; line = line }
-order_reply NoOrder = record { ordered = 0; sections = 0; denial = 0; line = 0 }
+order_reply (Ordered c) = record { sections = Some c; denial = record { number = 0; line = 0 } }
+order_reply (Unordered number line) = record { sections = None; denial = record { number = number; line = line } }
+order_reply NoOrder = record { sections = None; denial = record { number = 0; line = 0 } }
 
 abbrev pub with_order : Report → Reply → OrderReply → MarkReply
-with_order r v o = record { number = v.number; line = v.line; events = r.events; written = r.written; ordered = o.ordered; sections = o.sections; denial = o.denial; denial_line = o.line }
+with_order r v o = record {
+  number = v.number;
+  line = v.line;
+  events = r.events;
+  written = r.written;
+  ordered = cond (is_some o.sections) 1 0;
+  sections = unwrap_or o.sections 0;
+  denial = o.denial.number;
+  denial_line = o.denial.line;
+}
 
 -- the numbers of a report: its refusal, the events of an accepted trace, the length of the listing, and the order
 unfoldable pub mark_reply : Report → MarkReply

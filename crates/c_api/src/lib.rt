@@ -10,7 +10,7 @@ ghost use Rattle.c_api.specs.Computed.Stepping.{event_of, reply_to};
 use finishing::Tail;
 use ordering::Ordering;
 use report::Report;
-use rules::{Counts, Course, Event, Kind, Named, Value, Verdict};
+use rules::{Counts, Course, Event, Kind, Named, VARIABLES, Value, Verdict};
 use session::Session;
 use state::State;
 
@@ -22,14 +22,15 @@ pub struct Reply {
     pub line: usize,
 }
 
-pub fn reply_of(v: Verdict) -> Reply
-    ensures { result ≡ reply_of v }
-{
-    let number = rules::number_of(v);
-    let line = rules::line_of(v);
-    Reply {
-        number: number as usize,
-        line: line,
+impl From<Verdict> for Reply {
+    ghost from_gives = { λ v r. r ≡ reply_of v };
+
+    #[tactic(auto, unfolding(crate::specs::Replies::reply_of))]
+    fn from(v: Verdict) -> Reply {
+        Reply {
+            number: usize::from(rules::number_of(v)),
+            line: rules::line_of(v),
+        }
     }
 }
 
@@ -50,14 +51,10 @@ fn event_of(h: Counts, named: Named, thread: usize, line: usize) -> Event
     match named {
         Named::Nothing => Event {
             thread: h.threads,
-            line: line,
+            line,
             kind: Kind::Assign(0, 0),
         },
-        Named::Of(kind) => Event {
-            thread: thread,
-            line: line,
-            kind: kind,
-        },
+        Named::Of(kind) => Event { thread, line, kind },
     }
 }
 
@@ -66,15 +63,8 @@ fn reply_to(named: Named, r: Reply) -> Reply
     ensures { result ≡ reply_to named r }
 {
     match named {
-        Named::Nothing => if r.line == 0 {
-            r
-        } else {
-            Reply {
-                number: 4,
-                line: r.line,
-            }
-        },
-        Named::Of(_) => r,
+        Named::Nothing if r.line != 0 => Reply { number: 4, ..r },
+        _ => r,
     }
 }
 
@@ -89,18 +79,13 @@ pub fn step_numbers(
 ) -> StepReply
     ensures { result ≡ step_reply (limits_of course) s letter thread place value }
 {
-    let h = s.counts;
-    let line = rules::line_after(h, s.events);
+    let line = rules::line_after(s.counts, s.events);
     let named = rules::kind_of(letter, place, value);
-    let e = event_of(h, named, thread, line);
+    let e = event_of(s.counts, named, thread, line);
     let a = machine::step(course, s, e);
-    let v = a.verdict;
-    let next = a.state;
-    let said = reply_of(v);
-    let reply = reply_to(named, said);
     StepReply {
-        reply: reply,
-        state: next,
+        reply: reply_to(named, Reply::from(a.verdict)),
+        state: a.state,
     }
 }
 
@@ -108,13 +93,12 @@ pub fn step_numbers(
 pub fn initial_numbers(threads: usize, variables: usize, locks: usize) -> State
     ensures { result ≡ initial_of threads variables locks }
 {
-    let h = Counts {
-        threads: threads,
-        variables: variables,
-        locks: locks,
-        volatiles: [false; rules::VARIABLES],
-    };
-    state::initial(h)
+    state::initial(Counts {
+        threads,
+        variables,
+        locks,
+        volatiles: [false; VARIABLES],
+    })
 }
 
 // Makes the state before the first event.
@@ -125,7 +109,23 @@ pub extern "C" fn dabzhoni_initial(s: &mut State, threads: usize, variables: usi
     *s = initial_numbers(threads, variables, locks);
 }
 
-// One step over the state that the caller keeps, changed in place, in the full course.
+// One step over the state that the caller keeps, changed in place.
+fn step_in_place(
+    course: Course,
+    s: &mut State,
+    letter: u8,
+    thread: usize,
+    place: usize,
+    value: Value,
+) -> Reply
+    ensures { record { reply = result; state = s.new } ≡ step_reply (limits_of course) s.old letter thread place value }
+{
+    let a = step_numbers(course, *s, letter, thread, place, value);
+    *s = a.state;
+    a.reply
+}
+
+// The same in the full course.
 #[unsafe(no_mangle)]
 pub extern "C" fn dabzhoni_step(
     s: &mut State,
@@ -136,9 +136,7 @@ pub extern "C" fn dabzhoni_step(
 ) -> Reply
     ensures { record { reply = result; state = s.new } ≡ step_reply full s.old letter thread place value }
 {
-    let a = step_numbers(Course::Full, *s, letter, thread, place, value);
-    *s = a.state;
-    a.reply
+    step_in_place(Course::Full, s, letter, thread, place, value)
 }
 
 // The same in the short course.
@@ -152,44 +150,39 @@ pub extern "C" fn dabzhoni_step_short(
 ) -> Reply
     ensures { record { reply = result; state = s.new } ≡ step_reply short s.old letter thread place value }
 {
-    let a = step_numbers(Course::Short, *s, letter, thread, place, value);
-    *s = a.state;
-    a.reply
+    step_in_place(Course::Short, s, letter, thread, place, value)
 }
 
 // ---- A whole trace.
 
-// What is said of an order: 1 where there is one, and how many entries the order list then has; or the number and the line of what denies it.
+// What is said of an order: how many entries the order list has, where there is an order; and the number and the line of what denies it, else 0.
 #[derive(Clone, Copy)]
 pub struct OrderReply {
-    pub ordered: usize,
-    pub sections: usize,
-    pub denial: usize,
-    pub line: usize,
+    pub sections: Option<usize>,
+    pub denial: Reply,
 }
 
-pub fn order_reply(o: Ordering) -> OrderReply
-    ensures { result ≡ order_reply o }
-{
-    match o {
-        Ordering::Ordered(c) => OrderReply {
-            ordered: 1,
-            sections: c,
-            denial: 0,
-            line: 0,
-        },
-        Ordering::Unordered(number, line) => OrderReply {
-            ordered: 0,
-            sections: 0,
-            denial: number as usize,
-            line: line,
-        },
-        Ordering::NoOrder => OrderReply {
-            ordered: 0,
-            sections: 0,
-            denial: 0,
-            line: 0,
-        },
+impl From<Ordering> for OrderReply {
+    ghost from_gives = { λ o r. r ≡ order_reply o };
+
+    fn from(o: Ordering) -> OrderReply {
+        match o {
+            Ordering::Ordered(c) => OrderReply {
+                sections: Some(c),
+                denial: Reply { number: 0, line: 0 },
+            },
+            Ordering::Unordered(number, line) => OrderReply {
+                sections: None,
+                denial: Reply {
+                    number: usize::from(number),
+                    line,
+                },
+            },
+            Ordering::NoOrder => OrderReply {
+                sections: None,
+                denial: Reply { number: 0, line: 0 },
+            },
+        }
     }
 }
 
@@ -209,23 +202,23 @@ pub struct MarkReply {
     pub denial_line: usize,
 }
 
-// The numbers of a report.
-pub fn mark_reply(r: Report) -> MarkReply
-    ensures { result ≡ mark_reply r }
-{
-    let verdict = r.verdict;
-    let ordering = r.ordering;
-    let v = reply_of(verdict);
-    let o = order_reply(ordering);
-    MarkReply {
-        number: v.number,
-        line: v.line,
-        events: r.events,
-        written: r.written,
-        ordered: o.ordered,
-        sections: o.sections,
-        denial: o.denial,
-        denial_line: o.line,
+impl From<Report> for MarkReply {
+    ghost from_gives = { λ r m. m ≡ mark_reply r };
+
+    #[tactic(auto, unfolding(crate::specs::Replies::mark_reply))]
+    fn from(r: Report) -> MarkReply {
+        let v = Reply::from(r.verdict);
+        let o = OrderReply::from(r.ordering);
+        MarkReply {
+            number: v.number,
+            line: v.line,
+            events: r.events,
+            written: r.written,
+            ordered: usize::from(o.sections.is_some()),
+            sections: o.sections.unwrap_or(0),
+            denial: o.denial.number,
+            denial_line: o.denial.line,
+        }
     }
 }
 
@@ -241,8 +234,7 @@ pub extern "C" fn dabzhoni_mark(
 ) -> MarkReply
     ensures { MarkReplies full paper.now what.old values.old out.old order.old scratch.old result what.new values.new out.new order.new scratch.new }
 {
-    let r = report::mark_trace(Course::Full, paper, what, values, out, order, scratch);
-    mark_reply(r)
+    MarkReply::from(report::mark_trace(Course::Full, paper, what, values, out, order, scratch))
 }
 
 // The same where no order is wanted.
@@ -255,8 +247,7 @@ pub extern "C" fn dabzhoni_mark_unordered(
 ) -> MarkReply
     ensures { BriefReplies full paper.now what.old values.old out.old result what.new values.new out.new }
 {
-    let r = report::mark_unordered(Course::Full, paper, what, values, out);
-    mark_reply(r)
+    MarkReply::from(report::mark_unordered(Course::Full, paper, what, values, out))
 }
 
 // ---- A whole trace of the short course.
@@ -273,8 +264,7 @@ pub extern "C" fn dabzhoni_mark_short(
 ) -> MarkReply
     ensures { MarkReplies short paper.now what.old values.old out.old order.old scratch.old result what.new values.new out.new order.new scratch.new }
 {
-    let r = report::mark_trace(Course::Short, paper, what, values, out, order, scratch);
-    mark_reply(r)
+    MarkReply::from(report::mark_trace(Course::Short, paper, what, values, out, order, scratch))
 }
 
 // The same where no order is wanted.
@@ -287,8 +277,7 @@ pub extern "C" fn dabzhoni_mark_short_unordered(
 ) -> MarkReply
     ensures { BriefReplies short paper.now what.old values.old out.old result what.new values.new out.new }
 {
-    let r = report::mark_unordered(Course::Short, paper, what, values, out);
-    mark_reply(r)
+    MarkReply::from(report::mark_unordered(Course::Short, paper, what, values, out))
 }
 
 // ---- The tail of a trace.
@@ -304,22 +293,24 @@ pub struct TailReply {
     pub first: usize,
 }
 
-pub fn tail_reply(t: Tail) -> TailReply
-    ensures { result ≡ tail_reply t }
-{
-    match t {
-        Tail::Given(n, line) => TailReply {
-            number: 0,
-            line: 0,
-            events: n,
-            first: line,
-        },
-        Tail::Refused(number, line) => TailReply {
-            number: number as usize,
-            line: line,
-            events: 0,
-            first: 0,
-        },
+impl From<Tail> for TailReply {
+    ghost from_gives = { λ t r. r ≡ tail_reply t };
+
+    fn from(t: Tail) -> TailReply {
+        match t {
+            Tail::Given(n, line) => TailReply {
+                number: 0,
+                line: 0,
+                events: n,
+                first: line,
+            },
+            Tail::Refused(number, line) => TailReply {
+                number: usize::from(number),
+                line,
+                events: 0,
+                first: 0,
+            },
+        }
     }
 }
 
@@ -328,8 +319,7 @@ pub fn tail_reply(t: Tail) -> TailReply
 pub extern "C" fn dabzhoni_finish(paper: &[u8], what: &mut [u32], values: &mut [Value]) -> TailReply
     ensures { TailReplies full paper.now what.old values.old result what.new values.new }
 {
-    let t = finishing::finish(Course::Full, paper, what, values);
-    tail_reply(t)
+    TailReply::from(finishing::finish(Course::Full, paper, what, values))
 }
 
 // The same in the short course.
@@ -341,8 +331,7 @@ pub extern "C" fn dabzhoni_finish_short(
 ) -> TailReply
     ensures { TailReplies short paper.now what.old values.old result what.new values.new }
 {
-    let t = finishing::finish(Course::Short, paper, what, values);
-    tail_reply(t)
+    TailReply::from(finishing::finish(Course::Short, paper, what, values))
 }
 
 // ---- The sheet of a sitting.
@@ -359,17 +348,19 @@ pub struct SheetReply {
     pub written: usize,
 }
 
-pub fn sheet_reply(s: Session) -> SheetReply
-    ensures { result ≡ sheet_reply s }
-{
-    let verdict = s.verdict;
-    let v = reply_of(verdict);
-    SheetReply {
-        number: v.number,
-        line: v.line,
-        papers: s.traces,
-        accepted: s.accepted,
-        written: s.written,
+impl From<Session> for SheetReply {
+    ghost from_gives = { λ s r. r ≡ sheet_reply s };
+
+    #[tactic(auto, unfolding(crate::specs::Replies::sheet_reply))]
+    fn from(s: Session) -> SheetReply {
+        let v = Reply::from(s.verdict);
+        SheetReply {
+            number: v.number,
+            line: v.line,
+            papers: s.traces,
+            accepted: s.accepted,
+            written: s.written,
+        }
     }
 }
 
@@ -378,8 +369,7 @@ pub fn sheet_reply(s: Session) -> SheetReply
 pub extern "C" fn dabzhoni_sheet(sheet: &[u8], out: &mut [u8]) -> SheetReply
     ensures { SheetReplies full sheet.now out.old result out.new }
 {
-    let s = session::mark_sheet(Course::Full, sheet, out);
-    sheet_reply(s)
+    SheetReply::from(session::mark_sheet(Course::Full, sheet, out))
 }
 
 // The same in the short course.
@@ -387,6 +377,5 @@ pub extern "C" fn dabzhoni_sheet(sheet: &[u8], out: &mut [u8]) -> SheetReply
 pub extern "C" fn dabzhoni_sheet_short(sheet: &[u8], out: &mut [u8]) -> SheetReply
     ensures { SheetReplies short sheet.now out.old result out.new }
 {
-    let s = session::mark_sheet(Course::Short, sheet, out);
-    sheet_reply(s)
+    SheetReply::from(session::mark_sheet(Course::Short, sheet, out))
 }
