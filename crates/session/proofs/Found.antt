@@ -12,10 +12,7 @@ use Rattle.std.specs.Prelude.{Option, Some, None}
 use Rattle.serial.specs.Lists.{All}
 use Rattle.lines.specs.Lines.{up_to, split_on, on_first, letter}
 use Rattle.lines.proofs.PartLaws.{empty}
-use Rattle.decimal.specs.declared.Natural.{Natural}
-use Rattle.decimal.specs.declared.Natural.TheVariants as natural
 use Rattle.decimal.specs.Decimal.{natural_of}
-use Rattle.trace.specs.declared.Trailer.TheVariants as trailer
 use Rattle.trace.specs.Trace.{check_at, last_line, last_number, trailer_number, trailer_of}
 use Rattle.trace.proofs.TraceLaws.{last_le, part_drop}
 use Rattle.listing.proofs.ListLaws.{both}
@@ -75,7 +72,7 @@ module _ (xs p : List ℕ) (more : 0 < last_line p) where
 
   number_behind : last_number (xs ++ p) ≡ last_number p
   unfolding last_number
-  number_behind = (λ i. cond (eqb (byte_behind i) 10) (trailer_number (split_on 32 (line_behind i))) natural.Bad)
+  number_behind = (λ i. cond (eqb (byte_behind i) 10) (trailer_number (split_on 32 (line_behind i))) None)
 
 -- what is left from a on, where the last line starts behind a
 last_drop : (a : ℕ) (s : List ℕ) → a < last_line s → last_line (drop a s) ≡ last_line s - a
@@ -99,11 +96,11 @@ letter_first (x ∷ xs) h = by (eqb x 32) (split_on 32 xs) h
     by false ([] ∷ fs) h = h
     by false ((y ∷ f) ∷ fs) h = absurd (omega arith)
 
-number_letter : (fs : List (List ℕ)) (n : ℕ) → trailer_number fs ≡ natural.Of n → letter (get_or fs 0 []) ≡ 90
+number_letter : (fs : List (List ℕ)) (n : ℕ) → trailer_number fs ≡ Some n → letter (get_or fs 0 []) ≡ 90
 unfolding trailer_number
 number_letter fs n e = by (eqb (length fs) 2) (eqb (letter (get_or fs 0 [])) 90) refl e
   where
-    by : (p q : Bool) → eqb (letter (get_or fs 0 [])) 90 ≡ q → cond p (cond q (natural_of (get_or fs 1 [])) natural.Bad) natural.Bad ≡ natural.Of n
+    by : (p q : Bool) → eqb (letter (get_or fs 0 [])) 90 ≡ q → cond p (cond q (natural_of (get_or fs 1 [])) None) None ≡ Some n
         → letter (get_or fs 0 []) ≡ 90
     by true true r e = eqb-true (letter (get_or fs 0 [])) 90 r
     by true false r e = absurd (let z : ◌≡◌ {A = ℕ} 0 1 = cc in omega arith)
@@ -115,11 +112,11 @@ first_part (suc m) a b s h =
     let z : a ≡ a + 0 = omega arith in
     ap (λ (k : ℕ). get_or s k 0) z ∙ sym (get_or-drop a s 0 0) ∙ sym (get_or-take (suc m) (drop a s) 0 0 (omega arith)) ∙ h
 
-last_z : (s : List ℕ) (n : ℕ) → last_number s ≡ natural.Of n → get_or s (last_line s) 0 ≡ 90
+last_z : (s : List ℕ) (n : ℕ) → last_number s ≡ Some n → get_or s (last_line s) 0 ≡ 90
 unfolding last_number
 last_z s n e = by (eqb (get_or s (length s - 1) 0) 10) e
   where
-    by : (t : Bool) → cond t (trailer_number (split_on 32 (take (length s - 1 - last_line s) (drop (last_line s) s)))) natural.Bad ≡ natural.Of n → get_or s (last_line s) 0 ≡ 90
+    by : (t : Bool) → cond t (trailer_number (split_on 32 (take (length s - 1 - last_line s) (drop (last_line s) s)))) None ≡ Some n → get_or s (last_line s) 0 ≡ 90
     by true e =
         let l = take (length s - 1 - last_line s) (drop (last_line s) s) in
         first_part (length s - 1 - last_line s) (last_line s) 89 s (letter_first l (number_letter (split_on 32 l) n e))
@@ -127,19 +124,19 @@ last_z s n e = by (eqb (get_or s (length s - 1) 0) 10) e
 
 -- ---- a right trailer has the number of bytes before it
 
-right_number : (t : List ℕ) → trailer_of t ≡ trailer.At (last_line t) → last_number t ≡ natural.Of (last_line t)
+right_number : (t : List ℕ) → trailer_of t ≡ Some (last_line t) → last_number t ≡ Some (last_line t)
 unfolding trailer_of
 right_number t h = by (last_number t) h
   where
-    on : (n : ℕ) (q : Bool) → eqb n (last_line t) ≡ q → cond q (trailer.At (last_line t)) trailer.Wrong ≡ trailer.At (last_line t) → natural.Of n ≡ natural.Of (last_line t)
-    on n true r h = ap (λ (k : ℕ). natural.Of k) (eqb-true n (last_line t) r)
+    on : (n : ℕ) (q : Bool) → eqb n (last_line t) ≡ q → cond q (Some n) None ≡ Some (last_line t) → Some n ≡ Some (last_line t)
+    on n true r h = h
     on n false r h = absurd (let z : ◌≡◌ {A = ℕ} 0 1 = cc in omega arith)
 
-    by : (n : Natural) → check_at (last_line t) n ≡ trailer.At (last_line t) → n ≡ natural.Of (last_line t)
-    by natural.Bad h = absurd (let z : ◌≡◌ {A = ℕ} 0 1 = cc in omega arith)
-    by (natural.Of n) h = on n (eqb n (last_line t)) refl h
+    by : (n : Option ℕ) → check_at (last_line t) n ≡ Some (last_line t) → n ≡ Some (last_line t)
+    by None h = absurd (let z : ◌≡◌ {A = ℕ} 0 1 = cc in omega arith)
+    by (Some n) h = on n (eqb n (last_line t)) refl h
 
-number_trailed : (t : List ℕ) → last_number t ≡ natural.Of (last_line t) → trailer_of t ≡ trailer.At (last_line t)
+number_trailed : (t : List ℕ) → last_number t ≡ Some (last_line t) → trailer_of t ≡ Some (last_line t)
 unfolding trailer_of
 number_trailed t e = ap (check_at (last_line t)) e ∙ rw (eq-eqb (last_line t) (last_line t) refl)
 
@@ -157,7 +154,7 @@ start_behind : (xs p : List ℕ) → Ends p → start_of (xs ++ p) ≡ Some (len
 unfolding start_of
 start_behind xs p e =
     let m = ends_more p e in
-    let n : last_number (xs ++ p) ≡ natural.Of (last_line p) = number_behind xs p m ∙ right_number p e.trailed in
+    let n : last_number (xs ++ p) ≡ Some (last_line p) = number_behind xs p m ∙ right_number p e.trailed in
     let l = last_behind xs p m in
     let back : length xs + last_line p - last_line p ≡ length xs = omega arith in
     let z : length xs ≡ length xs + 0 = omega arith in
@@ -171,7 +168,7 @@ pub record Cut (s : List ℕ) (a : ℕ) : Type 0 where
   pub ends : Ends (drop a s)
 
 -- a trailer at the end of s, with the number n, that points to an `H` at a
-cut : (s : List ℕ) (a n : ℕ) → last_number s ≡ natural.Of n → n ≤ last_line s → last_line s - n ≡ a → get_or s a 0 ≡ 72 → Cut s a
+cut : (s : List ℕ) (a n : ℕ) → last_number s ≡ Some n → n ≤ last_line s → last_line s - n ≡ a → get_or s a 0 ≡ 72 → Cut s a
 cut s a n r h d b = record { within = inside; ends = record { begins = first; trailed = number_trailed (drop a s) number } }
   where
     by : (t : Bool) → ltb a (last_line s) ≡ t → a < last_line s
@@ -187,17 +184,17 @@ cut s a n r h d b = record { within = inside; ends = record { begins = first; tr
     first : get_or (drop a s) 0 0 ≡ 72
     first = let z : a + 0 ≡ a = omega arith in get_or-drop a s 0 0 ∙ ap (λ (k : ℕ). get_or s k 0) z ∙ b
 
-    number : last_number (drop a s) ≡ natural.Of (last_line (drop a s))
+    number : last_number (drop a s) ≡ Some (last_line (drop a s))
     number =
         let l = last_drop a s inside in
         let e : n ≡ last_line (drop a s) = omega (arith, l, d, h) in
-        sym (number_behind (take a s) (drop a s) (omega (arith, l, inside))) ∙ ap last_number (take-append-drop a s) ∙ r ∙ ap (λ (k : ℕ). natural.Of k) e
+        sym (number_behind (take a s) (drop a s) (omega (arith, l, inside))) ∙ ap last_number (take-append-drop a s) ∙ r ∙ ap (λ (k : ℕ). Some k) e
 
 start_cut : (s : List ℕ) (a : ℕ) → start_of s ≡ Some a → Cut s a
 unfolding start_of
 start_cut s a h = by (last_number s) refl h
   where
-    on : (n : ℕ) → last_number s ≡ natural.Of n → (p q : Bool) → leb n (last_line s) ≡ p → eqb (get_or s (last_line s - n) 0) 72 ≡ q
+    on : (n : ℕ) → last_number s ≡ Some n → (p q : Bool) → leb n (last_line s) ≡ p → eqb (get_or s (last_line s - n) 0) 72 ≡ q
         → cond (p && q) (Some (last_line s - n)) None ≡ Some a → Cut s a
     on n r true true u v h =
         let d : last_line s - n ≡ a = cc in
@@ -205,9 +202,9 @@ start_cut s a h = by (last_number s) refl h
     on n r true false u v h = absurd (let z : ◌≡◌ {A = ℕ} 0 1 = cc in omega arith)
     on n r false q u v h = absurd (let z : ◌≡◌ {A = ℕ} 0 1 = cc in omega arith)
 
-    by : (n : Natural) → last_number s ≡ n → pointed s (last_line s) n ≡ Some a → Cut s a
-    by natural.Bad r h = absurd (let z : ◌≡◌ {A = ℕ} 0 1 = cc in omega arith)
-    by (natural.Of n) r h = on n r (leb n (last_line s)) (eqb (get_or s (last_line s - n) 0) 72) refl refl h
+    by : (n : Option ℕ) → last_number s ≡ n → pointed s (last_line s) n ≡ Some a → Cut s a
+    by None r h = absurd (let z : ◌≡◌ {A = ℕ} 0 1 = cc in omega arith)
+    by (Some n) r h = on n r (leb n (last_line s)) (eqb (get_or s (last_line s - n) 0) 72) refl refl h
 
 -- each start is before the end
 pub start_lt : (s : List ℕ) (a : ℕ) → start_of s ≡ Some a → a < length s

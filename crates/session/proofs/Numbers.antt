@@ -18,7 +18,7 @@ use Rattle.rules.specs.Limits.{limits_of, full, line_after, allowed, declared}
 use Rattle.rules.specs.Rules.{Words, words_of, rows, row_in, judge, answer, verdict, Marked, accepted, refused, told, number_in, refused_or, unless, mark_read}
 use Rattle.rules.proofs.Laws.{is_true, all_of, each_among, named_among, letters, lettered}
 use Rattle.serial.specs.Lists.{All}
-use Rattle.trace.specs.Trace.{last_line, trace_of}
+use Rattle.trace.specs.Trace.{last_line, trace_of, head_in}
 use Rattle.trace.proofs.TraceLaws.{found_number, trailed_number}
 use Rattle.marking.specs.Marking.{lines_in, marked_of}
 use Rattle.session.specs.Sheet.{Ends, joined, holds, sheet_of}
@@ -73,12 +73,12 @@ module _ (f : ℕ → Bool) (t : Passes f) where
     lines_pass h es (some e ∷ rs) = unless_pass (verdict (limits_of c) h es e) (line_after h (length es)) _ (verdict_pass h es e) (lines_pass h (e ∷ es) rs)
 
     -- where what finding refuses passes
-    number_pass : (s : List ℕ) → ((n line : ℕ) → told (trace_of (limits_of c) s).verdict ≡ refused n line → T (f n)) → T (f (number_in (marked_of (limits_of c) s)))
+    number_pass : (s : List ℕ) → ((n line : ℕ) → told (trace_of (limits_of c) s) ≡ refused n line → T (f n)) → T (f (number_in (marked_of (limits_of c) s)))
     unfolding marked_of
-    number_pass s g = by (told (trace_of (limits_of c) s).verdict) g
+    number_pass s g = by (told (trace_of (limits_of c) s)) g
       where
-        by : (v : Marked) → ((n line : ℕ) → v ≡ refused n line → T (f n)) → T (f (number_in (refused_or v (mark_read (limits_of c) (trace_of (limits_of c) s).head [] (lines_in (limits_of c) s)))))
-        by accepted g = lines_pass (trace_of (limits_of c) s).head [] (lines_in (limits_of c) s)
+        by : (v : Marked) → ((n line : ℕ) → v ≡ refused n line → T (f n)) → T (f (number_in (refused_or v (mark_read (limits_of c) (head_in (trace_of (limits_of c) s)) [] (lines_in (limits_of c) s)))))
+        by accepted g = lines_pass (head_in (trace_of (limits_of c) s)) [] (lines_in (limits_of c) s)
         by (refused n line) g = g n line refl
 
     -- of finding 1, 2, 3 and 6

@@ -7,6 +7,8 @@ use borrow.Author.Tests.{lt-ltb, le-ltb}
 use lib.IntN.{ℤ}
 use lib.ListN.{length, get_or, take, drop}
 use lib.Seq.{take-append_seam, drop-append_seam}
+use Rattle.std.specs.Prelude.{Result}
+use Rattle.rules.specs.declared.Refusal.{Refusal}
 use Rattle.rules.specs.Limits.{Limits, full}
 use Rattle.rules.specs.Rules.{refused, told, said, number_in}
 use Rattle.decimal.specs.Text.{over}
@@ -19,8 +21,8 @@ use Rattle.session.specs.Counting.{numbers_of, times}
 use Rattle.session.specs.Session.{sheet_lines, sheet_text, session_with, too_little, Sessions}
 
 -- each number is that of the verdict which `marking::mark` gives of the trace alone
-pub own_verdict : (m : Limits) (ts : List (List ℕ)) (k : ℕ) → k < length ts → (whats : List ℕ) (values : List ℤ) (r : Marking) (whats' : List ℕ) (values' : List ℤ)
-    → Marks m (get_or ts k []) whats values r whats' values' → get_or (numbers_of m ts) k 0 ≡ number_in (told r.verdict)
+pub own_verdict : (m : Limits) (ts : List (List ℕ)) (k : ℕ) → k < length ts → (whats : List ℕ) (values : List ℤ) (r : Result Marking Refusal) (whats' : List ℕ) (values' : List ℤ)
+    → Marks m (get_or ts k []) whats values r whats' values' → get_or (numbers_of m ts) k 0 ≡ number_in (told r)
 unfolding numbers_of
 own_verdict m [] k h whats values r whats' values' w = absurd (omega arith)
 own_verdict m (t ∷ ts) zero h whats values r whats' values' w = ap number_in (sym w.says)

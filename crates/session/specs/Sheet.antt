@@ -1,9 +1,6 @@
 -- Document 02 (j), the session sheet: "Papers of a sitting are joined end to end", and how these traces are found again.
 use Rattle.std.specs.Prelude.{ℕ, zero, suc, ◌-◌, ◌≡◌, cond, ◌&&◌, Option, Some, None, List, [], ◌∷◌, ◌++◌, eqb, ltb, leb, length, get_or, take, drop}
 use Rattle.rules.specs.Limits.{full}
-use Rattle.decimal.specs.declared.Natural.{Natural}
-use Rattle.decimal.specs.declared.Natural.TheVariants as natural
-use Rattle.trace.specs.declared.Trailer.TheVariants as trailer
 use Rattle.trace.specs.Trace.{last_line, last_number, trailer_of}
 
 -- ---- what a sheet is
@@ -17,14 +14,14 @@ joined (t ∷ ts) = t ++ joined ts
 -- for the marker to say.
 pub record Ends (t : List ℕ) : Type 0 where
   pub begins : get_or t 0 0 ≡ 72
-  pub trailed : trailer_of t ≡ trailer.At (last_line t)
+  pub trailed : trailer_of t ≡ Some (last_line t)
 
 -- ---- how it is read
 
 -- A trailer at `at` with the number n points back by n bytes: not before the first byte, and at an `H`.
-abbrev pub pointed : List ℕ → ℕ → Natural → Option ℕ
-pointed s at natural.Bad = None
-pointed s at (natural.Of n) = cond (leb n at && eqb (get_or s (at - n) 0) 72) (Some (at - n)) None
+abbrev pub pointed : List ℕ → ℕ → Option ℕ → Option ℕ
+pointed s at None = None
+pointed s at (Some n) = cond (leb n at && eqb (get_or s (at - n) 0) 72) (Some (at - n)) None
 
 -- where the last trace starts
 unfoldable pub start_of : List ℕ → Option ℕ

@@ -12,8 +12,7 @@ ghost use Rattle.session.specs.Counting.{divides_both, common};
 ghost use Rattle.session.specs.Session.{count_lines, refused_lines, lowest_line, greatest, counted_lines, session_with, Sessions};
 ghost use Rattle.session.specs.Computed.Tally.{count_in, tally_of, refused_with, head_lines, end_lines};
 
-use decimal::Natural;
-use rules::{Course, OUTPUT, RECORDS, Value, Verdict};
+use rules::{Course, OUTPUT, RECORDS, Refusal, Value, Verdict};
 
 // What is said of a sheet: its refusal, or how many traces it holds and how many of them are accepted, both 0 after a refusal; and the length of
 // its text.
@@ -38,14 +37,11 @@ struct Tally {
 // ---- Finding.
 
 // Where a trailer at `at` with this number points; it must be an `H`.
-fn point(s: &[u8], at: usize, number: Natural) -> Option<usize>
+fn point(s: &[u8], at: usize, number: Option<usize>) -> Option<usize>
     requires { at < length s.now }
     ensures { result ≡ pointed s.now at number }
 {
-    let Natural::Of(n) = number else {
-        return None;
-    };
-    let a = at.checked_sub(n)?;
+    let a = at.checked_sub(number?)?;
     let head = s[a] == b'H';
     head.then_some(a)
 }
@@ -70,8 +66,10 @@ fn number_of(
 ) -> usize
     ensures { result ≡ number_in (marked_of (limits_of course) t.now) }
 {
-    let marked = marking::mark(course, t, what, value);
-    usize::from(rules::number_of(marked.verdict))
+    match marking::mark(course, t, what, value) {
+        Ok(_) => 0,
+        Err(refusal) => usize::from(refusal.number),
+    }
 }
 
 // Finds the traces from the last trailer backwards, and counts their numbers; `None` where what is left does not end in a trace.
@@ -182,7 +180,7 @@ fn turned_away(number: u8, written: usize) -> Session
     ensures { result ≡ refused_with number written }
 {
     Session {
-        verdict: Verdict::Refused(number, 0),
+        verdict: Err(Refusal { number, line: 0 }),
         traces: 0,
         accepted: 0,
         written,
@@ -213,7 +211,7 @@ pub fn mark_sheet(course: Course, bytes: &[u8], out: &mut [u8]) -> Session
     };
     let written = write_tally(out, &tally);
     Session {
-        verdict: Verdict::Accepted,
+        verdict: Ok(()),
         traces: tally.count,
         accepted: tally.counts[0],
         written,
