@@ -1,4 +1,4 @@
-// The event lines of a trace, read forward: each byte is looked at once, line after line.
+// The event lines of a trace, read forward, line after line.
 #![tactic(auto)]
 
 ghost use Rattle.std.specs.Prelude.{◌≡◌, drop};
