@@ -471,6 +471,8 @@ pub fn bars_event(c: Cell, front: Slot, other: Cell, first: Slot, k: u8) -> bool
 }
 
 // ---- What an event leaves. `p` is its position.
+// Kept: a copy of the cell that is changed. Struct updates were tried: they copy field by field, 380 in place of 375 instructions an event
+// (bench/instructions). So were a lock and a waiting by `if` and `else`: `wait_turn` then stays a call.
 
 // Whether U leaves a cell as it is.
 pub fn is_used(c: Cell) -> bool
@@ -483,105 +485,97 @@ pub fn is_used(c: Cell) -> bool
 pub fn used(c: Cell) -> Cell
     ensures { result ≡ after_use c }
 {
-    Cell {
-        used: c.loaded,
-        after_load: false,
-        after_assign: false,
-        ..c
-    }
+    let mut d = c;
+    d.used = c.loaded;
+    d.after_load = false;
+    d.after_assign = false;
+    d
 }
 
 // A.
 fn assigned(c: Cell, x: Value, p: usize) -> Cell
     ensures { result ≡ next_cell p no_slot Assign x c }
 {
-    Cell {
-        copy: x,
-        fresh: true,
-        source: p,
-        assigned: p,
-        after_load: false,
-        after_assign: true,
-        ..c
-    }
+    let mut d = c;
+    d.copy = x;
+    d.fresh = true;
+    d.source = p;
+    d.assigned = p;
+    d.after_load = false;
+    d.after_assign = true;
+    d
 }
 
 // B.
 fn prescient_assigned(c: Cell, x: Value, p: usize) -> Cell
     ensures { result ≡ next_cell p no_slot B x c }
 {
-    Cell {
-        copy: x,
-        fresh: false, // its store has gone out already
-        pending: false,
-        source: p,
-        after_load: false,
-        after_assign: false,
-        ..c
-    }
+    let mut d = c;
+    d.copy = x;
+    d.fresh = false; // its store has gone out already
+    d.pending = false;
+    d.source = p;
+    d.after_load = false;
+    d.after_assign = false;
+    d
 }
 
 // L; s is the oldest outstanding read.
 fn loaded(c: Cell, s: Slot, x: Value, p: usize) -> Cell
     ensures { result ≡ next_cell p s L x c }
 {
-    Cell {
-        copy: x,
-        reads: pop(c.reads),
-        source: c.source.max(s.position),
-        loaded: s.position,
-        after_load: true,
-        after_assign: false,
-        ..c
-    }
+    let mut d = c;
+    d.copy = x;
+    d.reads = pop(c.reads);
+    d.source = c.source.max(s.position);
+    d.loaded = s.position;
+    d.after_load = true;
+    d.after_assign = false;
+    d
 }
 
 // R.
 fn has_read(c: Cell, s: Slot, x: Value, p: usize) -> Cell
     ensures { result ≡ next_cell p s R x c }
 {
-    Cell {
-        reads: push(c.reads),
-        ..c
-    }
+    let mut d = c;
+    d.reads = push(c.reads);
+    d
 }
 
 // S.
 fn stored(c: Cell, x: Value, p: usize) -> Cell
     ensures { result ≡ next_cell p no_slot S x c }
 {
-    Cell {
-        fresh: false,
-        stores: push(c.stores),
-        after_load: false,
-        after_assign: false,
-        ..c
-    }
+    let mut d = c;
+    d.fresh = false;
+    d.stores = push(c.stores);
+    d.after_load = false;
+    d.after_assign = false;
+    d
 }
 
 // P.
 fn prescient_stored(c: Cell, x: Value, p: usize) -> Cell
     ensures { result ≡ next_cell p no_slot P x c }
 {
-    Cell {
-        pending: true,
-        announced: x,
-        stores: push(c.stores),
-        after_load: false,
-        after_assign: false,
-        ..c
-    }
+    let mut d = c;
+    d.pending = true;
+    d.announced = x;
+    d.stores = push(c.stores);
+    d.after_load = false;
+    d.after_assign = false;
+    d
 }
 
 // W.
 fn has_written(c: Cell, x: Value, p: usize) -> Cell
     ensures { result ≡ next_cell p no_slot W x c }
 {
-    Cell {
-        stores: pop(c.stores),
-        written: p,
-        ..c
-    }
+    let mut d = c;
+    d.stores = pop(c.stores);
+    d.written = p;
+    d
 }
 
 // K: one hold more.
@@ -589,13 +583,12 @@ fn taken(a: Hold, t: usize) -> Hold
     ensures { result ≡ hold_for a no_wait t K }
 {
     if t < THREADS && a.depth < 2000 {
-        Hold {
+        return Hold {
             holder: t + 1,
             depth: depth_of(a, t) + 1,
-        }
-    } else {
-        a
+        };
     }
+    a
 }
 
 // N: one hold less.
@@ -605,13 +598,17 @@ fn left(a: Hold, t: usize) -> Hold
     let n = depth_of(a, t);
     if t < THREADS && a.depth < 2000 {
         if n <= 1 {
-            Hold::default()
-        } else {
-            Hold { depth: n - 1, ..a }
+            return Hold {
+                holder: 0,
+                depth: 0,
+            };
         }
-    } else {
-        a
+        return Hold {
+            holder: a.holder,
+            depth: n - 1,
+        };
     }
+    a
 }
 
 // Y: no hold is left.
@@ -619,10 +616,12 @@ fn given_up(a: Hold, t: usize) -> Hold
     ensures { result ≡ hold_for a no_wait t Y }
 {
     if t < THREADS && a.depth < 2000 {
-        Hold::default()
-    } else {
-        a
+        return Hold {
+            holder: 0,
+            depth: 0,
+        };
     }
+    a
 }
 
 // C: the holds that w remembers.
@@ -630,13 +629,12 @@ fn taken_again(a: Hold, w: Waiting, t: usize) -> Hold
     ensures { result ≡ hold_for a w t C }
 {
     if t < THREADS && a.depth < 2000 {
-        Hold {
+        return Hold {
             holder: t + 1,
             depth: w.depth,
-        }
-    } else {
-        a
+        };
     }
+    a
 }
 
 // Y on lock l: remembers the holds.
@@ -644,14 +642,13 @@ fn waiting(w: Waiting, a: Hold, l: usize, t: usize) -> Waiting
     ensures { result ≡ wait_for w a l t Y }
 {
     if l < LOCKS {
-        Waiting {
+        return Waiting {
             lock: l + 1,
             depth: depth_of(a, t),
             notified: false,
-        }
-    } else {
-        w
+        };
     }
+    w
 }
 
 // F on lock l.
@@ -659,20 +656,27 @@ fn notified(w: Waiting, l: usize) -> Waiting
     ensures { result ≡ wait_for w no_hold l 0 F }
 {
     if l < LOCKS {
-        Waiting {
+        return Waiting {
+            lock: w.lock,
+            depth: w.depth,
             notified: true,
-            ..w
-        }
-    } else {
-        w
+        };
     }
+    w
 }
 
 // C on lock l: waits no longer.
 fn back(w: Waiting, l: usize) -> Waiting
     ensures { result ≡ wait_for w no_hold l 0 C }
 {
-    if l < LOCKS { Waiting::default() } else { w }
+    if l < LOCKS {
+        return Waiting {
+            lock: 0,
+            depth: 0,
+            notified: false,
+        };
+    }
+    w
 }
 
 // ---- The turns. A letter that is none of a turn's breaks nothing there and leaves everything.
@@ -820,6 +824,7 @@ pub fn lock_turn(
 }
 
 // Y, F, C on lock l: these, and the waiting of the event's subject.
+// Kept: one record that the arms change, as in `stores_turn`; with a record of its own in each arm it was a call.
 pub fn wait_turn(
     a: Hold,
     w: Waiting,
@@ -833,32 +838,31 @@ pub fn wait_turn(
 ) -> WaitTurn
     ensures { result ≡ wait_turn a w locked threads any t l k p }
 {
+    let mut turn = WaitTurn {
+        rule: 0,
+        hold: a,
+        wait: w,
+        locked,
+    };
     match k {
-        b'C' => WaitTurn {
-            rule: first_of(lock_checks(a, threads, any, t), ROWS[12]),
-            hold: taken_again(a, w, t),
-            wait: back(w, l),
-            locked: p,
-        },
-        b'Y' => WaitTurn {
-            rule: first_of(unlock_checks(a, any, t), ROWS[10]),
-            hold: given_up(a, t),
-            wait: waiting(w, a, l, t),
-            locked,
-        },
-        b'F' => WaitTurn {
-            rule: first_of(notify_checks(a, t), ROWS[11]),
-            hold: a,
-            wait: notified(w, l),
-            locked,
-        },
-        _ => WaitTurn {
-            rule: 0,
-            hold: a,
-            wait: w,
-            locked,
-        },
+        b'C' => {
+            turn.rule = first_of(lock_checks(a, threads, any, t), ROWS[12]);
+            turn.hold = taken_again(a, w, t);
+            turn.wait = back(w, l);
+            turn.locked = p;
+        }
+        b'Y' => {
+            turn.rule = first_of(unlock_checks(a, any, t), ROWS[10]);
+            turn.hold = given_up(a, t);
+            turn.wait = waiting(w, a, l, t);
+        }
+        b'F' => {
+            turn.rule = first_of(notify_checks(a, t), ROWS[11]);
+            turn.wait = notified(w, l);
+        }
+        _ => {}
     }
+    turn
 }
 
 // ---- An event of any letter.

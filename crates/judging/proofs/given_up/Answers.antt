@@ -3,18 +3,16 @@ use mathlib.Core.Path.{refl}
 use borrow.Author.Tests.{lt-ltb, le-ltb}
 use Rattle.state.specs.Step.{hold_after}
 use Rattle.judging.specs.Computed.Turns.{hold_for}
-use Rattle.std.proofs.Common.{rules, ◌≡◌}
-use Rattle.state.specs.State.{no_hold}
 use Rattle.judging.proofs.given_up.Goals as goal
 use Rattle.judging.proofs.given_up.Goals.{else-t-lt-THREADS-via-then-t-lt-THREADS+else-a-lt2000, else-t-lt-THREADS-via-else-t-lt-THREADS}
 
 pub returns-then-a-lt2000 : goal.returns-then-a-lt2000
 unfolding hold_for hold_after
-returns-then-a-lt2000 c = let e : c.default.result ≡ no_hold = search rules in rw (e, lt-ltb _ _ c.if-t-lt-THREADS.true, lt-ltb _ _ c.if-a-lt2000.true) refl
+returns-then-a-lt2000 c = rw (lt-ltb _ _ c.if-t-lt-THREADS.true, lt-ltb _ _ c.if-a-lt2000.true) refl
 
-pub returns-else-t-lt-THREADS : goal.returns-else-t-lt-THREADS
+pub returns : goal.returns
 unfolding hold_for hold_after
-returns-else-t-lt-THREADS c =
+returns c =
     elim c.else-t-lt-THREADS.branch [
       | else-t-lt-THREADS-via-then-t-lt-THREADS+else-a-lt2000 w ↦ rw (lt-ltb _ _ w.if-t-lt-THREADS.true, le-ltb _ _ w.if-a-lt2000.false) refl
       | else-t-lt-THREADS-via-else-t-lt-THREADS w ↦ rw (le-ltb _ _ w.if-t-lt-THREADS.false) refl

@@ -1,11 +1,8 @@
 -- `judging::has_written` meets its contract.
-use Rattle.std.proofs.Common.{rules}
-use mir.ValLaws.{to_z-of_z}
-use Rattle.rules.specs.Limits.{value_width}
 use Rattle.state.specs.Step.{next_cell}
 use mathlib.Core.Path.{refl}
 use Rattle.judging.proofs.has_written.Goals as goal
 
 pub returns : goal.returns
 unfolding next_cell
-returns c = rw (c.pop.ensures, to_z-of_z value_width c.args.c.copy (search rules), to_z-of_z value_width c.args.c.announced (search rules)) refl
+returns c = rw c.pop-d.ensures refl

@@ -3,22 +3,20 @@ use borrow.Author.Tests.{lt-ltb, le-ltb, le-leb, lt-leb}
 use Rattle.state.specs.Step.{hold_after}
 use Rattle.judging.specs.Computed.Turns.{hold_for}
 use mathlib.Core.Path.{refl}
-use Rattle.std.proofs.Common.{rules, ◌≡◌}
-use Rattle.state.specs.State.{no_hold}
 use Rattle.judging.proofs.left.Goals as goal
 use Rattle.judging.proofs.left.Goals.{else-t-lt-THREADS-via-then-t-lt-THREADS+else-a-lt2000, else-t-lt-THREADS-via-else-t-lt-THREADS}
 
 pub returns-then-n-le1 : goal.returns-then-n-le1
 unfolding hold_for hold_after
-returns-then-n-le1 c = let e : c.default.result ≡ no_hold = search rules in rw (e, ← c.depth_of-n.ensures, lt-ltb _ _ c.if-t-lt-THREADS.true, lt-ltb _ _ c.if-a-lt2000.true, le-leb _ _ c.if-n-le1.true) refl
+returns-then-n-le1 c = rw (← c.depth_of-n.ensures, lt-ltb _ _ c.if-t-lt-THREADS.true, lt-ltb _ _ c.if-a-lt2000.true, le-leb _ _ c.if-n-le1.true) refl
 
-pub returns-else-n-le1 : goal.returns-else-n-le1
+pub returns-then-a-lt2000 : goal.returns-then-a-lt2000
 unfolding hold_for hold_after
-returns-else-n-le1 c = rw (← c.depth_of-n.ensures, lt-ltb _ _ c.if-t-lt-THREADS.true, lt-ltb _ _ c.if-a-lt2000.true, lt-leb _ _ c.if-n-le1.false) refl
+returns-then-a-lt2000 c = rw (← c.depth_of-n.ensures, lt-ltb _ _ c.if-t-lt-THREADS.true, lt-ltb _ _ c.if-a-lt2000.true, lt-leb _ _ c.if-n-le1.false) refl
 
-pub returns-else-t-lt-THREADS : goal.returns-else-t-lt-THREADS
+pub returns : goal.returns
 unfolding hold_for hold_after
-returns-else-t-lt-THREADS c =
+returns c =
     elim c.else-t-lt-THREADS.branch [
       | else-t-lt-THREADS-via-then-t-lt-THREADS+else-a-lt2000 w ↦ rw (lt-ltb _ _ w.if-t-lt-THREADS.true, le-ltb _ _ w.if-a-lt2000.false) refl
       | else-t-lt-THREADS-via-else-t-lt-THREADS w ↦ rw (le-ltb _ _ w.if-t-lt-THREADS.false) refl

@@ -9,6 +9,6 @@ pub returns-then-l-lt-LOCKS : goal.returns-then-l-lt-LOCKS
 unfolding wait_for wait_after
 returns-then-l-lt-LOCKS c = rw (lt-ltb _ _ c.if-l-lt-LOCKS.true) refl
 
-pub returns-else-l-lt-LOCKS : goal.returns-else-l-lt-LOCKS
+pub returns : goal.returns
 unfolding wait_for wait_after
-returns-else-l-lt-LOCKS c = rw (le-ltb _ _ c.if-l-lt-LOCKS.false) refl
+returns c = rw (le-ltb _ _ c.if-l-lt-LOCKS.false) refl

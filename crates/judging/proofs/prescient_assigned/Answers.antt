@@ -1,5 +1,4 @@
 -- `judging::prescient_assigned` meets its contract.
-use Rattle.std.proofs.Common.{rules}
 use mir.ValLaws.{to_z-of_z}
 use Rattle.rules.specs.Limits.{value_width}
 use Rattle.state.specs.Step.{next_cell}
@@ -8,4 +7,4 @@ use Rattle.judging.proofs.prescient_assigned.Goals as goal
 
 pub returns : goal.returns
 unfolding next_cell
-returns c = rw (to_z-of_z value_width c.args.x c.ranges.x, to_z-of_z value_width c.args.c.announced (search rules)) refl
+returns c = rw (to_z-of_z value_width c.args.x c.ranges.x) refl

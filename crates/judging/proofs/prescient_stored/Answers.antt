@@ -1,5 +1,4 @@
 -- `judging::prescient_stored` meets its contract.
-use Rattle.std.proofs.Common.{rules}
 use mir.ValLaws.{to_z-of_z}
 use Rattle.rules.specs.Limits.{value_width}
 use Rattle.state.specs.Step.{next_cell}
@@ -8,4 +7,4 @@ use Rattle.judging.proofs.prescient_stored.Goals as goal
 
 pub returns : goal.returns
 unfolding next_cell
-returns c = rw (c.push.ensures, to_z-of_z value_width c.args.c.copy (search rules), to_z-of_z value_width c.args.x c.ranges.x) refl
+returns c = rw (c.push-d.ensures, to_z-of_z value_width c.args.x c.ranges.x) refl
