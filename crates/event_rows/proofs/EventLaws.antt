@@ -13,7 +13,7 @@ use Rattle.rules.specs.declared.Event.{Event}
 use Rattle.rules.specs.declared.Counts.{Counts}
 use Rattle.rules.specs.declared.Course.{Course}
 use Rattle.rules.specs.Limits.{Limits, UpToFull, full, limits_of, lent_short, line_after}
-use Rattle.rules.specs.Rules.{Marked, accepted, refused, on_marked}
+use Rattle.rules.specs.Rules.{Marked, accepted, refused, told, on_marked, refused_or, mark_read}
 use Rattle.rules.specs.Memories.{from}
 use Rattle.rules.specs.Reading.{read_from}
 use Rattle.rules.proofs.Bounds.{up_to_full}
@@ -21,15 +21,16 @@ use Rattle.rules.proofs.From.{from_same}
 use Rattle.decimal.specs.Text.{over}
 use Rattle.records.specs.Records.{packed, value_in, event_in, record_at, row_lines}
 use Rattle.records.proofs.RowLaws.{Numbered, Small, row_lines_law}
-use Rattle.trace.specs.Trace.{trace_of}
-use Rattle.marking.specs.Marking.{marked_of, events_in, read_in}
+use Rattle.std.specs.Prelude.{Result, Err}
+use Rattle.rules.specs.declared.Refusal.{Refusal}
+use Rattle.trace.specs.declared.Trace.{Trace}
+use Rattle.trace.specs.Trace.{trace_of, head_in}
+use Rattle.marking.specs.Marking.{lines_in, marked_of, events_in, read_in}
 use Rattle.marking.proofs.Whole.{read_is, events_few, events_numbered, events_declared}
 use Rattle.ordering.specs.Traces.{ordering_of}
 use Rattle.report.specs.declared.Report.{Report}
-use Rattle.report.specs.Report.{too_little, too_little_report, report_of, count_of, listing_of, records_after}
-use Rattle.event_rows.specs.declared.Kept.{Kept}
+use Rattle.report.specs.Report.{too_little, too_little_report, report_of, count_of, listing_of, records_after, Lends}
 use Rattle.event_rows.specs.EventRows.{fitting, filled, FillsEvents}
-use Rattle.event_rows.specs.Computed.Kept.{Keeps}
 
 -- none are asked for
 filled_none : (h : Counts) (ws : List ℕ) (xs : List ℤ) (records : List Event) → filled h ws xs 0 records ≡ records
@@ -87,23 +88,34 @@ module _ (course : Course) (s : List ℕ) (records : List Event) (out list scrat
   many q = ltb-false (length records) 2000 (neither (ltb (length records) 2000) _ (neither (lent_short m (length records) (length out)) _ q))
 
   filled_marked : lent ≡ false → (w : Marked) → marked_of m s ≡ w → (ws : List ℕ) (xs : List ℤ) → ws ≡ over (map packed (read_in m s)) (replicate 2000 0) → xs ≡ over (map value_in (read_in m s)) (replicate 2000 (pos 0))
-      → filled (trace_of m s).head ws xs (on_marked w (length (events_in m s)) 0) records ≡ on_marked w (over (events_in m s) records) records
-  filled_marked q (refused number line) a ws xs e f = filled_none (trace_of m s).head ws xs records
-  filled_marked q accepted a ws xs e f = rw (e, f, read_is m u s a) (filled_all (trace_of m s).head (events_in m s) (events_numbered m s) (events_declared m u s) _ _ records (events_few m u s) (omega (arith, events_few m u s, many q)))
+      → filled (head_in (trace_of m s)) ws xs (on_marked w (length (events_in m s)) 0) records ≡ on_marked w (over (events_in m s) records) records
+  filled_marked q (refused number line) a ws xs e f = filled_none (head_in (trace_of m s)) ws xs records
+  filled_marked q accepted a ws xs e f = rw (e, f, read_is m u s a) (filled_all (head_in (trace_of m s)) (events_in m s) (events_numbered m s) (events_declared m u s) _ _ records (events_few m u s) (omega (arith, events_few m u s, many q)))
 
   filled_lent : (b : Bool) → lent ≡ b → (r : Report) (ws : List ℕ) (xs : List ℤ)
       → r ≡ cond b too_little_report (report_of m s (ordering_of m s) (listing_of m s))
       → ws ≡ cond b (replicate 2000 0) (over (map packed (read_in m s)) (replicate 2000 0)) → xs ≡ cond b (replicate 2000 (pos 0)) (over (map value_in (read_in m s)) (replicate 2000 (pos 0)))
-      → filled (trace_of m s).head ws xs r.events records ≡ cond b records (records_after m s (events_in m s) records)
+      → filled (head_in (trace_of m s)) ws xs r.events records ≡ cond b records (records_after m s (events_in m s) records)
   unfolding report_of count_of records_after
-  filled_lent true q r ws xs c e f = ap (λ (x : Report). filled (trace_of m s).head ws xs x.events records) c ∙ filled_none (trace_of m s).head ws xs records
-  filled_lent false q r ws xs c e f = ap (λ (x : Report). filled (trace_of m s).head ws xs x.events records) c ∙ filled_marked q (marked_of m s) refl ws xs e f
+  filled_lent true q r ws xs c e f = ap (λ (x : Report). filled (head_in (trace_of m s)) ws xs x.events records) c ∙ filled_none (head_in (trace_of m s)) ws xs records
+  filled_lent false q r ws xs c e f = ap (λ (x : Report). filled (head_in (trace_of m s)) ws xs x.events records) c ∙ filled_marked q (marked_of m s) refl ws xs e f
 
-  -- the contract, from those of the two calls
-  pub fills_events : (k : Kept) (out' list' scratch' : List ℕ) → Keeps m s (length records) out list scratch k out' list' scratch'
-      → (records' : List Event) → records' ≡ filled k.head k.what k.value k.report.events records → FillsEvents m s records out list scratch k.report records' out' list' scratch'
-  fills_events k out' list' scratch' c records' e = record {
-    reports = c.lends.reports;
-    fills = e ∙ ap (λ (h : Counts). filled h k.what k.value k.report.events records) c.heads
-        ∙ filled_lent lent refl k.report k.what k.value c.lends.reports.says c.lends.keeps c.lends.beside;
+  -- the contract, from those of the calls
+  pub fills_events : (r : Report) (h : Counts) (ws : List ℕ) (xs : List ℤ) (out' list' scratch' : List ℕ) → Lends m s (length records) (replicate 2000 0) (replicate 2000 (pos 0)) out list scratch r ws xs out' list' scratch' → h ≡ (head_in (trace_of m s))
+      → (records' : List Event) → records' ≡ filled h ws xs r.events records → FillsEvents m s records out list scratch r records' out' list' scratch'
+  fills_events r h ws xs out' list' scratch' c q records' e = record {
+    reports = c.reports;
+    fills = e ∙ ap (λ (h : Counts). filled h ws xs r.events records) q ∙ filled_lent lent refl r ws xs c.reports.says c.keeps c.beside;
   }
+
+  -- no trace is found, and nothing is filled in
+  pub fills_none : (r : Report) (f : Refusal) (ws : List ℕ) (xs : List ℤ) (out' list' scratch' : List ℕ) → Lends m s (length records) (replicate 2000 0) (replicate 2000 (pos 0)) out list scratch r ws xs out' list' scratch' → Err f ≡ trace_of m s
+      → FillsEvents m s records out list scratch r records out' list' scratch'
+  unfolding records_after marked_of
+  fills_none r f ws xs out' list' scratch' c q = record { reports = c.reports; fills = by lent }
+    where
+      by : (b : Bool) → records ≡ cond b records (on_marked (marked_of m s) (over (events_in m s) records) records)
+      by true = refl
+      by false =
+          sym (ap (λ (k : Marked). on_marked k (over (events_in m s) records) records)
+          (ap (λ (t : Result Trace Refusal). refused_or (told t) (mark_read m (head_in (trace_of m s)) [] (lines_in m s))) (sym q)))

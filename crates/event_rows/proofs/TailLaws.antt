@@ -1,13 +1,12 @@
 -- The events of a tail that are filled in: all of them, or none.
 use Prim.Native.Nat.{ℕ, zero, suc, min, ◌+◌, ◌≤◌, ◌<◌}
 use native.Mathlib.Omega.{arith}
-use mathlib.Core.Path.{◌≡◌, refl, sym, ap, ap₂, ◌∙◌, subst}
-use mathlib.Core.Bool.{Bool, true, false, cond}
+use mathlib.Core.Path.{◌≡◌, refl, sym, ap, ◌∙◌, subst}
+use mathlib.Core.Bool.{true, false}
 use mathlib.Core.List.{List, [], ◌∷◌, ◌++◌, map, reverse_aux}
-use lib.Dec.{T, ltb}
+use lib.Dec.{T}
 use lib.IntN.{ℤ, pos}
 use lib.ListN.{length, get_or, drop, length-reverse}
-use borrow.Author.Tests.{ltb-true, ltb-false}
 use Rattle.rules.specs.declared.Event.{Event}
 use Rattle.rules.specs.declared.Counts.{Counts}
 use Rattle.rules.specs.Limits.{Limits, UpToFull, full, line_after, any_volatile, allowed}
@@ -20,20 +19,19 @@ use Rattle.decimal.specs.Text.{over}
 use Rattle.records.specs.Records.{packed, value_in, unpacked}
 use Rattle.records.proofs.RecordLaws.{held_back}
 use Rattle.records.proofs.RowLaws.{Small}
-use Rattle.trace.specs.Trace.{trace_of}
+use Rattle.trace.specs.Trace.{trace_of, head_in}
 use Rattle.marking.specs.Marking.{marked_of, past_of, events_in}
 use Rattle.marking.proofs.Whole.{head_allowed, past_clean, events_few}
 use Rattle.tails.specs.Tails.{Move, numbered, moves_of, tail_after}
 use Rattle.tails.proofs.Tails.{tail_finishes}
 use Rattle.finishing.specs.declared.Tail.{Tail}
-use Rattle.finishing.specs.declared.Tail.TheVariants as tail
+use Rattle.std.specs.Prelude.{Result, Ok, Err}
+use Rattle.rules.specs.declared.Refusal.{Refusal}
 use Rattle.finishing.specs.Tail.{some_new, tailless, tail_of, tail_verdict, answer_of, Gives}
 use Rattle.finishing.proofs.Answers.{Tailed, all_ten, tail_few, verdict_same, verdict_short, verdict_given, verdict_tailed}
-use Rattle.event_rows.specs.declared.GivenTail.{GivenTail}
-use Rattle.event_rows.specs.declared.KeptTail.{KeptTail}
 use Rattle.event_rows.specs.EventRows.{GivesEvents}
-use Rattle.event_rows.specs.Computed.KeptTail.{none_given, given_in, KeepsTail}
-use Rattle.event_rows.specs.Computed.Lines.{event_on, front}
+use Rattle.event_rows.specs.Computed.Lines.{event_on}
+use Rattle.event_rows.proofs.FillLaws.{front}
 
 -- ---- the records of a tail give its events back
 
@@ -69,10 +67,10 @@ small_tail h a (e ∷ es) past l =
 
 module _ (m : Limits) (u : UpToFull m) (s : List ℕ) where
   abbrev h : Counts
-  h = (trace_of m s).head
+  h = (head_in (trace_of m s))
 
   abbrev line : ℕ
-  line = line_after (trace_of m s).head (length (past_of m s))
+  line = line_after (head_in (trace_of m s)) (length (past_of m s))
 
   tail_small : marked_of m s ≡ accepted → tailless m s ≡ false → Small (tail_of m s)
   unfolding tail_of tailless
@@ -87,73 +85,76 @@ module _ (m : Limits) (u : UpToFull m) (s : List ℕ) where
   unfolding tail_of tail_after
   tail_back k ws xs = back line (moves_of h _) k ws xs
 
-  -- from rows that have room for every tail
-  module _ (ws₀ : List ℕ) (xs₀ : List ℤ) (made : Tail) (ws : List ℕ) (xs : List ℤ) (x : length ws₀ ≡ 2256) (y : length xs₀ ≡ 2256) (g : Gives m s ws₀ xs₀ made ws xs) (places : ℕ) where
-    abbrev v : Marked
-    v = tail_verdict m s 2256
+  -- ---- a tail that is refused, or does not fit
 
-    all : min (length ws₀) (length xs₀) ≡ 2256
-    all = omega (arith, x, y)
-
-    abbrev Keeps : GivenTail → Type 0
-    Keeps t = KeepsTail m s places (record { given = t; what = ws; value = xs })
-
-    keeps_none : (n l : ℕ) → tail_verdict m s places ≡ refused n l → Keeps (none_given (tail.Refused n l))
-    unfolding from
-    keeps_none n l q = record {
+  module _ (records : List Event) where
+    none_given : (n l : ℕ) → tail_verdict m s (length records) ≡ refused n l → GivesEvents m s records (Err (record { number = n; line = l })) records
+    none_given n l q = record {
       answers = sym (ap (λ (k : Marked). answer_of k (length (tail_of m s)) line) q);
-      reads = sym (ap (λ (k : Marked). on_marked k (tail_of m s) []) q);
-      low = omega arith;
-      fits = omega arith;
-      few = omega arith;
+      fills = sym (ap (λ (k : Marked). on_marked k (over (tail_of m s) records) records) q);
     }
 
-    module _ (p : tail_verdict m s 2256 ≡ accepted) where
-      abbrev t : Tailed m u s
-      t = verdict_tailed m u s 2256 p
+    -- ---- from rows that have room for every tail
 
-      abbrev n : ℕ
-      n = length (tail_of m s)
+    module _ (ws₀ : List ℕ) (xs₀ : List ℤ) (x : length ws₀ ≡ 2256) (y : length xs₀ ≡ 2256) where
+      all : min (length ws₀) (length xs₀) ≡ 2256
+      all = omega (arith, x, y)
 
-      whats_are : ws ≡ over (map packed (tail_of m s)) ws₀
-      whats_are = g.fills ∙ ap (λ (k : ℕ). on_marked (tail_verdict m s k) (over (map packed (tail_of m s)) ws₀) ws₀) all ∙ ap (λ (k : Marked). on_marked k (over (map packed (tail_of m s)) ws₀) ws₀) p
+      made_is : (made : Result Tail Refusal) (ws : List ℕ) (xs : List ℤ) → Gives m s ws₀ xs₀ made ws xs → made ≡ answer_of (tail_verdict m s 2256) (length (tail_of m s)) line
+      made_is made ws xs g = g.answers ∙ ap (λ (k : ℕ). answer_of (tail_verdict m s k) (length (tail_of m s)) line) all
 
-      values_are : xs ≡ over (map value_in (tail_of m s)) xs₀
-      values_are = g.beside ∙ ap (λ (k : ℕ). on_marked (tail_verdict m s k) (over (map value_in (tail_of m s)) xs₀) xs₀) all ∙ ap (λ (k : Marked). on_marked k (over (map value_in (tail_of m s)) xs₀) xs₀) p
+      -- what is refused there is refused here
+      pub gives_none : (r : Refusal) (ws : List ℕ) (xs : List ℤ) → Gives m s ws₀ xs₀ (Err r) ws xs → GivesEvents m s records (Err r) records
+      gives_none r ws xs g = by (tail_verdict m s 2256) refl (made_is (Err r) ws xs g)
+        where
+          by : (k : Marked) → tail_verdict m s 2256 ≡ k → Err r ≡ answer_of k (length (tail_of m s)) line → GivesEvents m s records (Err r) records
+          by accepted p q = absurd (let z : ◌≡◌ {A = ℕ} 0 1 = cc in omega arith)
+          by (refused n l) p q = subst (λ (z : Result Tail Refusal). GivesEvents m s records z records) (sym q) (none_given n l (verdict_same m u s n l p (length records)))
 
-      low_line : line < 4294967296
-      unfolding events_in
-      low_line = omega (arith, first_line_high h, events_few m u s, length-reverse (past_of m s))
+      module _ (t : Tail) (ws : List ℕ) (xs : List ℤ) (g : Gives m s ws₀ xs₀ (Ok t) ws xs) where
+        record Made : Type 0 where
+          is_accepted : tail_verdict m s 2256 ≡ accepted
+          tail_is : t ≡ record { events = length (tail_of m s); line = line }
 
-      keeps_all : length (tail_of m s) ≤ places → Keeps (record { tail = tail.Given (length (tail_of m s)) line; line = line; events = length (tail_of m s) })
-      keeps_all b =
-          let q = verdict_given m u s t.accepts t.tails places b in
-          record {
-            answers = sym (ap (λ (k : Marked). answer_of k n line) q);
-            reads = ap₂ (λ (w : List ℕ) (z : List ℤ). from (event_on line w z) 0 n) whats_are values_are ∙ tail_back (tail_small t.accepts t.tails) (drop (length (map packed (tail_of m s))) ws₀) (drop (length (map value_in (tail_of m s))) xs₀)
-                ∙ sym (ap (λ (k : Marked). on_marked k (tail_of m s) []) q);
-            low = low_line;
-            fits = b;
-            few = tail_few m u s t.accepts t.tails;
-          }
+        a_tail : Made
+        a_tail = by (tail_verdict m s 2256) refl (made_is (Ok t) ws xs g)
+          where
+            by : (k : Marked) → tail_verdict m s 2256 ≡ k → Ok t ≡ answer_of k (length (tail_of m s)) line → Made
+            by accepted p q = record { is_accepted = p; tail_is = cc }
+            by (refused n l) p q = absurd (let z : ◌≡◌ {A = ℕ} 0 1 = cc in omega arith)
 
-      keeps_made : (b : Bool) → ltb places (length (tail_of m s)) ≡ b → Keeps (cond b (none_given (tail.Refused 24 0)) (record { tail = tail.Given (length (tail_of m s)) line; line = line; events = length (tail_of m s) }))
-      keeps_made true q = keeps_none 24 0 (verdict_short m u s t.accepts t.tails places (ltb-true places n q))
-      keeps_made false q = keeps_all (ltb-false places n q)
+        d : Tailed m u s
+        d = verdict_tailed m u s 2256 a_tail.is_accepted
 
-    pub keeps_tail : Keeps (given_in made places)
-    keeps_tail = by v refl (g.answers ∙ ap (λ (k : ℕ). answer_of (tail_verdict m s k) (length (tail_of m s)) line) all)
-      where
-        by : (k : Marked) → v ≡ k → made ≡ answer_of v (length (tail_of m s)) line → Keeps (given_in made places)
-        by accepted p r = subst (λ (z : Tail). Keeps (given_in z places)) (sym (r ∙ ap (λ (z : Marked). answer_of z (length (tail_of m s)) line) p)) (keeps_made p (ltb places (length (tail_of m s))) refl)
-        by (refused n l) p r = subst (λ (z : Tail). Keeps (given_in z places)) (sym (r ∙ ap (λ (z : Marked). answer_of z (length (tail_of m s)) line) p)) (keeps_none n l (verdict_same m u s n l p places))
+        count : t.events ≡ length (tail_of m s)
+        count = ap (λ (t : Tail). t.events) a_tail.tail_is
 
--- ---- the contract, from those of the two calls
+        pub tail_low : (t.line < 4294967296) × (t.events ≤ 2256)
+        unfolding events_in
+        tail_low =
+            let l = ap (λ (t : Tail). t.line) a_tail.tail_is in
+            (omega (arith, l, first_line_high h, events_few m u s, length-reverse (past_of m s)), omega (arith, count, tail_few m u s d.accepts d.tails))
 
-pub gives_events : (m : Limits) (s : List ℕ) (records : List Event) (k : KeptTail) → KeepsTail m s (length records) k
-    → (records' : List Event) → records' ≡ front k.given.line k.what k.value records k.given.events → GivesEvents m s records k.given.tail records'
-gives_events m s records k c records' e = record { answers = c.answers; fills = e ∙ ap (λ (l : List Event). over l records) c.reads ∙ laid (tail_verdict m s (length records)) }
-  where
-    laid : (v : Marked) → over (on_marked v (tail_of m s) []) records ≡ on_marked v (over (tail_of m s) records) records
-    laid accepted = refl
-    laid (refused n l) = refl
+        -- 24
+        pub gives_short : length records < t.events → GivesEvents m s records (Err (record { number = 24; line = 0 })) records
+        gives_short b = none_given 24 0 (verdict_short m u s d.accepts d.tails (length records) (omega (arith, b, count)))
+
+        -- the records of the tail give its events back
+        events_back : from (event_on t.line ws xs) 0 t.events ≡ tail_of m s
+        events_back =
+            (λ i. from (event_on (a_tail.tail_is i).line (whats_are i) (values_are i)) 0 (a_tail.tail_is i).events)
+            ∙ tail_back (tail_small d.accepts d.tails) (drop (length (map packed (tail_of m s))) ws₀) (drop (length (map value_in (tail_of m s))) xs₀)
+          where
+            whats_are : ws ≡ over (map packed (tail_of m s)) ws₀
+            whats_are = g.fills ∙ ap (λ (k : ℕ). on_marked (tail_verdict m s k) (over (map packed (tail_of m s)) ws₀) ws₀) all ∙ ap (λ (k : Marked). on_marked k (over (map packed (tail_of m s)) ws₀) ws₀) a_tail.is_accepted
+
+            values_are : xs ≡ over (map value_in (tail_of m s)) xs₀
+            values_are = g.beside ∙ ap (λ (k : ℕ). on_marked (tail_verdict m s k) (over (map value_in (tail_of m s)) xs₀) xs₀) all ∙ ap (λ (k : Marked). on_marked k (over (map value_in (tail_of m s)) xs₀) xs₀) a_tail.is_accepted
+
+        pub gives_all : t.events ≤ length records → (records' : List Event) → records' ≡ front t.line ws xs records t.events → GivesEvents m s records (Ok t) records'
+        gives_all b records' e =
+            let v = verdict_given m u s d.accepts d.tails (length records) (omega (arith, b, count)) in
+            record {
+              answers = ap (λ (t : Tail). Ok t) a_tail.tail_is ∙ sym (ap (λ (k : Marked). answer_of k (length (tail_of m s)) line) v);
+              fills = e ∙ ap (λ (l : List Event). over l records) events_back ∙ sym (ap (λ (k : Marked). on_marked k (over (tail_of m s) records) records) v);
+            }

@@ -1,4 +1,2 @@
-pub mod Kept
-pub mod KeptTail
 pub mod Lettered
 pub mod Lines

@@ -1,5 +1,5 @@
 -- Lent rows of events: what they hold after a call.
-use Rattle.std.specs.Prelude.{ℕ, min, ◌≡◌, cond, List, ℤ, length}
+use Rattle.std.specs.Prelude.{ℕ, min, ◌≡◌, cond, List, ℤ, length, Result}
 use Rattle.rules.specs.declared.Event.{Event}
 use Rattle.rules.specs.declared.Counts.{Counts}
 use Rattle.rules.specs.Limits.{Limits, full, line_after}
@@ -8,8 +8,9 @@ use Rattle.rules.specs.Memories.{from}
 use Rattle.rules.specs.Reading.{read_from}
 use Rattle.decimal.specs.Text.{over}
 use Rattle.records.specs.Records.{record_at}
-use Rattle.trace.specs.Trace.{trace_of}
+use Rattle.trace.specs.Trace.{trace_of, head_in}
 use Rattle.marking.specs.Marking.{events_in, past_of}
+use Rattle.rules.specs.declared.Refusal.{Refusal}
 use Rattle.finishing.specs.declared.Tail.{Tail}
 use Rattle.finishing.specs.Tail.{tail_of, tail_verdict, answer_of}
 use Rattle.report.specs.declared.Report.{Report}
@@ -31,6 +32,6 @@ pub record FillsEvents (m : Limits) (s : List ℕ) (records : List Event) (out l
   pub fills : records' ≡ cond (too_little m (length records) out list scratch) records (records_after m s (events_in m s) records)
 
 -- The tail of a trace in a lent row of events: all of it or none, and before that nothing is written. Places past the tail stay untouched.
-pub record GivesEvents (m : Limits) (s : List ℕ) (records : List Event) (r : Tail) (records' : List Event) : Type 0 where
-  pub answers : r ≡ answer_of (tail_verdict m s (length records)) (length (tail_of m s)) (line_after (trace_of m s).head (length (past_of m s)))
+pub record GivesEvents (m : Limits) (s : List ℕ) (records : List Event) (r : Result Tail Refusal) (records' : List Event) : Type 0 where
+  pub answers : r ≡ answer_of (tail_verdict m s (length records)) (length (tail_of m s)) (line_after (head_in (trace_of m s)) (length (past_of m s)))
   pub fills : records' ≡ on_marked (tail_verdict m s (length records)) (over (tail_of m s) records) records
