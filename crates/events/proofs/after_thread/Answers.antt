@@ -3,13 +3,8 @@ use Rattle.rules.specs.Events.{is_lock_letter}
 use Rattle.rules.specs.Limits.{value_width}
 use Rattle.events.specs.Events.{field, last, value_end, lock_fields}
 use Rattle.events.proofs.StageLaws.{stage_bad, stage_number}
-use Rattle.events.proofs.LineLaws.{stage_then, stage_else}
+use Rattle.events.proofs.LineLaws.{stage_else}
 use Rattle.events.proofs.after_thread.Goals as goal
-
-pub returns-then-is_lock_letter : goal.returns-then-is_lock_letter
-returns-then-is_lock_letter c =
-    let a = c.args in
-    c.lock_fields.ensures ∙ stage_then (is_lock_letter a.line.letter) (lock_fields a.line.letter a.line.thread) (field (λ v. last (value_end value_width a.line.letter a.line.thread v))) a.line.next (drop a.line.next a.s.now) (sym c.is_lock_letter.ensures ∙ c.if-is_lock_letter.true)
 
 pub returns-in_err-r : goal.returns-in_err-r
 returns-in_err-r c =

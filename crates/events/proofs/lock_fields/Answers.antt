@@ -1,17 +1,11 @@
 use Rattle.std.proofs.Common.{refl, sym, ◌∙◌, drop}
-use borrow.Author.Tests.{eq-eqb, ne_eqb}
+use borrow.Author.Tests.{eq-eqb}
 use lib.Dec.{eqb}
 use Rattle.rules.specs.Events.{F}
 use Rattle.events.specs.Events.{field, last, lock_end, notify_end}
 use Rattle.events.proofs.StageLaws.{stage_bad, stage_number}
-use Rattle.events.proofs.LineLaws.{stage_then, stage_else}
+use Rattle.events.proofs.LineLaws.{stage_then}
 use Rattle.events.proofs.lock_fields.Goals as goal
-
-pub returns-then-line-ne70 : goal.returns-then-line-ne70
-returns-then-line-ne70 c =
-    let a = c.args in
-    c.lock_end.ensures
-    ∙ stage_else (eqb a.line.letter F) (field (λ l. last (notify_end a.line.letter a.line.thread l))) (last (lock_end a.line.letter a.line.thread)) a.line.next (drop a.line.next a.s.now) (ne_eqb _ _ c.if-line-ne70.true)
 
 pub returns-in_err-r : goal.returns-in_err-r
 returns-in_err-r c =

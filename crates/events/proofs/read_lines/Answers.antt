@@ -1,10 +1,7 @@
 use Rattle.std.proofs.Common.{◌≤◌, rules, sym, ◌∙◌, arith, length}
 use Rattle.rules.specs.Limits.{full}
-use Rattle.events.proofs.ReadLaws.{turn_start, turn_next, turn_more, turn_end, turn_wrong, turn_full}
+use Rattle.events.proofs.ReadLaws.{turn_next, turn_more, turn_end, turn_wrong, turn_full}
 use Rattle.events.proofs.read_lines.Goals as goal
-
-pub loop-at-init : goal.loop-at-init
-loop-at-init c = turn_start c.args.course c.args.h c.args.s.now c.args.from c.args.what.now c.args.value.now
 
 pub returns-in_default : goal.returns-in_default
 returns-in_default c = turn_wrong c.loop-at.invariant c.line_after-line.result (sym c.line_at.ensures ∙ c.in_default.is) c.loop-at-test.true c.line_after-line.ensures

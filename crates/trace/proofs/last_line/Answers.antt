@@ -1,19 +1,15 @@
 -- `trace::last_line` meets its contract: the last line, from behind the last byte 10 but the final one.
-use mathlib.Core.Path.{◌≡◌, refl, sym}
+use mathlib.Core.Path.{◌≡◌, refl}
 use Prim.Native.Nat.{◌-◌}
 use native.Mathlib.Omega.{arith}
 use borrow.Author.Tests.{eq-eqb, ne_eqb}
 use lib.ListN.{length, get_or}
-use lib.Seq.{length-take-le}
 use Rattle.trace.specs.Trace.{last_line, last_number}
 use Rattle.trace.proofs.TraceLaws.{last_none, last_le}
 use Rattle.trace.proofs.last_line.Goals as goal
 
 pub returns-then-s-eq0 : goal.returns-then-s-eq0
 returns-then-s-eq0 c = last_none c.args.s.now c.if-s-eq0.true
-
-pub slice_bounds-last_end-end : goal.slice_bounds-last_end-end
-slice_bounds-last_end-end c = sym (length-take-le _ c.args.s.now (omega arith))
 
 pub returns-then-s-last-ne10 : goal.returns-then-s-last-ne10
 unfolding last_line last_number
