@@ -8,8 +8,8 @@ use lib.IntN.{ℤ}
 use borrow.Author.Tests.{ne_eqb, le-ltb, leb-true, leb-false}
 use Rattle.rules.specs.declared.Counts.{Counts}
 use Rattle.rules.specs.declared.Event.{Event}
-use Rattle.rules.specs.declared.Named.{Named}
-use Rattle.rules.specs.declared.Named.TheVariants.{Nothing, Of}
+use Rattle.std.specs.Prelude.{Option, Some, None}
+use Rattle.rules.specs.declared.Kind.{Kind}
 use Rattle.rules.specs.Events.{kind_of}
 use Rattle.rules.specs.Limits.{Limits, UpToFull, declared, line_after}
 use Rattle.rules.specs.Rules.{refused}
@@ -25,11 +25,11 @@ use Rattle.c_api.specs.Replies.{reply_of, no_letter, on_named, step_reply}
 use Rattle.c_api.specs.Computed.Stepping.{event_of, reply_to}
 
 -- the reply and the state, from the answer of the event that is tried
-abbrev told_reply : Named → Answer → StepReply
+abbrev told_reply : Option Kind → Answer → StepReply
 told_reply n a = record { reply = reply_to n (reply_of a.verdict); state = a.state }
 
 -- an event of a thread that is not declared
-nobody : (h : Counts) (t line : ℕ) → declared h (event_of h Nothing t line) ≡ false
+nobody : (h : Counts) (t line : ℕ) → declared h (event_of h None t line) ≡ false
 unfolding declared
 nobody h t line = rw (le-ltb h.threads h.threads (omega arith)) refl
 
@@ -38,27 +38,27 @@ module _ (m : Limits) (s : State) (up : UpToFull m) (t : ℕ) where
   line = line_after s.counts s.events
 
   abbrev tried : Event
-  tried = event_of s.counts Nothing t line
+  tried = event_of s.counts None t line
 
   -- refused with a number in its line
-  turned_away_law : (number : ℕ) → in_range m s ≡ true → unchanged s (refused number line) ≡ stepped m s tried → told_reply Nothing (stepped m s tried) ≡ on_named m s t Nothing
+  turned_away_law : (number : ℕ) → in_range m s ≡ true → unchanged s (refused number line) ≡ stepped m s tried → told_reply None (stepped m s tried) ≡ on_named m s t None
   unfolding reply_of no_letter
   turned_away_law number r e =
-      ap (told_reply Nothing) (sym e) ∙ rw (ne_eqb line 0 (omega (arith, first_line_low s.counts)), r) refl
+      ap (told_reply None) (sym e) ∙ rw (ne_eqb line 0 (omega (arith, first_line_low s.counts)), r) refl
 
-  on_none : told_reply Nothing (stepped m s tried) ≡ on_named m s t Nothing
+  on_none : told_reply None (stepped m s tried) ≡ on_named m s t None
   on_none = by (in_range m s) refl (leb m.events s.events) refl
     where
-      by : (b : Bool) → in_range m s ≡ b → (c : Bool) → leb m.events s.events ≡ c → told_reply Nothing (stepped m s tried) ≡ on_named m s t Nothing
-      by false r c q = ap (told_reply Nothing) (sym (step_out m s tried r)) ∙ (unfold reply_of no_letter in rw r refl)
+      by : (b : Bool) → in_range m s ≡ b → (c : Bool) → leb m.events s.events ≡ c → told_reply None (stepped m s tried) ≡ on_named m s t None
+      by false r c q = ap (told_reply None) (sym (step_out m s tried r)) ∙ (unfold reply_of no_letter in rw r refl)
       by true r true q = turned_away_law m.excess r (step_limit m s tried up r m.excess refl (leb-true m.events s.events q))
       by true r false q = turned_away_law 5 r (step_undeclared m s tried up r (leb-false m.events s.events q) (nobody s.counts t line))
 
-  on_name : (n : Named) → told_reply n (stepped m s (event_of s.counts n t line)) ≡ on_named m s t n
-  on_name Nothing = on_none
-  on_name (Of k) = refl
+  on_name : (n : Option Kind) → told_reply n (stepped m s (event_of s.counts n t line)) ≡ on_named m s t n
+  on_name None = on_none
+  on_name (Some k) = refl
 
-  module _ (k p : ℕ) (x y : ℤ) (same : y ≡ x) (n : Named) (named : n ≡ kind_of k p y) where
+  module _ (k p : ℕ) (x y : ℤ) (same : y ≡ x) (n : Option Kind) (named : n ≡ kind_of k p y) where
     -- the answer of the event that is tried, and the reply from it
     pub step_told : (at : ℕ) (e : Event) (a : Answer) (v r : Reply) → at ≡ line → e ≡ event_of s.counts n t at → a ≡ stepped m s e → v ≡ reply_of a.verdict → r ≡ reply_to n v
         → record { reply = r; state = a.state } ≡ step_reply m s k t p x

@@ -1,12 +1,11 @@
 -- What a program in C is told in plain numbers: of one step, of a whole trace, of its tail, and of the sheet of a sitting.
-use Rattle.std.specs.Prelude.{ℕ, ◌≡◌, cond, List, ℤ, Some, None, is_some}
+use Rattle.std.specs.Prelude.{ℕ, ◌≡◌, cond, List, ℤ, Some, None, is_some, Option, Result, Ok, Err}
 use Rattle.std.specs.Option.{unwrap_or}
-use Rattle.rules.specs.declared.Verdict.{Verdict}
-use Rattle.rules.specs.declared.Named.{Named}
-use Rattle.rules.specs.declared.Named.TheVariants.{Nothing, Of}
+use Rattle.rules.specs.declared.Refusal.{Refusal}
+use Rattle.rules.specs.declared.Kind.{Kind}
 use Rattle.rules.specs.Events.{kind_of}
 use Rattle.rules.specs.Limits.{Limits, no_volatiles, line_after}
-use Rattle.rules.specs.Rules.{told, number_in, line_in}
+use Rattle.rules.specs.Rules.{Verdict, told, number_in, line_in}
 use Rattle.state.specs.declared.State.{State}
 use Rattle.state.specs.State.{start}
 use Rattle.state.specs.Range.{in_range}
@@ -15,7 +14,6 @@ use Rattle.machine.specs.Stepped.{stepped}
 use Rattle.ordering.specs.declared.Ordering.{Ordering}
 use Rattle.ordering.specs.declared.Ordering.TheVariants.{Ordered, Unordered, NoOrder}
 use Rattle.finishing.specs.declared.Tail.{Tail}
-use Rattle.finishing.specs.declared.Tail.TheVariants.{Given, Refused}
 use Rattle.finishing.specs.Tail.{Gives}
 use Rattle.report.specs.declared.Report.{Report}
 use Rattle.report.specs.Report.{Fills, Briefs}
@@ -29,6 +27,9 @@ use Rattle.c_api.specs.declared.TailReply.{TailReply}
 use Rattle.c_api.specs.declared.SheetReply.{SheetReply}
 
 -- the number of a refusal and its line: both are 0 where nothing is refused
+abbrev pub refusal_reply : Refusal → Reply
+refusal_reply r = record { number = r.number; line = r.line }
+
 unfoldable pub reply_of : Verdict → Reply
 reply_of v = record { number = number_in (told v); line = line_in (told v) }
 
@@ -46,9 +47,9 @@ unfoldable pub no_letter : Limits → State → Reply
 no_letter m s = cond (in_range m s) (record { number = 4; line = line_after s.counts s.events }) (record { number = 8; line = 0 })
 
 -- what the letter names; the state stays as it was where that is nothing
-abbrev pub on_named : Limits → State → ℕ → Named → StepReply
-on_named m s t Nothing = record { reply = no_letter m s; state = s }
-on_named m s t (Of k) = answered (stepped m s (record { thread = t; line = line_after s.counts s.events; kind = k }))
+abbrev pub on_named : Limits → State → ℕ → Option Kind → StepReply
+on_named m s t None = record { reply = no_letter m s; state = s }
+on_named m s t (Some k) = answered (stepped m s (record { thread = t; line = line_after s.counts s.events; kind = k }))
 
 -- one step, 8, 4, 9, 5, row: letter, thread, variable or lock, and value, of F the thread that it notifies
 unfoldable pub step_reply : Limits → State → ℕ → ℕ → ℕ → ℤ → StepReply
@@ -60,7 +61,7 @@ step_reply m s k t p x = on_named m s t (kind_of k p x)
 -- wanted there is none
 abbrev pub order_reply : Ordering → OrderReply
 order_reply (Ordered c) = record { sections = Some c; denial = record { number = 0; line = 0 } }
-order_reply (Unordered number line) = record { sections = None; denial = record { number = number; line = line } }
+order_reply (Unordered r) = record { sections = None; denial = refusal_reply r }
 order_reply NoOrder = record { sections = None; denial = record { number = 0; line = 0 } }
 
 abbrev pub with_order : Report → Reply → OrderReply → MarkReply
@@ -94,13 +95,13 @@ pub record BriefReplies (m : Limits) (s whats : List ℕ) (values : List ℤ) (o
 -- ---- the tail of a trace
 
 -- how many events it has, and the line of the first; or number and line of the refusal
-abbrev pub tail_reply : Tail → TailReply
-tail_reply (Given n line) = record { number = 0; line = 0; events = n; first = line }
-tail_reply (Refused number line) = record { number = number; line = line; events = 0; first = 0 }
+abbrev pub tail_reply : Result Tail Refusal → TailReply
+tail_reply (Ok t) = record { number = 0; line = 0; events = t.events; first = t.line }
+tail_reply (Err r) = record { number = r.number; line = r.line; events = 0; first = 0 }
 
 -- the numbers of the tail, and what the lent rows hold
 pub record TailReplies (m : Limits) (s whats : List ℕ) (values : List ℤ) (r : TailReply) (whats' : List ℕ) (values' : List ℤ) : Type 0 where
-  pub tail : Tail
+  pub tail : Result Tail Refusal
   pub gives : Gives m s whats values tail whats' values'
   pub says : r ≡ tail_reply tail
 

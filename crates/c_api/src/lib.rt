@@ -4,13 +4,13 @@
 
 ghost use Rattle.std.specs.Prelude.{◌≡◌};
 ghost use Rattle.rules.specs.Limits.{full, short, limits_of};
-ghost use Rattle.c_api.specs.Replies.{initial_of, reply_of, step_reply, order_reply, mark_reply, MarkReplies, BriefReplies, tail_reply, TailReplies, sheet_reply, SheetReplies};
+ghost use Rattle.c_api.specs.Replies.{initial_of, refusal_reply, reply_of, step_reply, order_reply, mark_reply, MarkReplies, BriefReplies, tail_reply, TailReplies, sheet_reply, SheetReplies};
 ghost use Rattle.c_api.specs.Computed.Stepping.{event_of, reply_to};
 
 use finishing::Tail;
 use ordering::Ordering;
 use report::Report;
-use rules::{Counts, Course, Event, Kind, Named, VARIABLES, Value, Verdict};
+use rules::{Counts, Course, Event, Kind, Refusal, VARIABLES, Value, Verdict};
 use session::Session;
 use state::State;
 
@@ -22,14 +22,25 @@ pub struct Reply {
     pub line: usize,
 }
 
+impl From<Refusal> for Reply {
+    ghost from_gives = { λ a r. r ≡ refusal_reply a };
+
+    fn from(a: Refusal) -> Reply {
+        Reply {
+            number: usize::from(a.number),
+            line: a.line,
+        }
+    }
+}
+
 impl From<Verdict> for Reply {
     ghost from_gives = { λ v r. r ≡ reply_of v };
 
     #[tactic(auto, unfolding(crate::specs::Replies::reply_of))]
     fn from(v: Verdict) -> Reply {
-        Reply {
-            number: usize::from(rules::number_of(v)),
-            line: rules::line_of(v),
+        match v {
+            Ok(()) => Reply { number: 0, line: 0 },
+            Err(refusal) => Reply::from(refusal),
         }
     }
 }
@@ -45,26 +56,27 @@ pub struct StepReply {
 
 // The event that is tried. Where the letter names none it is of a thread that is not declared, so that it is refused: by 8, or else at the
 // line of the next event.
-fn event_of(h: Counts, named: Named, thread: usize, line: usize) -> Event
-    ensures { result ≡ event_of h named thread line }
+fn event_of(h: Counts, kind: Option<Kind>, thread: usize, line: usize) -> Event
+    ensures { result ≡ event_of h kind thread line }
 {
-    match named {
-        Named::Nothing => Event {
+    match kind {
+        Some(kind) => Event { thread, line, kind },
+        None => Event {
             thread: h.threads,
             line,
             kind: Kind::Assign(0, 0),
         },
-        Named::Of(kind) => Event { thread, line, kind },
     }
 }
 
 // The reply, where the event that is tried has this one: of a letter that names none 8, which alone has line 0, and else 4.
-fn reply_to(named: Named, r: Reply) -> Reply
-    ensures { result ≡ reply_to named r }
+fn reply_to(kind: Option<Kind>, r: Reply) -> Reply
+    ensures { result ≡ reply_to kind r }
 {
-    match named {
-        Named::Nothing if r.line != 0 => Reply { number: 4, ..r },
-        _ => r,
+    if kind.is_none() && r.line != 0 {
+        Reply { number: 4, ..r }
+    } else {
+        r
     }
 }
 
@@ -80,11 +92,11 @@ pub fn step_numbers(
     ensures { result ≡ step_reply (limits_of course) s letter thread place value }
 {
     let line = rules::line_after(s.counts, s.events);
-    let named = rules::kind_of(letter, place, value);
-    let e = event_of(s.counts, named, thread, line);
+    let kind = rules::kind_of(letter, place, value);
+    let e = event_of(s.counts, kind, thread, line);
     let a = machine::step(course, s, e);
     StepReply {
-        reply: reply_to(named, Reply::from(a.verdict)),
+        reply: reply_to(kind, Reply::from(a.verdict)),
         state: a.state,
     }
 }
@@ -171,12 +183,9 @@ impl From<Ordering> for OrderReply {
                 sections: Some(c),
                 denial: Reply { number: 0, line: 0 },
             },
-            Ordering::Unordered(number, line) => OrderReply {
+            Ordering::Unordered(refusal) => OrderReply {
                 sections: None,
-                denial: Reply {
-                    number: usize::from(number),
-                    line,
-                },
+                denial: Reply::from(refusal),
             },
             Ordering::NoOrder => OrderReply {
                 sections: None,
@@ -293,20 +302,20 @@ pub struct TailReply {
     pub first: usize,
 }
 
-impl From<Tail> for TailReply {
+impl From<Result<Tail, Refusal>> for TailReply {
     ghost from_gives = { λ t r. r ≡ tail_reply t };
 
-    fn from(t: Tail) -> TailReply {
+    fn from(t: Result<Tail, Refusal>) -> TailReply {
         match t {
-            Tail::Given(n, line) => TailReply {
+            Ok(tail) => TailReply {
                 number: 0,
                 line: 0,
-                events: n,
-                first: line,
+                events: tail.events,
+                first: tail.line,
             },
-            Tail::Refused(number, line) => TailReply {
-                number: usize::from(number),
-                line,
+            Err(refusal) => TailReply {
+                number: usize::from(refusal.number),
+                line: refusal.line,
                 events: 0,
                 first: 0,
             },
