@@ -1,8 +1,8 @@
 // The event lines of a trace, read forward, line after line.
 #![tactic(auto)]
 
-ghost use Rattle.std.specs.Prelude.{◌≡◌, drop};
-ghost use Rattle.rules.specs.Limits.{limits_of, value_width};
+ghost use Rattle.std.specs.Prelude.{◌≡◌, ◌≤◌, drop};
+ghost use Rattle.rules.specs.Limits.{full, limits_of, line_after, value_width};
 ghost use Rattle.events.specs.Events.{on_integer, right, last, lock_end, notify_end, value_end, field, lock_fields, after_thread};
 ghost use Rattle.events.specs.Computed.Lines.{placed, stage, line_at};
 ghost use Rattle.events.specs.Reading.{Reads};
@@ -170,6 +170,18 @@ fn line_at(s: &[u8], at: usize) -> Option<Line>
     )
 }
 
+// A reading that ended in a refusal at the line behind n events.
+fn stopped(h: Counts, n: usize, number: u8) -> Read
+    requires { n ≤ full.events }
+    ensures { result ≡ record { count = n; verdict = Err (record { number = number; line = line_after h n }) } }
+{
+    let line = rules::line_after(h, n as u32);
+    Read {
+        count: n,
+        verdict: Err(Refusal { number, line }),
+    }
+}
+
 // The events of the lines from a place on, one record for each at the front of the two rows: until a line that is no event, or an event
 // more than the course has.
 pub fn read_lines(
@@ -188,19 +200,10 @@ pub fn read_lines(
     // Kept: each line says where the next one starts, and what ends the reading at n is asked in the turn itself, so a range over n is no plainer.
     while at < s.len() {
         let Some(l) = line_at(s, at) else {
-            let line = rules::line_after(h, n as u32);
-            return Read {
-                count: n,
-                verdict: Err(Refusal { number: 4, line }),
-            };
+            return stopped(h, n, 4);
         };
         if most <= n {
-            let number = rules::excess_of(course);
-            let line = rules::line_after(h, n as u32);
-            return Read {
-                count: n,
-                verdict: Err(Refusal { number, line }),
-            };
+            return stopped(h, n, rules::excess_of(course));
         }
         what[n] = records::what_of(l.letter, l.thread, l.place);
         value[n] = l.value;

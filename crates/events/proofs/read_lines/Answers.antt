@@ -1,15 +1,22 @@
-use Rattle.std.proofs.Common.{◌≤◌, rules, sym, ◌∙◌, arith, length}
-use Rattle.rules.specs.Limits.{full}
+use Rattle.std.proofs.Common.{refl, ◌≤◌, rules, sym, ◌∙◌, arith, length}
+use Rattle.rules.proofs.Bounds.{up_to_full}
+use Rattle.rules.specs.Limits.{full, line_after}
 use Rattle.events.proofs.ReadLaws.{turn_next, turn_more, turn_end, turn_wrong, turn_full}
 use Rattle.events.proofs.read_lines.Goals as goal
 
+pub stopped-requires : goal.stopped-requires
+stopped-requires c = omega (arith, c.loop-at.invariant.small, (up_to_full c.args.course).events)
+
+pub stopped-requires-then-most-n : goal.stopped-requires-then-most-n
+stopped-requires-then-most-n c = omega (arith, c.loop-at.invariant.small, (up_to_full c.args.course).events)
+
 pub returns-in_default : goal.returns-in_default
-returns-in_default c = turn_wrong c.loop-at.invariant c.line_after-line.result (sym c.line_at.ensures ∙ c.in_default.is) c.loop-at-test.true c.line_after-line.ensures
+returns-in_default c = rw c.stopped.ensures (turn_wrong c.loop-at.invariant (line_after c.args.h c.loop-at.n) (sym c.line_at.ensures ∙ c.in_default.is) c.loop-at-test.true refl)
 
 pub returns-then-most-n : goal.returns-then-most-n
 returns-then-most-n c =
-    turn_full c.loop-at.invariant c.in-Some.l c.excess_of-number.result c.line_after-line-then-most-n.result (sym c.line_at.ensures ∙ c.in-Some.is)
-    (omega (arith, c.if-most-n.true, c.most_events-most.ensures)) c.excess_of-number.ensures c.line_after-line-then-most-n.ensures
+    rw c.stopped-then-most-n.ensures
+    (turn_full c.loop-at.invariant c.in-Some.l c.excess_of.result (line_after c.args.h c.loop-at.n) (sym c.line_at.ensures ∙ c.in-Some.is) (omega (arith, c.if-most-n.true, c.most_events-most.ensures)) c.excess_of.ensures refl)
 
 pub loop-at-smaller : goal.loop-at-smaller
 loop-at-smaller c = omega (arith, c.loop-at-test.true, turn_next c.loop-at.invariant c.in-Some.l (sym c.line_at.ensures ∙ c.in-Some.is))
