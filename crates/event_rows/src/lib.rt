@@ -39,13 +39,11 @@ fn unpack(w: u32, value: Value, line: usize) -> Event
     ensures { result ≡ unpacked line w value }
 {
     let place = records::place_in(w);
-    let kind = rules::kind_of(records::letter_in(w), place, value).unwrap_or(Kind::Read(
-        place, value,
-    ));
+    let named = rules::kind_of(records::letter_in(w), place, value);
     Event {
         thread: records::thread_in(w),
         line,
-        kind,
+        kind: named.unwrap_or(Kind::Read(place, value)),
     }
 }
 
@@ -68,7 +66,9 @@ pub fn fill_records(records: &mut [Event], h: Counts, what: &[u32], value: &[Val
 {
     let most = n
         .min(RECORDS)
-        .min(records.len().min(what.len().min(value.len())));
+        .min(records.len())
+        .min(what.len())
+        .min(value.len());
     let m = count_of(&what[..most]);
     let line = rules::line_after(h, 0);
     fill_lines(&mut records[..m], line, &what[..m], &value[..m]);

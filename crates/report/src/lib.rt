@@ -10,7 +10,7 @@ ghost use Rattle.report.specs.Report.{too_little_report, Lends, Fills, Briefs};
 ghost use Rattle.report.specs.Computed.Parts.{ordering_lines, refused_report};
 
 use ordering::{Ordering, Outcome};
-use rules::{Counts, Course, Memories, RECORDS, Refusal, Value, Verdict};
+use rules::{Course, RECORDS, Refusal, Value, Verdict};
 
 // What is said of a trace: the verdict, the number of events of an accepted one, what is said of its order, and the length of the listing.
 #[derive(Clone, Copy)]
@@ -63,18 +63,12 @@ fn write_order(out: &mut [u8], o: Ordering, list: &[u64]) -> usize
 }
 
 // The listing of an accepted trace.
-fn write_listing(
-    out: &mut [u8],
-    n: usize,
-    h: Counts,
-    m: Memories,
-    o: Ordering,
-    list: &[u64],
-) -> usize
-    ensures { Wrote (write_all (lines_for n h m ++ ordering_lines o list.now)) out.old result out.new }
+fn write_listing(out: &mut [u8], outcome: &Outcome, list: &[u64]) -> usize
+    ensures { Wrote (write_all (lines_for outcome.now.marking.events outcome.now.marking.head outcome.now.marking.memories ++ ordering_lines outcome.now.ordering list.now)) out.old result out.new }
 {
-    let a = listing::write_memories(out, n, h, m);
-    let b = write_order(&mut out[a..], o, list);
+    let m = &outcome.marking;
+    let a = listing::write_memories(out, m.events, m.head, m.memories);
+    let b = write_order(&mut out[a..], outcome.ordering, list);
     a + b
 }
 
@@ -95,18 +89,11 @@ pub fn mark_lent(
         return lent_short();
     }
     match ordering::order_trace(course, bytes, what, value, list, scratch) {
-        Ok(Outcome { marking, ordering }) => Report {
+        Ok(outcome) => Report {
             verdict: Ok(()),
-            events: marking.events,
-            ordering,
-            written: write_listing(
-                out,
-                marking.events,
-                marking.head,
-                marking.memories,
-                ordering,
-                list,
-            ),
+            events: outcome.marking.events,
+            ordering: outcome.ordering,
+            written: write_listing(out, &outcome, list),
         },
         Err(refusal) => refuse(out, refusal),
     }

@@ -31,4 +31,4 @@ pub returns : goal.returns
 returns c =
     let a = c.args in
     let same : to_z value_width (of_z value_width a.value) ≡ a.value = to_z-of_z value_width _ (search rules) in
-    event_is a.line a.w a.value _ same c.thread_in.ensures c.place_in-place.ensures c.letter_in.ensures c.kind_of.ensures c.unwrap_or-kind.ensures
+    event_is a.line a.w a.value _ same c.thread_in.ensures c.place_in-place.ensures c.letter_in.ensures c.kind_of-named.ensures c.unwrap_or.ensures

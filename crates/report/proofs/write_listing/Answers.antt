@@ -12,33 +12,33 @@ use Rattle.listing.proofs.ListLaws.{both, fit_lines}
 use Rattle.report.specs.Computed.Parts.{ordering_lines}
 use Rattle.report.proofs.Lines.{fit_order}
 use Rattle.report.proofs.write_listing.Goals as goal
-use Rattle.report.proofs.write_listing.Goals.{After-slice_known-3-1}
+use Rattle.report.proofs.write_listing.Goals.{After-write_order-b}
 
 -- what is written by both calls
-whole : (c : After-slice_known-3-1) → let a = c.args in
+whole : (c : After-write_order-b) → let a = c.args in
     let v = c.write_memories-a in
     let w = c.write_order-b in
-    Wrote (write_all (lines_for a.n a.h a.m ++ ordering_lines a.o a.list.now)) a.out.now (v.result + w.result) (put_mid v.result (length v.new.out - v.result) v.new.out w.new.out)
+    Wrote (write_all (lines_for a.outcome.now.marking.events a.outcome.now.marking.head a.outcome.now.marking.memories ++ ordering_lines a.outcome.now.ordering a.list.now)) a.out.now (v.result + w.result) (put_mid v.result (length v.new.out - v.result) v.new.out w.new.out)
 whole c = wrote_all _ _ _ _ _ _ _ c.write_memories-a.ensures c.write_order-b.ensures
 
 -- each line fits its room
-fit : (c : After-slice_known-3-1) → let a = c.args in All Fits (lines_for a.n a.h a.m ++ ordering_lines a.o a.list.now)
+fit : (c : After-write_order-b) → let a = c.args in All Fits (lines_for a.outcome.now.marking.events a.outcome.now.marking.head a.outcome.now.marking.memories ++ ordering_lines a.outcome.now.ordering a.list.now)
 fit c =
     let a = c.args in
-    both Fits (lines_for a.n a.h a.m) (ordering_lines a.o a.list.now) (fit_lines a.n a.h a.m) (fit_order a.o a.list.now)
+    both Fits (lines_for a.outcome.now.marking.events a.outcome.now.marking.head a.outcome.now.marking.memories) (ordering_lines a.outcome.now.ordering a.list.now) (fit_lines a.outcome.now.marking.events a.outcome.now.marking.head a.outcome.now.marking.memories) (fit_order a.outcome.now.ordering a.list.now)
 
 pub slice_bounds-write_order-count : goal.slice_bounds-write_order-count
 slice_bounds-write_order-count c =
     let a = c.args in
-    all_place _ _ _ _ (fit_lines a.n a.h a.m) c.write_memories-a.ensures
+    all_place _ _ _ _ (fit_lines a.outcome.now.marking.events a.outcome.now.marking.head a.outcome.now.marking.memories) c.write_memories-a.ensures
 
 pub slice_bounds-write_order-start : goal.slice_bounds-write_order-start
 slice_bounds-write_order-start c =
     let a = c.args in
-    all_place _ _ _ _ (fit_lines a.n a.h a.m) c.write_memories-a.ensures
+    all_place _ _ _ _ (fit_lines a.outcome.now.marking.events a.outcome.now.marking.head a.outcome.now.marking.memories) c.write_memories-a.ensures
 
 pub overflow_add-result : goal.overflow_add-result
-overflow_add-result c = omega (arith, all_place _ _ _ _ (fit (goal.at.overflow_add-result c).After-slice_known-3-1) (whole (goal.at.overflow_add-result c).After-slice_known-3-1), all_length _ _ _ _ (fit (goal.at.overflow_add-result c).After-slice_known-3-1) (whole (goal.at.overflow_add-result c).After-slice_known-3-1))
+overflow_add-result c = omega (arith, all_place _ _ _ _ (fit (goal.at.overflow_add-result c).After-write_order-b) (whole (goal.at.overflow_add-result c).After-write_order-b), all_length _ _ _ _ (fit (goal.at.overflow_add-result c).After-write_order-b) (whole (goal.at.overflow_add-result c).After-write_order-b))
 
 pub returns : goal.returns
-returns c = whole (goal.at.returns c).After-slice_known-3-1
+returns c = whole (goal.at.returns c).After-write_order-b
