@@ -14,6 +14,12 @@ use Rattle.finishing.proofs.Answers.{marked_refused, handed, gives_tailless, mad
 use Rattle.finishing.proofs.make_tail.Goals as goal
 use Rattle.finishing.proofs.make_tail.Goals.{then-any_volatile-via-then-any_volatile, then-any_volatile-via-else-any_volatile+then-any_new}
 
+pub returns : goal.returns
+returns c =
+    let a = c.args in
+    let q = ap₂ (λ (x y : Bool). x || y) (sym c.any_volatile.ensures ∙ c.if-any_volatile.false) (sym c.any_new.ensures ∙ c.if-any_new.false) in
+    rw c.line_after-line.ensures (made_gives (limits_of a.course) (up_to_full a.course) a.bytes.now c.in_ok-marked.ensures q (search rules) (search rules) c.fill-events.ensures)
+
 pub returns-in_err-marked : goal.returns-in_err-marked
 returns-in_err-marked c =
     let a = c.args in
@@ -55,9 +61,3 @@ invariant_of-accepted c =
 
 pub overflow_cast-n : goal.overflow_cast-n
 overflow_cast-n c = omega (arith, (handed (limits_of c.args.course) (up_to_full c.args.course) c.args.bytes.now c.in_ok-marked.ensures).few)
-
-pub returns : goal.returns
-returns c =
-    let a = c.args in
-    let q = ap₂ (λ (x y : Bool). x || y) (sym c.any_volatile.ensures ∙ c.if-any_volatile.false) (sym c.any_new.ensures ∙ c.if-any_new.false) in
-    rw c.line_after-line.ensures (made_gives (limits_of a.course) (up_to_full a.course) a.bytes.now c.in_ok-marked.ensures q (search rules) (search rules) c.fill-events.ensures)

@@ -5,11 +5,6 @@ use Rattle.rules.proofs.Bounds.{up_to_full}
 use Rattle.tail_text.proofs.TailLaws.{refused_text, given_room, given_text}
 use Rattle.tail_text.proofs.list_tail.Goals as goal
 
-pub write_records-requires : goal.write_records-requires
-write_records-requires c =
-    let a = c.args in
-    given_room (limits_of a.course) (up_to_full a.course) a.s.now a.out.now (omega arith) c.in-Ok.ensures
-
 pub returns-in-Err : goal.returns-in-Err
 returns-in-Err c =
     let a = c.args in
@@ -19,3 +14,8 @@ pub returns-in-Ok : goal.returns-in-Ok
 returns-in-Ok c =
     let a = c.args in
     given_text (limits_of a.course) (up_to_full a.course) a.s.now a.out.now (omega arith) c.in-Ok.ensures c.write_records.ensures
+
+pub write_records-requires : goal.write_records-requires
+write_records-requires c =
+    let a = c.args in
+    given_room (limits_of a.course) (up_to_full a.course) a.s.now a.out.now (omega arith) c.in-Ok.ensures
