@@ -7,7 +7,7 @@ ghost use Rattle.std.specs.Prelude.{◌≤◌};
 use finishing::Tail;
 use ordering::Ordering;
 use report::Report;
-use rules::{Counts, Course, Event, Kind, Value, Verdict};
+use rules::{Counts, Course, Event, Kind, Refusal, Value, Verdict};
 use state::State;
 use std::io::Print;
 
@@ -89,7 +89,10 @@ fn place<T: Shown>(rt: &impl Print, lent: &[T], i: usize) {
 
 // Number and line of a refusal, both 0 where nothing is refused.
 fn refusal(v: Verdict) -> [usize; 2] {
-    [usize::from(rules::number_of(v)), rules::line_of(v)]
+    match v {
+        Ok(()) => [0, 0],
+        Err(refusal) => [usize::from(refusal.number), refusal.line],
+    }
 }
 
 // ---- A trace where no order is wanted.
@@ -98,7 +101,7 @@ fn refusal(v: Verdict) -> [usize; 2] {
 fn about_order(o: Ordering) -> [usize; 2] {
     match o {
         Ordering::Ordered(c) => [1, c],
-        Ordering::Unordered(number, _) => [0, usize::from(number)],
+        Ordering::Unordered(refusal) => [0, usize::from(refusal.number)],
         Ordering::NoOrder => [0, 0],
     }
 }
@@ -169,7 +172,7 @@ fn counts(threads: usize, variables: usize, locks: usize) -> Counts {
 fn canonical(rt: &impl Print) {
     let h = counts(2, 1, 1);
     written(rt, |out| writer::write_head(out, h));
-    written(rt, |out| writer::write_guards(out, true, &[0]));
+    written(rt, |out| writer::write_guards(out, Some(&[0])));
     let events = [
         (0, Kind::Lock(0)),
         (0, Kind::Assign(0, 5)),
@@ -189,7 +192,7 @@ fn canonical(rt: &impl Print) {
 }
 
 fn limits(rt: &impl Print) {
-    written(rt, |out| writer::write_guards(out, false, &[0]));
+    written(rt, |out| writer::write_guards(out, None));
     let all: [usize; 16] = [0, 1, 2, 3, 4, 5, 6, 7, 8, 9, 10, 11, 12, 13, 14, 15];
     written(rt, |out| writer::write_volatiles(out, &all[..1]));
     written(rt, |out| writer::write_volatiles(out, &all));
@@ -223,7 +226,7 @@ fn little_room(rt: &impl Print) {
     let lengths = [
         writer::write_head(&mut out, counts(2, 1, 1)),
         writer::write_event(&mut out, e),
-        writer::write_guards(&mut narrow, true, &[0]),
+        writer::write_guards(&mut narrow, Some(&[0])),
         writer::write_trailer(&mut last, 84),
         writer::write_volatiles(&mut last, &[0]),
     ];
@@ -235,11 +238,11 @@ fn little_room(rt: &impl Print) {
 
 // ---- Rows of records.
 
-// Number and line, and variable 0 in main memory.
+// Number and line, and variable 0 in main memory, 0 where a row is refused.
 fn marked(rt: &impl Print, h: Counts, what: &[u32], values: &[Value]) {
     let r = machine::mark_row(h, what, values);
-    row(rt, &refusal(r.verdict));
-    r.memories.main[0].value.write(rt);
+    row(rt, &refusal(r.map(|_| ())));
+    r.map_or(0, |m| m.main[0].value).write(rt);
 }
 
 fn rows(rt: &impl Print) {
@@ -629,10 +632,10 @@ fn traces(rt: &impl Print, paper: &[u8]) {
 // ---- The tail of a trace into lent events.
 
 // Number, line, events, and the line of the first.
-fn told(t: Tail) -> [usize; 4] {
+fn told(t: Result<Tail, Refusal>) -> [usize; 4] {
     match t {
-        Tail::Given(n, line) => [0, 0, n, line],
-        Tail::Refused(number, line) => [usize::from(number), line, 0, 0],
+        Ok(tail) => [0, 0, tail.events, tail.line],
+        Err(refusal) => [usize::from(refusal.number), refusal.line, 0, 0],
     }
 }
 
