@@ -132,12 +132,14 @@ impl Holds {
     }
 }
 
+// Whether an assign is owed after a letter, where b says whether one was before: a P announces it, and a B makes it.
 fn pending_after(b: bool, k: u8) -> bool
     ensures { result ≡ pending_after b k }
 {
     (k == b'P') | (b & (k != b'B'))
 }
 
+// Whether a thread is behind an N or Y of its section after a letter, where b says whether it was before, and `any` whether it still holds a lock.
 fn late_after(b: bool, k: u8, any: bool) -> bool
     ensures { result ≡ late_after b k any }
 {
