@@ -553,80 +553,57 @@ fn eventful(rt: &impl Print, course: Course, paper: &[u8], lent: Lent)
     }
 }
 
-// 7, with one place too few of each; then a trace that is refused, one without an order, and one with it, also from a longer
-// scratch and in the short course, one that is over its limits, one in which a thread waits and comes back, and one in which it still waits;
-// an order without sections, and no guards.
+// 7, with one place too few of each.
+fn too_few(rt: &impl Print, paper: &[u8]) {
+    let few = Lent {
+        events: 1999,
+        ..ENOUGH
+    };
+    eventful(rt, Course::Full, paper, few);
+    let few = Lent {
+        bytes: 32767,
+        ..ENOUGH
+    };
+    eventful(rt, Course::Full, paper, few);
+    let few = Lent {
+        entries: 999,
+        ..ENOUGH
+    };
+    eventful(rt, Course::Full, paper, few);
+    let few = Lent {
+        cells: 999,
+        ..ENOUGH
+    };
+    eventful(rt, Course::Full, paper, few);
+}
+
+// A trace that is refused, one without an order, and one with it, also from a longer scratch and in the short course, one that is over its limits, one in which
+// a thread waits and comes back, and one in which it still waits; an order without sections, and no guards.
 fn traces(rt: &impl Print, paper: &[u8]) {
-    put(rt, b"a trace into events\n");
-    eventful(
-        rt,
-        Course::Full,
-        paper,
-        Lent {
-            events: 1999,
-            ..ENOUGH
-        },
-    );
-    eventful(
-        rt,
-        Course::Full,
-        paper,
-        Lent {
-            bytes: 32767,
-            ..ENOUGH
-        },
-    );
-    eventful(
-        rt,
-        Course::Full,
-        paper,
-        Lent {
-            entries: 999,
-            ..ENOUGH
-        },
-    );
-    eventful(
-        rt,
-        Course::Full,
-        paper,
-        Lent {
-            cells: 999,
-            ..ENOUGH
-        },
-    );
-    eventful(rt, Course::Full, b"H 2 1 1\nG 0\nU 0 0 0\nZ 20\n", ENOUGH);
-    eventful(
-        rt,
-        Course::Full,
+    let orderless: [&[u8]; 2] = [
+        b"H 2 1 1\nG 0\nU 0 0 0\nZ 20\n",
         b"H 1 1 1\nG 0\nA 0 0 -9223372036854775808\nZ 39\n",
-        ENOUGH,
-    );
+    ];
+    for other in orderless {
+        eventful(rt, Course::Full, other, ENOUGH);
+    }
     eventful(rt, Course::Full, paper, ENOUGH);
-    eventful(
-        rt,
-        Course::Full,
-        paper,
-        Lent {
-            cells: 1001,
-            ..ENOUGH
-        },
-    );
+    let more = Lent {
+        cells: 1001,
+        ..ENOUGH
+    };
+    eventful(rt, Course::Full, paper, more);
     eventful(rt, Course::Short, paper, ENOUGH);
     eventful(rt, Course::Short, b"H 3 1 1\nG -\nZ 12\n", ENOUGH);
-    eventful(
-        rt,
-        Course::Full,
+    let others: [&[u8]; 4] = [
         b"H 2 1 1\nG 0\nK 0 0\nR 0 0 0\nL 0 0 0\nU 0 0 0\nY 0 0\nK 1 0\nA 1 0 5\nS 1 0 5\nW 1 0 5\nF 1 0 0\nN 1 0\nC 0 0\nR 0 0 5\nL 0 0 5\nU 0 0 5\nN 0 0\nZ 128\n",
-        ENOUGH,
-    );
-    eventful(
-        rt,
-        Course::Full,
         b"H 1 1 1\nG 0\nK 0 0\nY 0 0\nZ 24\n",
-        ENOUGH,
-    );
-    eventful(rt, Course::Full, b"H 1 1 1\nG 0\nZ 12\n", ENOUGH);
-    eventful(rt, Course::Full, b"H 1 1 1\nG -\nZ 12\n", ENOUGH);
+        b"H 1 1 1\nG 0\nZ 12\n",
+        b"H 1 1 1\nG -\nZ 12\n",
+    ];
+    for other in others {
+        eventful(rt, Course::Full, other, ENOUGH);
+    }
 }
 
 // ---- The tail of a trace into lent events.
@@ -685,6 +662,8 @@ fn main(rt: HostRuntime) {
     part(&rt, Course::Short, b"H 1 5 1\nG -\nK 0 0\nZ 18\n");
     lent_states(&rt);
     fills(&rt);
+    put(&rt, b"a trace into events\n");
+    too_few(&rt, paper);
     traces(&rt, paper);
     tails(&rt);
 }
