@@ -1,9 +1,9 @@
 // The events of a trace, what a trace declares, and what is said of it. What the rules say of events stands in specs/.
 #![tactic(auto)]
 
-ghost use Rattle.std.specs.Prelude.{◌≡◌};
+ghost use Rattle.std.specs.Prelude.{◌≡◌, FitsSigned};
 ghost use Rattle.rules.specs.Events.{letter, place, capped, value, thread_of, is_letter, is_lock_letter, kind_of, subject_of};
-ghost use Rattle.rules.specs.Limits.{full, limits_of, most_counts, volatile, any_volatile, stray_volatile, line_after, allowed, declared, lent_short, order_short};
+ghost use Rattle.rules.specs.Limits.{full, limits_of, value_width, most_counts, volatile, any_volatile, stray_volatile, line_after, allowed, declared, lent_short, order_short};
 ghost use Rattle.rules.specs.Rules.{told, number_in, line_in};
 
 // The value of a variable. Its width is `value_width` in specs/Limits.antt.
@@ -127,9 +127,10 @@ pub fn cap(n: usize) -> u32
     n.min(255) as u32
 }
 
-// The thread that a number in the place of a value names; a negative one names none.
+// The thread that a number in the place of a value names; a negative one names none. A value has the width that the definitions name.
 pub fn thread_of(x: Value) -> usize
-    ensures { result ≡ thread_of x }
+    ensures is { result ≡ thread_of x }
+    ensures width { FitsSigned value_width x }
 {
     if x < 0 { 255 } else { cap(x as usize) as usize }
 }
