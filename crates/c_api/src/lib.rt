@@ -15,6 +15,7 @@ use session::Session;
 use state::State;
 
 // The number of a refusal and its line; both are 0 where nothing is refused.
+// Kept: the C interface: `struct dabzhoni_reply` of include/dabzhoni.h.
 #[repr(C)]
 #[derive(Clone, Copy)]
 pub struct Reply {
@@ -138,6 +139,7 @@ fn step_in_place(
 }
 
 // The same in the full course.
+// Kept: the C interface: an exported name for each course.
 #[unsafe(no_mangle)]
 pub extern "C" fn dabzhoni_step(
     s: &mut State,
@@ -152,6 +154,7 @@ pub extern "C" fn dabzhoni_step(
 }
 
 // The same in the short course.
+// Kept: the C interface: an exported name for each course.
 #[unsafe(no_mangle)]
 pub extern "C" fn dabzhoni_step_short(
     s: &mut State,
@@ -198,6 +201,7 @@ impl From<Ordering> for OrderReply {
 // What is said of a trace: the number of a refusal and its line, both 0 where it is accepted; the events of an accepted one, else 0; the
 // length of the listing; 1 where there is an order, else 0; how many entries the order list has; and 20 to 22 and its line where the order is
 // denied, else 0.
+// Kept: the C interface: `struct dabzhoni_marked` of include/dabzhoni.h.
 #[repr(C)]
 #[derive(Clone, Copy)]
 pub struct MarkReply {
@@ -232,6 +236,7 @@ impl From<Report> for MarkReply {
 }
 
 // Marks a whole trace, with its records, its order and its listing.
+// Kept: the C interface: an exported name for each course.
 #[unsafe(no_mangle)]
 pub extern "C" fn dabzhoni_mark(
     paper: &[u8],
@@ -247,6 +252,7 @@ pub extern "C" fn dabzhoni_mark(
 }
 
 // The same where no order is wanted.
+// Kept: the C interface: an exported name for each course.
 #[unsafe(no_mangle)]
 pub extern "C" fn dabzhoni_mark_unordered(
     paper: &[u8],
@@ -262,6 +268,7 @@ pub extern "C" fn dabzhoni_mark_unordered(
 // ---- A whole trace of the short course.
 
 // Marks it, with its records, its order and its listing.
+// Kept: the C interface: an exported name for each course.
 #[unsafe(no_mangle)]
 pub extern "C" fn dabzhoni_mark_short(
     paper: &[u8],
@@ -277,6 +284,7 @@ pub extern "C" fn dabzhoni_mark_short(
 }
 
 // The same where no order is wanted.
+// Kept: the C interface: an exported name for each course.
 #[unsafe(no_mangle)]
 pub extern "C" fn dabzhoni_mark_short_unordered(
     paper: &[u8],
@@ -293,6 +301,7 @@ pub extern "C" fn dabzhoni_mark_short_unordered(
 
 // What is said of a tail: the number of a refusal and its line, both 0 where a tail is given; then how many events it has and the line of the
 // first, both 0 after a refusal.
+// Kept: the C interface: `struct dabzhoni_tail` of include/dabzhoni.h.
 #[repr(C)]
 #[derive(Clone, Copy)]
 pub struct TailReply {
@@ -324,6 +333,7 @@ impl From<Result<Tail, Refusal>> for TailReply {
 }
 
 // Puts the tail of a trace to the front of two rows, all of it or none.
+// Kept: the C interface: an exported name for each course.
 #[unsafe(no_mangle)]
 pub extern "C" fn dabzhoni_finish(paper: &[u8], what: &mut [u32], values: &mut [Value]) -> TailReply
     ensures { TailReplies full paper.now what.old values.old result what.new values.new }
@@ -332,6 +342,7 @@ pub extern "C" fn dabzhoni_finish(paper: &[u8], what: &mut [u32], values: &mut [
 }
 
 // The same in the short course.
+// Kept: the C interface: an exported name for each course.
 #[unsafe(no_mangle)]
 pub extern "C" fn dabzhoni_finish_short(
     paper: &[u8],
@@ -347,6 +358,7 @@ pub extern "C" fn dabzhoni_finish_short(
 
 // What is said of a sheet: the number of a refusal and its line, both 0 where the papers are counted; how many papers there are and how many are
 // accepted, both 0 after a refusal; and the length of the text.
+// Kept: the C interface: `struct dabzhoni_sheet` of include/dabzhoni.h.
 #[repr(C)]
 #[derive(Clone, Copy)]
 pub struct SheetReply {
@@ -374,6 +386,7 @@ impl From<Session> for SheetReply {
 }
 
 // Marks the papers of a sheet, and puts the counts to the front of the output.
+// Kept: the C interface: an exported name for each course.
 #[unsafe(no_mangle)]
 pub extern "C" fn dabzhoni_sheet(sheet: &[u8], out: &mut [u8]) -> SheetReply
     ensures { SheetReplies full sheet.now out.old result out.new }
@@ -382,6 +395,7 @@ pub extern "C" fn dabzhoni_sheet(sheet: &[u8], out: &mut [u8]) -> SheetReply
 }
 
 // The same in the short course.
+// Kept: the C interface: an exported name for each course.
 #[unsafe(no_mangle)]
 pub extern "C" fn dabzhoni_sheet_short(sheet: &[u8], out: &mut [u8]) -> SheetReply
     ensures { SheetReplies short sheet.now out.old result out.new }

@@ -109,6 +109,7 @@ pub fn number_until(s: &[u8], at: usize, d: u8) -> Option<Reached>
 }
 
 // The value of a number without a minus.
+// Kept: a function and no TryFrom, since a number that is none comes in too; it is `try_from` inside.
 pub fn positive(n: Option<usize>) -> Result<Value, NotValue>
     ensures { result ≡ positive_of value_width n }
 {
@@ -116,6 +117,7 @@ pub fn positive(n: Option<usize>) -> Result<Value, NotValue>
     Value::try_from(m).map_err(|_| NotValue::Outside)
 }
 
+// Kept: a function and no TryFrom, since std has none from a size to the negative value of that size.
 // The value of a number after a minus, which is not 0: -m as -1 - (m - 1), which does not wrap at the least value.
 pub fn negative(n: Option<usize>) -> Result<Value, NotValue>
     ensures { result ≡ negative_of value_width n }
@@ -247,6 +249,7 @@ fn end_value(out: &mut [u8], x: Value) -> usize
 }
 
 // A line of a word and numbers.
+// Kept: this and the next are two promises, `word_row` and `word_value`, and share `is_enough` and `word_row`; one with a closure for the end has more clauses than both.
 pub fn write_row_line(out: &mut [u8], word: &[u8], ns: &[usize]) -> usize
     ensures { Wrote (room (length word.now + 32 * length ns.now + 1) (ended (word_row word.now ns.now))) out.old result out.new }
 {
@@ -259,6 +262,7 @@ pub fn write_row_line(out: &mut [u8], word: &[u8], ns: &[usize]) -> usize
 }
 
 // A line of a word, numbers and a value.
+// Kept: as `write_row_line`.
 pub fn write_value_line(out: &mut [u8], word: &[u8], ns: &[usize], x: Value) -> usize
     ensures { Wrote (room (length word.now + 32 * length ns.now + 33) (ended (word_value word.now ns.now x))) out.old result out.new }
 {

@@ -48,6 +48,7 @@ fn unpack(w: u32, value: Value, line: usize) -> Event
 }
 
 // Fills a row of events from two rows of records, of which the first stands for this line.
+// Kept: two rows of plain numbers, as the marking leaves them.
 fn fill_lines(records: &mut [Event], line: usize, what: &[u32], value: &[Value])
     requires line_low { line < 4294967296 }
     requires whats { length what.now ≡ length records.old }
@@ -61,6 +62,7 @@ fn fill_lines(records: &mut [Event], line: usize, what: &[u32], value: &[Value])
 
 // Fills a lent row of events from the first n records of two rows, as far as all have places, up to the first record that packs no event, and no
 // more than 2,000.
+// Kept: document 01 has events struct by struct as a thin form over rows of plain numbers; the count may be more than the rows have (`filled`).
 pub fn fill_records(records: &mut [Event], h: Counts, what: &[u32], value: &[Value], n: usize)
     ensures { records.new ≡ filled h what.now value.now n records.old }
 {

@@ -11,6 +11,7 @@ use decimal::NotValue;
 use rules::{Counts, Course, RECORDS, Refusal, Value, Verdict};
 
 // An event line as plain numbers, and where the next line starts.
+// Kept: the letter is a byte, as document 01 has the marking go over plain numbers.
 #[derive(Clone, Copy)]
 pub struct Line {
     pub letter: u8,
@@ -21,6 +22,7 @@ pub struct Line {
 }
 
 // How many events were read, and what ended the reading.
+// Kept: what was read is marked where a refusal ended the reading too (`Reads`), so the count stands beside the verdict and not in its Ok.
 #[derive(Clone, Copy)]
 pub struct Read {
     pub count: usize,
@@ -171,6 +173,7 @@ fn line_at(s: &[u8], at: usize) -> Option<Line>
 }
 
 // A reading that ended in a refusal at the line behind n events.
+// Kept: the number of a refusal, as `Refusal` has it.
 fn stopped(h: Counts, n: usize, number: u8) -> Read
     requires { n ≤ full.events }
     ensures { result ≡ record { count = n; verdict = Err (record { number = number; line = line_after h n }) } }
@@ -184,6 +187,7 @@ fn stopped(h: Counts, n: usize, number: u8) -> Read
 
 // The events of the lines from a place on, one record for each at the front of the two rows: until a line that is no event, or an event
 // more than the course has.
+// Kept: two rows of plain numbers, which document 01 has the marking go over.
 pub fn read_lines(
     course: Course,
     h: Counts,

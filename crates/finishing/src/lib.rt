@@ -154,6 +154,7 @@ fn depth_after(what: u32, depth: u32) -> u32
 }
 
 // The records of an accepted trace, with the value of each beside it. A clause sees them as pairs.
+// Kept: two rows of plain numbers, as `marking::mark` leaves them; a clause sees one list of pairs.
 #[derive(Drop)]
 struct Rows<'a> {
     what: &'a [u32],
@@ -328,6 +329,7 @@ impl<'a> Accepted<'a> {
     }
 
     // Puts the tail to the front of two rows; how many events it has there.
+    // Kept: two rows, as C lends them to `finish`.
     fn fill(&self, whats: &mut [u32], values: &mut [Value]) -> usize
         ensures { filled result whats.new values.new ≡ added (tail_entries self.now.head self.now.copies.now self.now.rows) (filled 0 whats.old values.old) }
     {
@@ -344,6 +346,7 @@ impl<'a> Accepted<'a> {
 // ---- The tail of a trace.
 
 // Puts the tail of a trace to the front of two rows that have room for every tail. A refused trace gives its own refusal; 24 where it has a V line, Y, F or C.
+// Kept: two rows, as C lends them to `finish`.
 pub fn make_tail(
     course: Course,
     bytes: &[u8],
@@ -377,6 +380,7 @@ pub fn make_tail(
 }
 
 // Puts the tail of a trace to the front of two lent rows; 24 also where one of them has too few places. All or none.
+// Kept: two rows, which C lends (include/dabzhoni.h).
 pub fn finish(
     course: Course,
     bytes: &[u8],

@@ -19,6 +19,7 @@ pub fn last_end(s: &[u8]) -> usize
 }
 
 // The byte of a field of one byte; 0 for any other field.
+// Kept: callers compare it with one letter, which is never 0; with an Option each of them says Some(b'..') and nothing else changes.
 pub fn read_letter(f: &[u8]) -> u8
     ensures { result ≡ letter f.now }
 {

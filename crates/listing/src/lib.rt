@@ -147,6 +147,7 @@ fn write_section(out: &mut [u8], w: u64) -> usize
 // ---- Lines one after the other.
 
 // The values of the first n variables in main memory.
+// Kept: here and in the next two n is a count of places in an array; `write_memories` asks `is_allowed`, which bounds it, once for all three.
 fn write_mains(out: &mut [u8], main: &[Main; VARIABLES], n: usize) -> usize
     requires { n ≤ 16 }
     ensures { Wrote (write_all (main_lines (each (main_at main.now) (below n)))) out.old result out.new }
@@ -159,6 +160,7 @@ fn write_mains(out: &mut [u8], main: &[Main; VARIABLES], n: usize) -> usize
 }
 
 // The usable copies of thread t, of the first n variables.
+// Kept: n as in `write_mains`.
 fn write_thread(out: &mut [u8], copies: &[Cached; CELLS], t: usize, n: usize) -> usize
     requires { (t < 8) × (n ≤ 16) }
     ensures { Wrote (write_all (copy_lines (each (copy_at copies.now t) (below n)))) out.old result out.new }
@@ -171,6 +173,7 @@ fn write_thread(out: &mut [u8], copies: &[Cached; CELLS], t: usize, n: usize) ->
 }
 
 // The usable copies of the first m threads, by thread then variable, of the first n variables.
+// Kept: n as in `write_mains`.
 fn write_copies(out: &mut [u8], copies: &[Cached; CELLS], n: usize, m: usize) -> usize
     requires { (n ≤ 16) × (m ≤ 8) }
     ensures { Wrote (write_all (copy_lines (each (copies_at copies.now n) (below m)))) out.old result out.new }

@@ -16,6 +16,7 @@ use rules::{CELLS, Counts, Course, RECORDS, Refusal, THREADS, VARIABLES, Value, 
 use trace::Guards;
 
 // What is said of the order of a trace. `answer_for` in specs/Answer.antt says when each case is given, with its number and values.
+// Kept: three cases, each with its name and values in `answer_of`; an Option of a Result would name none of them.
 #[derive(Clone, Copy)]
 pub enum Ordering {
     // An order, with so many sections.
@@ -29,6 +30,7 @@ pub enum Ordering {
 // ---- The events of a trace.
 
 // An action: its letter, its thread, and its variable or lock.
+// Kept: the letter is a byte, as document 01 has the marking go over plain numbers.
 #[derive(Clone, Copy)]
 struct Action {
     letter: u8,
@@ -39,6 +41,7 @@ struct Action {
 }
 
 // The rows of an accepted trace: each record names an event. The values are there for what the contracts say of the events.
+// Kept: two rows of plain numbers: document 01 has the events kept so ("over plain numbers"), and C lends two.
 #[derive(Clone, Copy)]
 struct Rows<'a> {
     head: Counts,
@@ -158,6 +161,7 @@ fn owes_some(pending: &[bool; CELLS], t: usize, n: usize) -> bool
 // ---- The first pass.
 
 // Denied by this rule, after i events.
+// Kept: the number of a refusal, as `Refusal` has it.
 fn denied(h: Counts, rule: u8, i: usize) -> Refusal
     requires { i ≤ 2000 }
     ensures { result ≡ record { number = rule; line = line_after h i } }
@@ -270,6 +274,7 @@ fn gather(list: &mut [u64], part: &[u64]) -> usize
 }
 
 // The order of rows that nothing denies one.
+// Kept: the order list and the scratch are two lent parts with a promise each (`Written`), and `order_trace` is called with both.
 fn give(rows: Rows, list: &mut [u64], scratch: &mut [u64]) -> usize
     requires { Orders rows.head rows.what.now rows.value.now list.old scratch.old }
     ensures { Written (entries_for rows.entry.head (row_events rows.entry.head rows.entry.what.now rows.entry.value.now)) list.old scratch.old result list.new scratch.new }
@@ -281,6 +286,7 @@ fn give(rows: Rows, list: &mut [u64], scratch: &mut [u64]) -> usize
 }
 
 // What is said of the order of an accepted trace, and the order to the front of the list.
+// Kept: the order list and the scratch, as in `give`.
 fn order_rows(rows: Rows, g: Guards, list: &mut [u64], scratch: &mut [u64]) -> Ordering
     requires { order_short full (length list.old) (length scratch.old) ≡ false }
     ensures { Given (answer_for rows.entry.head g (row_events rows.entry.head rows.entry.what.now rows.entry.value.now)) (entries_for rows.entry.head (row_events rows.entry.head rows.entry.what.now rows.entry.value.now)) list.old scratch.old result list.new scratch.new }
@@ -302,6 +308,7 @@ pub struct Outcome {
 }
 
 // Marks a whole trace and orders its sections. 7 before all. The rows are room for the records of its events.
+// Kept: its parameters are those of `report::mark_lent`, which lends them: two rows of plain numbers, an order list and a scratch.
 pub fn order_trace(
     course: Course,
     bytes: &[u8],

@@ -3,14 +3,14 @@
 #![tactic(auto)]
 
 ghost use Rattle.std.specs.Prelude.{ℕ, List, ◌<◌, ◌≤◌, ◌≡◌, ◌^◌, cond, ltb, length, replicate, take, IsOk, MatchOption};
-ghost use Rattle.std.specs.Fn.{FnOnceReturnsAt, FnOnceReturnsAtMut};
+ghost use Rattle.std.specs.Fn.{FnOnceReturnsAtMut};
 ghost use Rattle.std.specs.Io.KnownBytes.{Consumes, IsAtEnd};
 ghost use Rattle.rules.specs.Limits.{full, limits_of};
 ghost use Rattle.decimal.specs.Text.{over};
 ghost use Rattle.session.specs.Session.{sheet_text};
 ghost use Rattle.report.specs.Report.{listing_of};
 ghost use Rattle.tail_text.specs.TailText.{tail_text};
-ghost use Rattle.print.specs.Input.{bytes_read};
+ghost use Rattle.print.specs.Input.{bytes_read, printed_of};
 
 use rules::{Course, ENTRIES, OUTPUT, RECORDS, SCRATCH, Value};
 use std::io::{Eprint, Print, Read};
@@ -18,6 +18,14 @@ use tail_text::TAIL_TEXT;
 
 // One byte more than a trace or a sheet may have tells that there are more.
 pub const INPUT: usize = 65537;
+
+// What is printed of an input: the listing of a trace, the text of its tail, or the counts of a session sheet.
+#[derive(Clone, Copy)]
+pub enum Printed {
+    Listing,
+    Tail,
+    Sheet,
+}
 
 // A read failed after so many bytes.
 #[derive(Clone, Copy)]
@@ -62,20 +70,6 @@ pub fn read_input<R: Read>(
         let _ = eprintln!(rt; "the paper cannot be read");
     }
     input
-}
-
-// Reads an input, as standard input, and prints it by `print` where it was read to its end; what that answers.
-pub fn run<R: Read, F: FnOnce(&[u8]) -> usize>(
-    rt: &impl Eprint,
-    reader: &mut R,
-    print: F,
-) -> Option<usize>
-    requires { F.IsAlwaysCallable print }
-    ensures { (input : List ℕ) × (Consumes (R.remaining reader.old) (R.remaining reader.new) input × MatchOption result (Unit {0}) (λ n. (length input < INPUT → IsAtEnd (R.remaining reader.new)) × FnOnceReturnsAt F.FnOnce print input n)) }
-{
-    let mut text = [0u8; INPUT];
-    let count = read_input(rt, reader, &mut text).ok()?;
-    Some(print(&text[..count]))
 }
 
 // Hands a text to standard output, or says on standard error that it cannot.
@@ -132,6 +126,7 @@ fn print_text<const N: usize, F: FnOnce(&mut [u8]) -> usize>(
 }
 
 // Hands the listing of a trace of a course to standard output; its length.
+// Kept: this, `print_tail` and `print_sheet` are public, each with its own text for its promise; what they share is `print_text`.
 pub fn print_listing(rt: &(impl Print + Eprint), course: Course, s: &[u8]) -> usize
     ensures { result ≡ length (listing_of (limits_of course) s.now) }
 {
@@ -154,6 +149,7 @@ pub fn print_tail(rt: &(impl Print + Eprint), course: Course, s: &[u8]) -> usize
 }
 
 // Hands the text of a session sheet, whose traces are marked by a course, to standard output; its length.
+// Kept: as `print_listing`.
 pub fn print_sheet(rt: &(impl Print + Eprint), course: Course, s: &[u8]) -> usize
     ensures { result ≡ length (sheet_text (limits_of course) s.now) }
 {
@@ -162,4 +158,23 @@ pub fn print_sheet(rt: &(impl Print + Eprint), course: Course, s: &[u8]) -> usiz
         |out| list_sheet(course, s, out),
         "the sheet cannot be written",
     )
+}
+
+// Reads an input, as standard input, and prints what is asked for of it, by a course, where it was read to its end; the length of that.
+pub fn run<R: Read>(
+    rt: &(impl Print + Eprint),
+    reader: &mut R,
+    printed: Printed,
+    course: Course,
+) -> Option<usize>
+    ensures { (input : List ℕ) × (Consumes (R.remaining reader.old) (R.remaining reader.new) input × MatchOption result (Unit {0}) (λ n. (length input < INPUT → IsAtEnd (R.remaining reader.new)) × (n ≡ length (printed_of printed (limits_of course) input)))) }
+{
+    let mut text = [0u8; INPUT];
+    let count = read_input(rt, reader, &mut text).ok()?;
+    let input = &text[..count];
+    Some(match printed {
+        Printed::Listing => print_listing(rt, course, input),
+        Printed::Tail => print_tail(rt, course, input),
+        Printed::Sheet => print_sheet(rt, course, input),
+    })
 }

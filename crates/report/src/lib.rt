@@ -13,6 +13,7 @@ use ordering::{Ordering, Outcome};
 use rules::{Course, RECORDS, Refusal, Value, Verdict};
 
 // What is said of a trace: the verdict, the number of events of an accepted one, what is said of its order, and the length of the listing.
+// Kept: `written` is of both cases, and who copies `events` records or hands on the rest reads 0 and NoOrder after a refusal without asking for the verdict (`Fills`).
 #[derive(Clone, Copy)]
 pub struct Report {
     pub verdict: Verdict,
@@ -73,6 +74,7 @@ fn write_listing(out: &mut [u8], outcome: &Outcome, list: &[u64]) -> usize
 }
 
 // Marks a whole trace, with its order and its listing, where so many places are lent for its records. 7 before all. The rows are room for the records.
+// Kept: two rows of plain numbers, which C lends (include/dabzhoni.h).
 pub fn mark_lent(
     course: Course,
     bytes: &[u8],
@@ -100,6 +102,7 @@ pub fn mark_lent(
 }
 
 // Marks a whole trace, with its records in two rows, its order and its listing.
+// Kept: two rows of plain numbers, which C lends (include/dabzhoni.h).
 pub fn mark_trace(
     course: Course,
     bytes: &[u8],
@@ -123,6 +126,7 @@ pub fn mark_trace(
 }
 
 // Marks a whole trace, with its records and its listing, where no order is wanted.
+// Kept: two rows of plain numbers, which C lends (include/dabzhoni.h).
 pub fn mark_unordered(
     course: Course,
     bytes: &[u8],

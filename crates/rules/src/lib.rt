@@ -94,6 +94,7 @@ pub struct Main {
 }
 
 // A thread's copy of a variable: its value, and whether it is usable.
+// Kept: a copy has a value where it is not usable too, and the tail of a trace assigns it (`assigning` in the specs of finishing), so no Option.
 #[derive(Clone, Copy)]
 pub struct Cached {
     pub value: Value,
@@ -108,6 +109,7 @@ pub struct Memories {
 }
 
 // The refusal of a trace: its number, and the line that it names.
+// Kept: the numbers are the papers' own: `breaks`, `rows`, `judge` and `Marked` in specs/Rules.antt are over them; an enum would add 31 names, and two tables back.
 #[derive(Clone, Copy)]
 pub struct Refusal {
     pub number: u8,
@@ -136,6 +138,7 @@ pub fn thread_of(x: Value) -> usize
 }
 
 // The kind with this letter: the thirteen letters; every other byte names none.
+// Kept: no TryFrom<u8>, since the place and the value come with the letter, and document 01 asks for this match over the letter bytes.
 #[tactic(auto, unfolding(crate::specs::Events::kind_of))]
 pub fn kind_of(letter: u8, place: usize, value: Value) -> Option<Kind>
     ensures { result ≡ kind_of letter place value }
@@ -174,6 +177,7 @@ pub fn is_lock_letter(k: u8) -> bool
 }
 
 // The letter byte of a kind.
+// Kept: no From<Kind> for u8, which would not say that the byte is the letter; `letter` is its promise by name.
 pub fn letter_of(k: Kind) -> u8
     ensures { result ≡ letter k }
 {
@@ -295,6 +299,7 @@ pub fn is_allowed(course: Course, h: Counts) -> bool
 }
 
 // The most events of a course.
+// Kept: this and `excess_of` are two numbers of `limits_of`, each a table over the courses; one function for both would need a name for which.
 pub fn most_events(course: Course) -> u32
     ensures { result ≡ (limits_of course).events }
 {
@@ -305,6 +310,7 @@ pub fn most_events(course: Course) -> u32
 }
 
 // The number of the refusal of one event more, and of a head over the limits of the short course.
+// Kept: a number of a refusal, as `Refusal` has it; beside `most_events` as said there.
 pub fn excess_of(course: Course) -> u8
     ensures { result ≡ (limits_of course).excess }
 {
@@ -355,6 +361,7 @@ pub fn is_order_short(list: usize, scratch: usize) -> bool
 // ---- Verdicts.
 
 // The number of a verdict; 0 where it is accepted.
+// Kept: a public function with `number_in` for its promise; this and `line_of` read the two parts of a refusal, and a pair of both would be taken apart by each caller.
 pub fn number_of(v: Verdict) -> u8
     ensures { result ≡ number_in (told v) }
 {
@@ -365,6 +372,7 @@ pub fn number_of(v: Verdict) -> u8
 }
 
 // The line of a verdict; 0 where it is accepted.
+// Kept: as `number_of`, with `line_in` for its promise.
 pub fn line_of(v: Verdict) -> usize
     ensures { result ≡ line_in (told v) }
 {

@@ -16,6 +16,7 @@ use rules::{Course, OUTPUT, RECORDS, Refusal, Value, Verdict};
 
 // What is said of a sheet: its refusal, or how many traces it holds and how many of them are accepted, both 0 after a refusal; and the length of
 // its text.
+// Kept: `written` is of both cases, and C reads 0 for the counts after a refusal; with a Result both are asked for the case.
 #[derive(Clone, Copy)]
 pub struct Session {
     pub verdict: Verdict,
@@ -58,6 +59,7 @@ fn find_start(s: &[u8]) -> Option<usize>
 // ---- Counting.
 
 // The number of a trace; 0 where it is accepted. The rows are room for its records.
+// Kept: no conversion: it marks a trace; the rows are room for `marking::mark`.
 fn number_of(
     course: Course,
     t: &[u8],
@@ -176,6 +178,7 @@ fn write_tally(out: &mut [u8], tally: &Tally) -> usize
 // ---- The whole.
 
 // A sheet that is turned away with this number, after a text of this length.
+// Kept: the number of a refusal, as `Refusal` has it.
 fn turned_away(number: u8, written: usize) -> Session
     ensures { result ≡ refused_with number written }
 {
@@ -188,6 +191,7 @@ fn turned_away(number: u8, written: usize) -> Session
 }
 
 // The same, and its line.
+// Kept: the number of a refusal, as `Refusal` has it.
 fn refuse(out: &mut [u8], number: u8) -> Session
     requires { full.output ≤ length out.old }
     ensures { (result ≡ session_with full (turned_away number)) × (out.new ≡ over (text_of (refused_line 0 number ∷ [])) out.old) }

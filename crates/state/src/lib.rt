@@ -42,6 +42,7 @@ pub struct Cell {
 }
 
 // Who holds a lock: the thread's number plus 1, or 0 where nobody does, and how many times.
+// Kept: the C interface: `struct dabzhoni_hold` of include/dabzhoni.h.
 #[repr(C)]
 #[derive(Clone, Copy, Default)]
 pub struct Hold {
@@ -50,6 +51,7 @@ pub struct Hold {
 }
 
 // Which lock a thread waits on: its number plus 1, or 0 where it does not wait; how many holds it gave up; and whether it is notified.
+// Kept: the C interface: `struct dabzhoni_wait` of include/dabzhoni.h.
 #[repr(C)]
 #[derive(Clone, Copy, Default)]
 pub struct Waiting {
