@@ -1,9 +1,9 @@
 -- All turns one after the other judge an event by its row and leave the state after it.
-use Prim.Native.Nat.{ℕ, zero, suc, ◌+◌, ◌*◌, ◌≤◌, ◌<◌}
+use Prim.Native.Nat.{ℕ, ◌+◌, ◌*◌, ◌≤◌, ◌<◌}
 use native.Mathlib.Omega.{arith}
 use mathlib.Core.Path.{◌≡◌, refl, sym, ◌∙◌}
-use borrow.Author.Tests.{ne_eqb}
 use lib.ListN.{get_or, set}
+use Rattle.std.specs.Option.{option_or}
 use Rattle.rules.specs.declared.Event.{Event}
 use Rattle.rules.specs.declared.Kind.{Kind}
 use Rattle.rules.specs.declared.Kind.TheVariants as kind
@@ -18,16 +18,12 @@ use Rattle.state.specs.Computed.Places.{cell_place, slot_place}
 use Rattle.state.proofs.LeafLaws.{place_is, slot_is, cell_read}
 use Rattle.judging.specs.declared.Turn.{Turn}
 use Rattle.judging.specs.Computed.Checks.{oldest_of}
-use Rattle.judging.specs.Computed.Turns.{cell_turn, reads_with, reads_turn, stores_with, stores_turn, lock_turn, wait_turn, parts_at, either_of, turn_of, some_of}
+use Rattle.judging.specs.Computed.Turns.{cell_turn, reads_with, reads_turn, stores_with, stores_turn, lock_turn, wait_turn, parts_at, turn_of, some_of}
 use Rattle.judging.specs.Computed.Leads.{lead_at, ahead_at}
-use Rattle.judging.proofs.Rows.{trailing, judge_split}
+use Rattle.judging.proofs.Rows.{found, or_none, trailing, judge_found}
 use Rattle.judging.proofs.Leads.{lead_is}
 use Rattle.judging.proofs.Waits.{ahead_is}
 use Rattle.judging.proofs.Turned.{By, cell_rule, reads_rule, stores_rule, lock_rule, wait_rule, oldest_is, hold_same, wait_same}
-
-either_none : (a : ℕ) → either_of a 0 ≡ a
-either_none zero = refl
-either_none (suc a) = rw (ne_eqb (suc a) 0 (λ z. omega arith)) refl
 
 -- an event's cell, and its turn
 abbrev pub at : State → Event → ℕ
@@ -46,21 +42,21 @@ module _ (s : State) (t line : ℕ) where
   abbrev by : (k : Kind) → By (of k) t (place k) (letter k) (value k)
   by k = record { thread = refl; place = refl; letter = refl; value = refl }
 
-  judged : (k : Kind) → Within t k → s.counts.threads ≤ 8 → (turn_in s (of k)).rule ≡ trailing s.counts (words_in s) (of k)
+  judged : (k : Kind) → Within t k → s.counts.threads ≤ 8 → (turn_in s (of k)).rule ≡ found (trailing s.counts (words_in s) (of k))
   unfolding turn_of cell_turn reads_turn reads_with stores_turn stores_with lock_turn wait_turn var_of lock_of
-  judged (kind.Use v x) w h = either_none _ ∙ cell_rule s (of (kind.Use v x)) (by (kind.Use v x)) w tt refl refl
-  judged (kind.Assign v x) w h = either_none _ ∙ cell_rule s (of (kind.Assign v x)) (by (kind.Assign v x)) w tt refl refl
-  judged (kind.Load v x) w h = either_none _ ∙ reads_rule s (of (kind.Load v x)) (by (kind.Load v x)) w tt refl refl refl refl
+  judged (kind.Use v x) w h = or_none _ ∙ or_none _ ∙ cell_rule s (of (kind.Use v x)) (by (kind.Use v x)) w tt refl refl
+  judged (kind.Assign v x) w h = or_none _ ∙ or_none _ ∙ cell_rule s (of (kind.Assign v x)) (by (kind.Assign v x)) w tt refl refl
+  judged (kind.Load v x) w h = or_none _ ∙ reads_rule s (of (kind.Load v x)) (by (kind.Load v x)) w tt refl refl refl refl
   judged (kind.Store v x) w h = stores_rule s (of (kind.Store v x)) (by (kind.Store v x)) w tt refl refl refl refl
-  judged (kind.Read v x) w h = either_none _ ∙ reads_rule s (of (kind.Read v x)) (by (kind.Read v x)) w tt refl refl refl refl
+  judged (kind.Read v x) w h = or_none _ ∙ reads_rule s (of (kind.Read v x)) (by (kind.Read v x)) w tt refl refl refl refl
   judged (kind.Write v x) w h = stores_rule s (of (kind.Write v x)) (by (kind.Write v x)) w tt refl refl refl refl
-  judged (kind.Lock l) w h = either_none _ ∙ either_none _ ∙ either_none _ ∙ lock_rule s (of (kind.Lock l)) (by (kind.Lock l)) w tt _ refl refl h
-  judged (kind.Unlock l) w h = either_none _ ∙ either_none _ ∙ either_none _ ∙ lock_rule s (of (kind.Unlock l)) (by (kind.Unlock l)) w tt _ refl refl h
+  judged (kind.Lock l) w h = or_none _ ∙ or_none _ ∙ or_none _ ∙ or_none _ ∙ lock_rule s (of (kind.Lock l)) (by (kind.Lock l)) w tt _ refl refl h
+  judged (kind.Unlock l) w h = or_none _ ∙ or_none _ ∙ or_none _ ∙ or_none _ ∙ lock_rule s (of (kind.Unlock l)) (by (kind.Unlock l)) w tt _ refl refl h
   judged (kind.PrescientStore v x) w h = stores_rule s (of (kind.PrescientStore v x)) (by (kind.PrescientStore v x)) w tt refl refl refl refl
-  judged (kind.PrescientAssign v x) w h = either_none _ ∙ cell_rule s (of (kind.PrescientAssign v x)) (by (kind.PrescientAssign v x)) w tt refl refl
-  judged (kind.Wait l) w h = either_none _ ∙ either_none _ ∙ wait_rule s (of (kind.Wait l)) (by (kind.Wait l)) w tt refl _ refl refl h
-  judged (kind.Notify l u) w h = either_none _ ∙ either_none _ ∙ wait_rule s (of (kind.Notify l u)) (by (kind.Notify l u)) w tt refl _ refl refl h
-  judged (kind.Resume l) w h = either_none _ ∙ either_none _ ∙ wait_rule s (of (kind.Resume l)) (by (kind.Resume l)) w tt refl _ refl refl h
+  judged (kind.PrescientAssign v x) w h = or_none _ ∙ or_none _ ∙ cell_rule s (of (kind.PrescientAssign v x)) (by (kind.PrescientAssign v x)) w tt refl refl
+  judged (kind.Wait l) w h = or_none _ ∙ or_none _ ∙ or_none _ ∙ wait_rule s (of (kind.Wait l)) (by (kind.Wait l)) w tt refl _ refl refl h
+  judged (kind.Notify l u) w h = or_none _ ∙ or_none _ ∙ or_none _ ∙ wait_rule s (of (kind.Notify l u)) (by (kind.Notify l u)) w tt refl _ refl refl h
+  judged (kind.Resume l) w h = or_none _ ∙ or_none _ ∙ or_none _ ∙ wait_rule s (of (kind.Resume l)) (by (kind.Resume l)) w tt refl _ refl refl h
 
   -- what is put back of a cell, behind its last store (S has the position that the cell has before the event), and of a lock event
   put : (k : Kind) → Within t k → (get_or s.holds (lock_of k) no_hold).depth < 2000
@@ -86,8 +82,8 @@ module _ (s : State) (t line : ℕ) where
 
 module _ (s : State) (e : Event) (w : Within e.thread e.kind) where
   pub any_rule : s.counts.threads ≤ 8 → s.counts.variables ≤ 16
-      → either_of (ahead_at s e.thread (lock_of e.kind) (letter e.kind) (value e.kind)) (either_of (lead_at s e.thread (var_of e.kind) (letter e.kind)) (turn_in s e).rule) ≡ judge s.counts (words_in s) e
-  any_rule h m = (λ j. either_of (ahead_is s e j) (either_of (lead_is s e w m j) (judged s e.thread e.line e.kind w h j))) ∙ sym (judge_split s.counts (words_in s) e)
+      → option_or (ahead_at s e.thread (lock_of e.kind) (letter e.kind) (value e.kind)) (option_or (lead_at s e.thread (var_of e.kind) (letter e.kind)) (turn_in s e).rule) ≡ found (judge s.counts (words_in s) e)
+  any_rule h m = (λ j. option_or (ahead_is s e j) (option_or (lead_is s e w m j) (judged s e.thread e.line e.kind w h j))) ∙ sym (judge_found s.counts (words_in s) e)
 
   number : at s e ≡ 16 * e.thread + var_of e.kind
   number = place_is e.thread (var_of e.kind) w.thread w.variable refl

@@ -7,6 +7,7 @@ use mathlib.Core.Bool.{Bool, true, false, not, cond, ◌&&◌, ◌||◌, and-fal
 use lib.Dec.{T, eqb, ltb}
 use lib.IntN.{ℤ}
 use lib.ListN.{get_or}
+use Rattle.std.specs.Prelude.{Option, Some, None}
 use Rattle.rules.specs.declared.Event.{Event}
 use Rattle.rules.specs.declared.Counts.{Counts}
 use Rattle.rules.specs.declared.Slot.{Slot}
@@ -28,7 +29,7 @@ use Rattle.state.proofs.Letters.{by_letters}
 use Rattle.state.proofs.Rings.{queued_none}
 use Rattle.judging.specs.Computed.Checks.{oldest_of}
 use Rattle.judging.specs.Computed.Leads.{is_access, lead_checks, lead_rule, bars_use, bars_write, bars_event, front_at, bars_at, order_at, lead_with, lead_at}
-use Rattle.judging.proofs.Rows.{leading, unled_plain, unled_lock}
+use Rattle.judging.proofs.Rows.{found, found_cond, leading, unled_plain, unled_lock}
 use Rattle.judging.proofs.Turned.{By, var_place, oldest_is}
 
 -- a letter of which 27 asks nothing
@@ -136,50 +137,50 @@ module _ (s : State) (t line : ℕ) (ht : t < 8) (hn : s.counts.variables ≤ 16
 
   -- ---- the number
 
-  lead_volatile : (k : Kind) → T (not (among lock_letters (letter k))) → place k < 16 → volatile h (place k) ≡ true → lead_rule (at (place k)) (order k) (letter k) ≡ leading h w (of k)
+  lead_volatile : (k : Kind) → T (not (among lock_letters (letter k))) → place k < 16 → volatile h (place k) ≡ true → lead_rule (at (place k)) (order k) (letter k) ≡ found (leading h w (of k))
   unfolding lead_rule first_broken breaks
-  lead_volatile k m l q = let c = checks_in k m l q (order k) in λ j. cond (c.0 j) 26 (cond (c.1 j) 27 (cond (c.2 j) 28 0))
+  lead_volatile k m l q = let c = checks_in k m l q (order k) in (λ j. cond (c.0 j) (Some 26) (cond (c.1 j) (Some 27) (cond (c.2 j) (Some 28) None))) ∙ sym (simp found_cond)
 
-  lead_variable : (k : Kind) → T (not (among lock_letters (letter k))) → place k < 16 → lead_at s t (place k) (letter k) ≡ leading h w (of k)
+  lead_variable : (k : Kind) → T (not (among lock_letters (letter k))) → place k < 16 → lead_at s t (place k) (letter k) ≡ found (leading h w (of k))
   unfolding lead_with
   lead_variable k m l = go (volatile h (place k)) refl
     where
-      go : (b : Bool) → volatile h (place k) ≡ b → cond b (lead_rule (at (place k)) (order k) (letter k)) 0 ≡ leading h w (of k)
+      go : (b : Bool) → volatile h (place k) ≡ b → cond b (lead_rule (at (place k)) (order k) (letter k)) None ≡ found (leading h w (of k))
       go true q = lead_volatile k m l q
-      go false q = sym (unled_plain h w (of k) q)
+      go false q = sym (ap found (unled_plain h w (of k) q))
 
   -- of a lock event: none
-  lead_lock : (k : ℕ) → T (among lock_letters k) → (v : ℕ) → lead_at s t v k ≡ 0
+  lead_lock : (k : ℕ) → T (among lock_letters k) → (v : ℕ) → lead_at s t v k ≡ None
   unfolding lead_with lead_rule is_access
-  lead_lock k h v = by_letters (λ k. lead_at s t v k ≡ 0) lock_letters (none (quiet v K refl refl), (none (quiet v N refl refl), (none (quiet v Y refl refl), (none (quiet v F refl refl), (none (quiet v C refl refl), tt))))) k h
+  lead_lock k h v = by_letters (λ k. lead_at s t v k ≡ None) lock_letters (none (quiet v K refl refl), (none (quiet v N refl refl), (none (quiet v Y refl refl), (none (quiet v F refl refl), (none (quiet v C refl refl), tt))))) k h
     where
-      none : {o : Bool} → o ≡ false → ◌≡◌ {A = ℕ} (cond (volatile s.counts v) (cond o 27 0) 0) 0
-      none q = ap (λ (o : Bool). cond (volatile s.counts v) (cond o 27 0) 0) q ∙ cond_same {A = ℕ} (volatile s.counts v) 0
+      none : {o : Bool} → o ≡ false → ◌≡◌ {A = Option ℕ} (cond (volatile s.counts v) (cond o (Some 27) None) None) None
+      none q = ap (λ (o : Bool). cond (volatile s.counts v) (cond o (Some 27) None) None) q ∙ cond_same {A = Option ℕ} (volatile s.counts v) None
 
-  lead_in : (k : Kind) → var_of k < 16 → lead_at s t (var_of k) (letter k) ≡ leading h w (of k)
+  lead_in : (k : Kind) → var_of k < 16 → lead_at s t (var_of k) (letter k) ≡ found (leading h w (of k))
   lead_in k l = cases (among lock_letters (letter k))
-      (λ q. lead_lock (letter k) (subst T (sym q) tt) (var_of k) ∙ sym (unled_lock h w (of k) (subst T (sym q) tt)))
+      (λ q. lead_lock (letter k) (subst T (sym q) tt) (var_of k) ∙ sym (ap found (unled_lock h w (of k) (subst T (sym q) tt))))
       (λ q. let p : var_of k ≡ place k = unfold var_of in rw q refl in ap (λ (v : ℕ). lead_at s t v (letter k)) p ∙ lead_variable k (rw q tt) (subst (λ (v : ℕ). v < 16) p l))
 
 module _ (s : State) (e : Event) (w : Within e.thread e.kind) (hn : s.counts.variables ≤ 16) where
-  pub lead_is : lead_at s e.thread (var_of e.kind) (letter e.kind) ≡ leading s.counts (words_in s) e
+  pub lead_is : lead_at s e.thread (var_of e.kind) (letter e.kind) ≡ found (leading s.counts (words_in s) e)
   lead_is = lead_in s e.thread e.line w.thread hn e.kind w.variable
 
   -- an event on a variable, by its numbers
-  pub lead_by : {t v k : ℕ} {x : ℤ} → By e t v k x → among lock_letters k ≡ false → lead_at s t v k ≡ leading s.counts (words_in s) e
+  pub lead_by : {t v k : ℕ} {x : ℤ} → By e t v k x → among lock_letters k ≡ false → lead_at s t v k ≡ found (leading s.counts (words_in s) e)
   lead_by n q = (λ j. lead_at s (n.thread j) (var_place n q j) (n.letter j)) ∙ lead_is
 
 -- ---- as it is computed
 
 module _ (h : Counts) (c : Cell) (cs : List Cell) (ss : List Slot) (t v k : ℕ) {b : Bool} (y : b ≡ volatile h v) where
-  pub lead_found : b ≡ true → {o : Bool} → o ≡ order_at h cs ss t v k → {r : ℕ} → r ≡ lead_rule c o k → r ≡ lead_with h c cs ss t v k
+  pub lead_found : b ≡ true → {o : Bool} → o ≡ order_at h cs ss t v k → {r : Option ℕ} → r ≡ lead_rule c o k → r ≡ lead_with h c cs ss t v k
   unfolding lead_with
   lead_found q e p = p ∙ (λ j. lead_rule c (e j) k) ∙ sym (rw (← y, q) refl)
 
-  pub lead_quiet : b ≡ true → (eqb k U || eqb k W) ≡ false → {r : ℕ} → r ≡ lead_rule c false k → r ≡ lead_with h c cs ss t v k
+  pub lead_quiet : b ≡ true → (eqb k U || eqb k W) ≡ false → {r : Option ℕ} → r ≡ lead_rule c false k → r ≡ lead_with h c cs ss t v k
   lead_quiet q z p = lead_found q (sym (no_order h cs ss t v k (or_false_left (eqb k U) (eqb k W) z) (or_false_right (eqb k U) (eqb k W) z))) p
 
-  pub lead_none : b ≡ false → 0 ≡ lead_with h c cs ss t v k
+  pub lead_none : b ≡ false → None ≡ lead_with h c cs ss t v k
   unfolding lead_with
   lead_none q = rw (← y, q) refl
 

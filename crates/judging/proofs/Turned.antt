@@ -8,6 +8,7 @@ use mathlib.Core.List.{List, [], ◌∷◌}
 use lib.Dec.{T, eqb, ltb}
 use lib.IntN.{ℤ}
 use lib.ListN.{get_or, set}
+use Rattle.std.specs.Prelude.{Option}
 use lib.Seq.{set-get_or}
 use borrow.Author.Tests.{lt-ltb, eqb-true}
 use Rattle.rules.specs.declared.Event.{Event}
@@ -37,7 +38,7 @@ use Rattle.judging.specs.declared.WaitTurn.{WaitTurn}
 use Rattle.judging.specs.Computed.Checks.{oldest_of, row_of}
 use Rattle.judging.specs.Computed.Turns.{hold_for, wait_for, after_use, is_used, use_rule, cell_turn, reads_with, reads_turn, stores_with, stores_turn, lock_turn, wait_turn, awaits_write, some_of}
 use Rattle.judging.proofs.Locks.{others_same}
-use Rattle.judging.proofs.Rows.{trailing}
+use Rattle.judging.proofs.Rows.{found, found_cond, trailing}
 
 -- an event by its numbers
 pub record By (e : Event) (t v k : ℕ) (x : ℤ) : Type 0 where
@@ -99,34 +100,34 @@ module _ (s : State) (e : Event) where
   abbrev hold : Hold
   hold = get_or s.holds (place e.kind) no_hold
 
-  cell_judged : T (among (U ∷ A ∷ B ∷ []) (letter e.kind)) → (cell_turn own locked (letter e.kind) (value e.kind) (s.events + 1)).rule ≡ trailing s.counts (words_in s) e
+  cell_judged : T (among (U ∷ A ∷ B ∷ []) (letter e.kind)) → (cell_turn own locked (letter e.kind) (value e.kind) (s.events + 1)).rule ≡ found (trailing s.counts (words_in s) e)
   unfolding cell_turn row_of row_in first_broken breaks no_partner not_usable differs dead_read is words_in reads_at
-  cell_judged h = by_letters (λ k. letter e.kind ≡ k → (cell_turn own locked k (value e.kind) (s.events + 1)).rule ≡ trailing s.counts (words_in s) e)
-      (U ∷ A ∷ B ∷ []) ((λ q. simp (q, or-false)), ((λ q. simp (q, queued_none, or-false)), ((λ q. simp q), tt))) (letter e.kind) h refl
+  cell_judged h = by_letters (λ k. letter e.kind ≡ k → (cell_turn own locked k (value e.kind) (s.events + 1)).rule ≡ found (trailing s.counts (words_in s) e))
+      (U ∷ A ∷ B ∷ []) ((λ q. simp (q, found_cond, or-false)), ((λ q. simp (q, found_cond, queued_none, or-false)), ((λ q. simp (q, found_cond)), tt))) (letter e.kind) h refl
 
   reads_judged : (b : Slot) → T (among (R ∷ L ∷ []) (letter e.kind))
-      → (reads_with own (first (reads_at s e.thread (place e.kind))) b main (letter e.kind) (value e.kind) (s.events + 1)).rule ≡ trailing s.counts (words_in s) e
+      → (reads_with own (first (reads_at s e.thread (place e.kind))) b main (letter e.kind) (value e.kind) (s.events + 1)).rule ≡ found (trailing s.counts (words_in s) e)
   unfolding reads_with row_of row_in first_broken breaks no_partner pending_bars not_stored not_written read_before_write differs eight_already dead_read locks unlocks is words_in reads_at stores_at
-  reads_judged b h = by_letters (λ k. letter e.kind ≡ k → (reads_with own (first (reads_at s e.thread (place e.kind))) b main k (value e.kind) (s.events + 1)).rule ≡ trailing s.counts (words_in s) e)
-      (R ∷ L ∷ []) ((λ q. simp (q, queued_length, queued_none, or-false)), ((λ q. simp (q, queued_none, or-false)), tt)) (letter e.kind) h refl
+  reads_judged b h = by_letters (λ k. letter e.kind ≡ k → (reads_with own (first (reads_at s e.thread (place e.kind))) b main k (value e.kind) (s.events + 1)).rule ≡ found (trailing s.counts (words_in s) e))
+      (R ∷ L ∷ []) ((λ q. simp (q, found_cond, queued_length, queued_none, or-false)), ((λ q. simp (q, found_cond, queued_none, or-false)), tt)) (letter e.kind) h refl
 
   stores_judged : (b : Slot) → T (among (S ∷ P ∷ W ∷ []) (letter e.kind))
-      → (stores_with own (first (stores_at s e.thread (place e.kind))) b main locked (letter e.kind) (value e.kind) (s.events + 1)).rule ≡ trailing s.counts (words_in s) e
+      → (stores_with own (first (stores_at s e.thread (place e.kind))) b main locked (letter e.kind) (value e.kind) (s.events + 1)).rule ≡ found (trailing s.counts (words_in s) e)
   unfolding stores_with row_of row_in first_broken breaks no_partner pending_bars not_fresh not_usable differs eight_already dead_read locks is words_in reads_at stores_at
-  stores_judged b h = by_letters (λ k. letter e.kind ≡ k → (stores_with own (first (stores_at s e.thread (place e.kind))) b main locked k (value e.kind) (s.events + 1)).rule ≡ trailing s.counts (words_in s) e)
-      (S ∷ P ∷ W ∷ []) ((λ q. simp (q, queued_length, or-false)), ((λ q. simp (q, queued_length, queued_none, or-false)), ((λ q. simp (q, queued_none, or-false)), tt))) (letter e.kind) h refl
+  stores_judged b h = by_letters (λ k. letter e.kind ≡ k → (stores_with own (first (stores_at s e.thread (place e.kind))) b main locked k (value e.kind) (s.events + 1)).rule ≡ found (trailing s.counts (words_in s) e))
+      (S ∷ P ∷ W ∷ []) ((λ q. simp (q, found_cond, queued_length, or-false)), ((λ q. simp (q, found_cond, queued_length, queued_none, or-false)), ((λ q. simp (q, found_cond, queued_none, or-false)), tt))) (letter e.kind) h refl
 
   lock_judged : e.thread < 8 → s.counts.threads ≤ 8 → T (among (K ∷ N ∷ []) (letter e.kind))
-      → (lock_turn hold locked s.counts.threads (some_of s e.thread s.counts.variables) e.thread (letter e.kind) (s.events + 1)).rule ≡ trailing s.counts (words_in s) e
+      → (lock_turn hold locked s.counts.threads (some_of s e.thread s.counts.variables) e.thread (letter e.kind) (s.events + 1)).rule ≡ found (trailing s.counts (words_in s) e)
   unfolding lock_turn some_of row_of row_in first_broken breaks lock_taken not_held pending_bars not_stored not_written locks unlocks is words_in
-  lock_judged l m h = by_letters (λ k. letter e.kind ≡ k → (lock_turn hold locked s.counts.threads (some_of s e.thread s.counts.variables) e.thread k (s.events + 1)).rule ≡ trailing s.counts (words_in s) e)
-      (K ∷ N ∷ []) ((λ q. simp (q, others_same hold s.counts.threads e.thread l m, or-false)), ((λ q. simp (q, stored_same s e.thread s.counts.variables)), tt)) (letter e.kind) h refl
+  lock_judged l m h = by_letters (λ k. letter e.kind ≡ k → (lock_turn hold locked s.counts.threads (some_of s e.thread s.counts.variables) e.thread k (s.events + 1)).rule ≡ found (trailing s.counts (words_in s) e))
+      (K ∷ N ∷ []) ((λ q. simp (q, found_cond, others_same hold s.counts.threads e.thread l m, or-false)), ((λ q. simp (q, found_cond, stored_same s e.thread s.counts.variables)), tt)) (letter e.kind) h refl
 
   wait_judged : (z : Waiting) → e.thread < 8 → s.counts.threads ≤ 8 → T (among (Y ∷ F ∷ C ∷ []) (letter e.kind))
-      → (wait_turn hold z locked s.counts.threads (some_of s e.thread s.counts.variables) e.thread (place e.kind) (letter e.kind) (s.events + 1)).rule ≡ trailing s.counts (words_in s) e
+      → (wait_turn hold z locked s.counts.threads (some_of s e.thread s.counts.variables) e.thread (place e.kind) (letter e.kind) (s.events + 1)).rule ≡ found (trailing s.counts (words_in s) e)
   unfolding wait_turn some_of row_of row_in first_broken breaks lock_taken not_held pending_bars not_stored not_written locks unlocks is words_in
-  wait_judged z l m h = by_letters (λ k. letter e.kind ≡ k → (wait_turn hold z locked s.counts.threads (some_of s e.thread s.counts.variables) e.thread (place e.kind) k (s.events + 1)).rule ≡ trailing s.counts (words_in s) e)
-      (Y ∷ F ∷ C ∷ []) ((λ q. simp (q, stored_same s e.thread s.counts.variables)), ((λ q. simp q), ((λ q. simp (q, others_same hold s.counts.threads e.thread l m, or-false)), tt))) (letter e.kind) h refl
+  wait_judged z l m h = by_letters (λ k. letter e.kind ≡ k → (wait_turn hold z locked s.counts.threads (some_of s e.thread s.counts.variables) e.thread (place e.kind) k (s.events + 1)).rule ≡ found (trailing s.counts (words_in s) e))
+      (Y ∷ F ∷ C ∷ []) ((λ q. simp (q, found_cond, stored_same s e.thread s.counts.variables)), ((λ q. simp (q, found_cond)), ((λ q. simp (q, found_cond, others_same hold s.counts.threads e.thread l m, or-false)), tt))) (letter e.kind) h refl
 
 -- ---- what an event leaves as it was, by its letter
 
@@ -236,7 +237,7 @@ module _ (s : State) (e : Event) {t v k : ℕ} {x : ℤ} (n : By e t v k x) (w :
     cell_turned : r ≡ cell_turn (cell_at s t v) (get_or s.locked t 0) k x p
     cell_turned = er ∙ (λ j. cell_turn (cell_is (U ∷ A ∷ B ∷ []) tt h ei j) (get_or s.locked t 0) k x p)
 
-    pub cell_rule : r.rule ≡ trailing s.counts (words_in s) e
+    pub cell_rule : r.rule ≡ found (trailing s.counts (words_in s) e)
     cell_rule = ap (λ (z : CellTurn). z.rule) cell_turned
         ∙ (λ j. (cell_turn (cell_at s (n.thread j) (n.place j)) (get_or s.locked (n.thread j) 0) (n.letter j) (n.value j) p).rule) ∙ cell_judged s e (own_letter (U ∷ A ∷ B ∷ []) h)
 
@@ -265,7 +266,7 @@ module _ (s : State) (e : Event) {t v k : ℕ} {x : ℤ} (n : By e t v k x) (w :
     used : T (among (U ∷ A ∷ B ∷ []) k)
     used = subst (λ (m : ℕ). T (among (U ∷ A ∷ B ∷ []) m)) (sym h) tt
 
-    pub use_rule_law : {i : ℕ} → i ≡ cell_place t v → {r : ℕ} → r ≡ use_rule (get_or s.cells i blank) (get_or s.locked t 0) x → r ≡ trailing s.counts (words_in s) e
+    pub use_rule_law : {i : ℕ} → i ≡ cell_place t v → {r : Option ℕ} → r ≡ use_rule (get_or s.cells i blank) (get_or s.locked t 0) x → r ≡ found (trailing s.counts (words_in s) e)
     use_rule_law {i} ei er =
         let c = get_or s.cells i blank in
         let q = get_or s.locked t 0 in
@@ -298,7 +299,7 @@ module _ (s : State) (e : Event) {t v k : ℕ} {x : ℤ} (n : By e t v k x) (w :
     unfolding reads_turn reads_at
     reads_turned = er ∙ (λ j. reads_with (cell_is (R ∷ L ∷ []) tt h ei j) (oldest_in (R ∷ L ∷ []) tt h ei (λ c. c.reads) s.reads ef j) (get_or s.reads b no_slot) (get_or s.memory v no_main) k x p)
 
-    pub reads_rule : r.rule ≡ trailing s.counts (words_in s) e
+    pub reads_rule : r.rule ≡ found (trailing s.counts (words_in s) e)
     reads_rule = ap (λ (z : ReadsTurn). z.rule) reads_turned
         ∙ (λ j. (reads_with (cell_at s (n.thread j) (n.place j)) (first (reads_at s (n.thread j) (n.place j))) (get_or s.reads b no_slot) (get_or s.memory (n.place j) no_main) (n.letter j) (n.value j) p).rule)
         ∙ reads_judged s e (get_or s.reads b no_slot) (own_letter (R ∷ L ∷ []) h)
@@ -335,7 +336,7 @@ module _ (s : State) (e : Event) {t v k : ℕ} {x : ℤ} (n : By e t v k x) (w :
     unfolding stores_turn stores_at
     stores_turned = er ∙ (λ j. stores_with (cell_is (S ∷ P ∷ W ∷ []) tt h ei j) (oldest_in (S ∷ P ∷ W ∷ []) tt h ei (λ c. c.stores) s.stores ef j) (get_or s.stores b no_slot) (get_or s.memory v no_main) (get_or s.locked t 0) k x p)
 
-    pub stores_rule : r.rule ≡ trailing s.counts (words_in s) e
+    pub stores_rule : r.rule ≡ found (trailing s.counts (words_in s) e)
     stores_rule = ap (λ (z : StoresTurn). z.rule) stores_turned
         ∙ (λ j. (stores_with (cell_at s (n.thread j) (n.place j)) (first (stores_at s (n.thread j) (n.place j))) (get_or s.stores b no_slot) (get_or s.memory (n.place j) no_main) (get_or s.locked (n.thread j) 0) (n.letter j) (n.value j) p).rule)
         ∙ stores_judged s e (get_or s.stores b no_slot) (own_letter (S ∷ P ∷ W ∷ []) h)
@@ -409,7 +410,7 @@ module _ (s : State) (e : Event) {t v k : ℕ} {x : ℤ} (n : By e t v k x) (w :
 
   module _ (h : T (among (K ∷ N ∷ []) k)) (any : OnSome)
       {r : LockTurn} (er : r ≡ lock_turn (get_or s.holds v no_hold) (get_or s.locked t 0) s.counts.threads any t k p) where
-    pub lock_rule : any ≡ some_of s t s.counts.variables → s.counts.threads ≤ 8 → r.rule ≡ trailing s.counts (words_in s) e
+    pub lock_rule : any ≡ some_of s t s.counts.variables → s.counts.threads ≤ 8 → r.rule ≡ found (trailing s.counts (words_in s) e)
     lock_rule ea m = ap (λ (z : LockTurn). z.rule) er
         ∙ (λ j. (lock_turn (get_or s.holds (n.place j) no_hold) (get_or s.locked (n.thread j) 0) s.counts.threads ((ea ∙ ap (λ (i : ℕ). some_of s i s.counts.variables) n.thread) j) (n.thread j) (n.letter j) p).rule)
         ∙ lock_judged s e w.thread m (own_letter (K ∷ N ∷ []) h)
@@ -430,7 +431,7 @@ module _ (s : State) (e : Event) {t v k : ℕ} {x : ℤ} (n : By e t v k x) (w :
   -- u is the event's subject
   module _ (h : T (among (Y ∷ F ∷ C ∷ []) k)) {u : ℕ} (eu : u ≡ subject_of k t x) (any : OnSome)
       {r : WaitTurn} (er : r ≡ wait_turn (get_or s.holds v no_hold) (get_or s.waits u no_wait) (get_or s.locked t 0) s.counts.threads any t v k p) where
-    pub wait_rule : any ≡ some_of s t s.counts.variables → s.counts.threads ≤ 8 → r.rule ≡ trailing s.counts (words_in s) e
+    pub wait_rule : any ≡ some_of s t s.counts.variables → s.counts.threads ≤ 8 → r.rule ≡ found (trailing s.counts (words_in s) e)
     wait_rule ea m = ap (λ (z : WaitTurn). z.rule) er
         ∙ (λ j. (wait_turn (get_or s.holds (n.place j) no_hold) (get_or s.waits u no_wait) (get_or s.locked (n.thread j) 0) s.counts.threads ((ea ∙ ap (λ (i : ℕ). some_of s i s.counts.variables) n.thread) j) (n.thread j) (n.place j) (n.letter j) p).rule)
         ∙ wait_judged s e (get_or s.waits u no_wait) w.thread m (own_letter (Y ∷ F ∷ C ∷ []) h)

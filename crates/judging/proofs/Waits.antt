@@ -6,6 +6,7 @@ use mathlib.Core.List.{[], ◌∷◌}
 use lib.Dec.{eqb, ltb}
 use lib.IntN.{ℤ}
 use lib.ListN.{get_or}
+use Rattle.std.specs.Prelude.{Option, Some, None}
 use Rattle.rules.specs.declared.Event.{Event}
 use Rattle.rules.specs.Events.{C, F, R, W, letter, place, value, among, is, subject_of, subject, lock_letters}
 use Rattle.rules.specs.Rules.{waits, of_waiting, not_notified, breaks, first_broken}
@@ -17,7 +18,7 @@ use Rattle.state.specs.State.{no_wait, remembered_of, words_in}
 use Rattle.state.specs.Step.{lock_of}
 use Rattle.judging.specs.Computed.Leads.{is_waiting, is_barred, is_untold, ahead_rule, barred_rule, ahead_at}
 use Rattle.judging.proofs.Locks.{found_below}
-use Rattle.judging.proofs.Rows.{ahead}
+use Rattle.judging.proofs.Rows.{found, found_cond, ahead}
 use Rattle.judging.proofs.Turned.{By, no_lock_law}
 
 -- a thread waits on the lock that its waiting names
@@ -50,9 +51,9 @@ module _ (s : State) (e : Event) where
   unfolding is_untold not_notified is words_in
   untold_same = rw (eqb_turn k F, eqb_turn k C, or-false (eqb F k), or-false (eqb C k)) refl
 
-  ahead_same : ahead_rule (get_or s.waits e.thread no_wait) (get_or s.waits (subject e) no_wait) s.counts.locks (place e.kind) k ≡ ahead s.counts (words_in s) e
+  ahead_same : ahead_rule (get_or s.waits e.thread no_wait) (get_or s.waits (subject e) no_wait) s.counts.locks (place e.kind) k ≡ found (ahead s.counts (words_in s) e)
   unfolding ahead_rule first_broken breaks
-  ahead_same = λ j. cond (barred_same j) 29 (cond (untold_same j) 30 0)
+  ahead_same = (λ j. cond (barred_same j) (Some 29) (cond (untold_same j) (Some 30) None)) ∙ sym (simp found_cond)
 
 -- an event that is neither F nor C does not break 30, whatever lock and subject it is asked of
 barred_ahead : (a z : Waiting) (n l k : ℕ) → among (F ∷ C ∷ []) k ≡ false → barred_rule a n k ≡ ahead_rule a z n l k
@@ -63,7 +64,7 @@ barred_ahead a z n l k h = sym (rw (eqb_turn k F, eqb_turn k C, or_false_left (e
 pub no_untold : (k : ℕ) → among lock_letters k ≡ false → among (F ∷ C ∷ []) k ≡ false
 no_untold k h = let q = no_lock_law k h in rw (q.3, q.4) refl
 
-pub ahead_is : (s : State) (e : Event) → ahead_at s e.thread (lock_of e.kind) (letter e.kind) (value e.kind) ≡ ahead s.counts (words_in s) e
+pub ahead_is : (s : State) (e : Event) → ahead_at s e.thread (lock_of e.kind) (letter e.kind) (value e.kind) ≡ found (ahead s.counts (words_in s) e)
 ahead_is s e =
     let own = get_or s.waits e.thread no_wait in
     let z = get_or s.waits (subject e) no_wait in
@@ -76,10 +77,10 @@ ahead_is s e =
 
 -- an event by its numbers; u is its subject
 module _ (s : State) (e : Event) {t v k : ℕ} {x : ℤ} (n : By e t v k x) where
-  pub ahead_by : {u : ℕ} → u ≡ subject_of k t x → {r : ℕ} → r ≡ ahead_rule (get_or s.waits t no_wait) (get_or s.waits u no_wait) s.counts.locks v k → r ≡ ahead s.counts (words_in s) e
+  pub ahead_by : {u : ℕ} → u ≡ subject_of k t x → {r : Option ℕ} → r ≡ ahead_rule (get_or s.waits t no_wait) (get_or s.waits u no_wait) s.counts.locks v k → r ≡ found (ahead s.counts (words_in s) e)
   ahead_by eu er = er ∙ (λ j. ahead_rule (get_or s.waits t no_wait) (get_or s.waits (eu j) no_wait) s.counts.locks v k)
       ∙ (λ j. ahead_rule (get_or s.waits (n.thread j) no_wait) (get_or s.waits (subject_of (n.letter j) (n.thread j) (n.value j)) no_wait) s.counts.locks (n.place j) (n.letter j)) ∙ ahead_same s e
 
   -- neither F nor C
-  pub barred_by : among (F ∷ C ∷ []) k ≡ false → {r : ℕ} → r ≡ barred_rule (get_or s.waits t no_wait) s.counts.locks k → r ≡ ahead s.counts (words_in s) e
+  pub barred_by : among (F ∷ C ∷ []) k ≡ false → {r : Option ℕ} → r ≡ barred_rule (get_or s.waits t no_wait) s.counts.locks k → r ≡ found (ahead s.counts (words_in s) e)
   barred_by q er = ahead_by refl (er ∙ barred_ahead (get_or s.waits t no_wait) (get_or s.waits (subject_of k t x) no_wait) s.counts.locks v k q)

@@ -24,7 +24,7 @@ ghost use Rattle.judging.specs.Computed.Checks.{
   first_of,
 };
 ghost use Rattle.judging.specs.Computed.Leads.{is_waiting, is_barred, is_untold, ahead_rule, barred_rule, is_access, lead_checks, first_lead, lead_rule, bars_use, bars_write, bars_event};
-ghost use Rattle.judging.specs.Computed.Turns.{hold_for, wait_for, after_use, is_used, use_rule, cell_turn, reads_turn, stores_turn, wait_turn, lock_turn, either_of, turn_of};
+ghost use Rattle.judging.specs.Computed.Turns.{hold_for, wait_for, after_use, is_used, use_rule, cell_turn, reads_turn, stores_turn, wait_turn, lock_turn, turn_of};
 
 use rules::{LOCKS, Main, Slot, THREADS, Value};
 use state::{Cell, Hold, Ring, Waiting};
@@ -37,24 +37,23 @@ pub struct OnSome {
     pub stored: bool,
 }
 
-// The answers: 0 or the number of the first check of the event's row that is broken, and what the event leaves.
-// Kept: a number, 0 where nothing is broken, as `judge` in the specs of rules gives it.
+// The answers: the number of the first check of the event's row that is broken, if one is, and what the event leaves.
 #[derive(Clone, Copy)]
 pub struct CellTurn {
-    pub rule: u8,
+    pub rule: Option<u8>,
     pub cell: Cell,
 }
 
 #[derive(Clone, Copy)]
 pub struct ReadsTurn {
-    pub rule: u8,
+    pub rule: Option<u8>,
     pub cell: Cell,
     pub slot: Slot,
 }
 
 #[derive(Clone, Copy)]
 pub struct StoresTurn {
-    pub rule: u8,
+    pub rule: Option<u8>,
     pub cell: Cell,
     pub slot: Slot,
     pub main: Main,
@@ -62,14 +61,14 @@ pub struct StoresTurn {
 
 #[derive(Clone, Copy)]
 pub struct LockTurn {
-    pub rule: u8,
+    pub rule: Option<u8>,
     pub hold: Hold,
     pub locked: usize,
 }
 
 #[derive(Clone, Copy)]
 pub struct WaitTurn {
-    pub rule: u8,
+    pub rule: Option<u8>,
     pub hold: Hold,
     pub wait: Waiting,
     pub locked: usize,
@@ -285,7 +284,6 @@ fn prescient_assign_checks(c: Cell, x: Value) -> Checks
 // ---- The rows.
 
 // The numbers that lead each row.
-// Kept: here and in what is read from the rows a number, 0 for none, as `judge` in the specs of rules gives it.
 const LEAD: [u8; 5] = [29, 30, 26, 27, 28];
 
 // The rows of U, A, L, S, R, W, K, N, P, B, Y, F, C behind them; 0 fills a row.
@@ -305,22 +303,22 @@ const ROWS: [[u8; 5]; 13] = [
     [11, 13, 0, 0, 0],
 ];
 
-// The number of a row at its first broken check; 0 where none is.
-fn first_of(b: Checks, row: [u8; 5]) -> u8
+// The number of a row at its first broken check, if one is.
+fn first_of(b: Checks, row: [u8; 5]) -> Option<u8>
     ensures { result ≡ first_of b row }
 {
     if b.first {
-        row[0]
+        Some(row[0])
     } else if b.second {
-        row[1]
+        Some(row[1])
     } else if b.third {
-        row[2]
+        Some(row[2])
     } else if b.fourth {
-        row[3]
+        Some(row[3])
     } else if b.fifth {
-        row[4]
+        Some(row[4])
     } else {
-        0
+        None
     }
 }
 
@@ -375,23 +373,27 @@ fn is_untold(w: Waiting, l: usize, k: u8) -> bool
 }
 
 // What letter k on lock l breaks of 29 and 30. `own` is the waiting of its thread, w that of its subject, of n locks.
-pub fn ahead_rule(own: Waiting, w: Waiting, n: usize, l: usize, k: u8) -> u8
+pub fn ahead_rule(own: Waiting, w: Waiting, n: usize, l: usize, k: u8) -> Option<u8>
     ensures { result ≡ ahead_rule own w n l k }
 {
     if is_barred(own, n, k) {
-        LEAD[0]
+        Some(LEAD[0])
     } else if is_untold(w, l, k) {
-        LEAD[1]
+        Some(LEAD[1])
     } else {
-        0
+        None
     }
 }
 
 // What a letter other than F and C, which alone break 30, breaks of them.
-pub fn barred_rule(w: Waiting, n: usize, k: u8) -> u8
+pub fn barred_rule(w: Waiting, n: usize, k: u8) -> Option<u8>
     ensures { result ≡ barred_rule w n k }
 {
-    if is_barred(w, n, k) { LEAD[0] } else { 0 }
+    if is_barred(w, n, k) {
+        Some(LEAD[0])
+    } else {
+        None
+    }
 }
 
 // ---- The checks that lead each row: of an event on a volatile variable.
@@ -424,23 +426,23 @@ fn lead_checks(c: Cell, order: bool, k: u8) -> Lead
     }
 }
 
-// The number of the first broken check of these; 0 where none is.
-fn first_lead(b: Lead) -> u8
+// The number of the first broken check of these, if one is.
+fn first_lead(b: Lead) -> Option<u8>
     ensures { result ≡ first_lead b }
 {
     if b.neighbour {
-        LEAD[2]
+        Some(LEAD[2])
     } else if b.order {
-        LEAD[3]
+        Some(LEAD[3])
     } else if b.prescient {
-        LEAD[4]
+        Some(LEAD[4])
     } else {
-        0
+        None
     }
 }
 
 // What letter k breaks of the checks that lead its row, on a volatile variable.
-pub fn lead_rule(c: Cell, order: bool, k: u8) -> u8
+pub fn lead_rule(c: Cell, order: bool, k: u8) -> Option<u8>
     ensures { result ≡ lead_rule c order k }
 {
     first_lead(lead_checks(c, order, k))
@@ -682,7 +684,7 @@ fn back(w: Waiting, l: usize) -> Waiting
 // ---- The turns. A letter that is none of a turn's breaks nothing there and leaves everything.
 
 // U: what it breaks.
-pub fn use_rule(c: Cell, locked: usize, x: Value) -> u8
+pub fn use_rule(c: Cell, locked: usize, x: Value) -> Option<u8>
     ensures { result ≡ use_rule c locked x }
 {
     first_of(use_checks(c, locked, x), ROWS[0])
@@ -705,7 +707,10 @@ pub fn cell_turn(c: Cell, locked: usize, k: u8, x: Value, p: usize) -> CellTurn
             rule: first_of(prescient_assign_checks(c, x), ROWS[9]),
             cell: prescient_assigned(c, x, p),
         },
-        _ => CellTurn { rule: 0, cell: c },
+        _ => CellTurn {
+            rule: None,
+            cell: c,
+        },
     }
 }
 
@@ -737,7 +742,7 @@ pub fn reads_turn(
             },
         },
         _ => ReadsTurn {
-            rule: 0,
+            rule: None,
             cell: c,
             slot: behind,
         },
@@ -759,7 +764,7 @@ pub fn stores_turn(
     ensures { result ≡ stores_turn c front behind main locked k x p }
 {
     let mut turn = StoresTurn {
-        rule: 0,
+        rule: None,
         cell: c,
         slot: behind,
         main,
@@ -816,7 +821,7 @@ pub fn lock_turn(
             locked,
         },
         _ => LockTurn {
-            rule: 0,
+            rule: None,
             hold: a,
             locked,
         },
@@ -839,7 +844,7 @@ pub fn wait_turn(
     ensures { result ≡ wait_turn a w locked threads any t l k p }
 {
     let mut turn = WaitTurn {
-        rule: 0,
+        rule: None,
         hold: a,
         wait: w,
         locked,
@@ -886,11 +891,10 @@ pub struct Parts {
     pub locked: usize,
 }
 
-// 0 or the number of the first check of the event's row that is broken, and what the event leaves of each part.
-// Kept: a number, 0 where nothing is broken, as `judge` in the specs of rules gives it.
+// The number of the first check of the event's row that is broken, if one is, and what the event leaves of each part.
 #[derive(Clone, Copy)]
 pub struct Turn {
-    pub rule: u8,
+    pub rule: Option<u8>,
     pub cell: Cell,
     pub read: Slot,
     pub store: Slot,
@@ -898,13 +902,6 @@ pub struct Turn {
     pub hold: Hold,
     pub wait: Waiting,
     pub locked: usize,
-}
-
-// The first number that is not 0.
-pub fn either(a: u8, b: u8) -> u8
-    ensures { result ≡ either_of a b }
-{
-    if a == 0 { b } else { a }
 }
 
 // All turns: one of them is the letter's. `n` threads are declared, and `any` is what the variables of thread t have.
@@ -934,9 +931,14 @@ pub fn any_turn(
         x,
         p,
     );
-    let locks = either(lock.rule, waits.rule);
+    let rule = lock
+        .rule
+        .or(waits.rule)
+        .or(alone.rule)
+        .or(read.rule)
+        .or(store.rule);
     Turn {
-        rule: either(either(locks, alone.rule), either(read.rule, store.rule)),
+        rule,
         cell: store.cell,
         read: read.slot,
         store: store.slot,

@@ -11,8 +11,9 @@ use Rattle.rules.specs.declared.Kind.{Kind}
 use Rattle.rules.specs.Events.{letter, place, value, among, subject_of, subject, lock_letters, is_lock_letter}
 use Rattle.rules.specs.Limits.{Limits, UpToFull, full, line_after, declared}
 use Rattle.rules.specs.declared.Refusal.{Refusal}
-use Rattle.rules.specs.Rules.{judge, answer, accepted, refused, said, unless, Verdict}
-use Rattle.std.specs.Prelude.{Ok, Err}
+use Rattle.rules.specs.Rules.{judge, answer, refused, said, Verdict}
+use Rattle.std.specs.Prelude.{Option, Some, None, Ok, Err}
+use Rattle.std.specs.Option.{option_or}
 use Rattle.rules.proofs.Letters.{lock_among}
 use Rattle.rules.proofs.Bounds.{allowed_bounds}
 use Rattle.state.specs.declared.State.{State}
@@ -25,16 +26,17 @@ use Rattle.judging.specs.declared.OnSome.{OnSome}
 use Rattle.judging.specs.declared.Parts.{Parts}
 use Rattle.judging.specs.declared.Turn.{Turn}
 use Rattle.judging.specs.Computed.Leads.{ahead_rule, ahead_at, lead_with, lead_at}
-use Rattle.judging.specs.Computed.Turns.{parts_at, either_of, turn_of, some_of}
+use Rattle.judging.specs.Computed.Turns.{parts_at, turn_of, some_of}
+use Rattle.judging.proofs.Rows.{found, found_none}
 use Rattle.judging.proofs.AnyTurn.{at, cell_found, turn_in, any_rule, any_put}
 use Rattle.machine.specs.Stepped.{unchanged, step_with, stepped}
-use Rattle.machine.specs.Computed.Walk.{Turnable, answer_of}
+use Rattle.machine.specs.Computed.Walk.{Turnable, answer_of, marked}
 use Rattle.machine.proofs.Steps.{step_ranged}
 
 -- a verdict that refuses nothing
-pub none_broken : (n line : ℕ) {u : Unit {0}} → ◌≡◌ {A = Verdict} (Ok u) (said (unless n line accepted)) → n ≡ 0
-none_broken zero line q = refl
-none_broken (suc n) line q = cc
+pub none_broken : (o : Option ℕ) (line : ℕ) {u : Unit {0}} → ◌≡◌ {A = Verdict} (Ok u) (said (marked o line)) → o ≡ None
+none_broken None line q = refl
+none_broken (Some n) line q = cc
 
 -- 8
 pub step_out : (m : Limits) (s : State) (e : Event) → in_range m s ≡ false → unchanged s (refused 8 0) ≡ stepped m s e
@@ -72,19 +74,17 @@ module _ (m : Limits) (s : State) (e : Event) (u : UpToFull m) (r : in_range m s
 
 -- ---- a turn
 
--- the first rule of its row that e breaks has number n; v says whether there is one
-module _ (s : State) (e : Event) (n : ℕ) {j : ℕ} (en : n ≡ j) where
-  pub turn_stops : {a : Refusal} → ◌≡◌ {A = Verdict} (Err a) (said (unless n (line_after s.counts s.events) accepted)) → answer_of s (Err a) ≡ step_with s e j
-  turn_stops = go n en
+-- o is the number of the first rule of its row that e breaks, j the same number, or 0
+module _ (s : State) (e : Event) (o : Option ℕ) (j : ℕ) (eo : o ≡ found j) where
+  pub turn_stops : {a : Refusal} → ◌≡◌ {A = Verdict} (Err a) (said (marked o (line_after s.counts s.events))) → answer_of s (Err a) ≡ step_with s e j
+  turn_stops = go j eo
     where
-      go : (n : ℕ) → n ≡ j → {a : Refusal} → ◌≡◌ {A = Verdict} (Err a) (said (unless n (line_after s.counts s.events) accepted)) → answer_of s (Err a) ≡ step_with s e j
-      go zero en q = cc
-      go (suc n) en {a} q =
-          let p : a ≡ record { number = suc n; line = line_after s.counts s.events } = cc in
-          ap (λ (z : Refusal). answer_of s (Err z)) p ∙ ap (step_with s e) en
+      go : (j : ℕ) → o ≡ found j → {a : Refusal} → ◌≡◌ {A = Verdict} (Err a) (said (marked o (line_after s.counts s.events))) → answer_of s (Err a) ≡ step_with s e j
+      go zero eo q = cc
+      go (suc n) eo {a} q = let p : a ≡ record { number = suc n; line = line_after s.counts s.events } = cc in ap (λ (z : Refusal). answer_of s (Err z)) p
 
-  pub turn_goes : {u : Unit {0}} → ◌≡◌ {A = Verdict} (Ok u) (said (unless n (line_after s.counts s.events) accepted)) → {s' : State} → s' ≡ step_state s e → answer_of s (Ok s') ≡ step_with s e j
-  turn_goes q p = ap (λ (z : State). answer_of s (Ok z)) p ∙ ap (step_with s e) (sym (none_broken n (line_after s.counts s.events) q) ∙ en)
+  pub turn_goes : {u : Unit {0}} → ◌≡◌ {A = Verdict} (Ok u) (said (marked o (line_after s.counts s.events))) → {s' : State} → s' ≡ step_state s e → answer_of s (Ok s') ≡ step_with s e j
+  turn_goes q p = ap (λ (z : State). answer_of s (Ok z)) p ∙ ap (step_with s e) (sym (found_none j (sym eo ∙ none_broken o (line_after s.counts s.events) q)))
 
 -- the variable and the lock of an event
 module _ (k : Kind) {c p : ℕ} {b : Bool} (ek : c ≡ letter k) (ep : p ≡ place k) (eb : b ≡ is_lock_letter c) where
@@ -110,7 +110,7 @@ module _ (s : State) (e : Event) (u : Turnable s e) {k v l y : ℕ} {x : ℤ} (e
   subject_is = ey ∙ (λ j. subject_of (ek j) t (ex j))
 
   module _ {a : Parts} {any : OnSome} {r : Turn} (ea : a ≡ parts_at s t v l y) (eo : any ≡ some_of s t s.counts.variables) (er : r ≡ turn_of a s.counts.threads any t l k x (s.events + 1))
-      {d m n : ℕ} (ed : d ≡ ahead_rule (get_or s.waits t no_wait) a.wait s.counts.locks l k) (em : m ≡ lead_with s.counts a.cell s.cells s.stores t v k) (en : n ≡ either_of d (either_of m r.rule)) where
+      {d m n : Option ℕ} (ed : d ≡ ahead_rule (get_or s.waits t no_wait) a.wait s.counts.locks l k) (em : m ≡ lead_with s.counts a.cell s.cells s.stores t v k) (en : n ≡ option_or d (option_or m r.rule)) where
     parts_are : a ≡ parts_at s t (var_of e.kind) (lock_of e.kind) (subject e)
     parts_are = ea ∙ (λ j. parts_at s t (ev j) (el j) (subject_is j))
 
@@ -120,11 +120,11 @@ module _ (s : State) (e : Event) (u : Turnable s e) {k v l y : ℕ} {x : ℤ} (e
     ahead_is : d ≡ ahead_at s t (lock_of e.kind) (letter e.kind) (value e.kind)
     ahead_is = ed ∙ (λ j. ahead_rule (get_or s.waits t no_wait) (parts_are j).wait s.counts.locks (el j) (ek j))
 
-    rule_is : n ≡ either_of (ahead_at s t (lock_of e.kind) (letter e.kind) (value e.kind)) (either_of (lead_at s t (var_of e.kind) (letter e.kind)) (turn_in s e).rule)
-    rule_is = en ∙ (λ j. either_of (ahead_is j) (either_of ((em ∙ (λ l. lead_with s.counts (parts_are l).cell s.cells s.stores t (ev l) (ek l))) j) (turn_is j).rule))
+    rule_is : n ≡ option_or (ahead_at s t (lock_of e.kind) (letter e.kind) (value e.kind)) (option_or (lead_at s t (var_of e.kind) (letter e.kind)) (turn_in s e).rule)
+    rule_is = en ∙ (λ j. option_or (ahead_is j) (option_or ((em ∙ (λ l. lead_with s.counts (parts_are l).cell s.cells s.stores t (ev l) (ek l))) j) (turn_is j).rule))
 
     -- the first rule of its row that the event breaks
-    pub turn_rule : n ≡ judge s.counts (words_in s) e
+    pub turn_rule : n ≡ found (judge s.counts (words_in s) e)
     turn_rule = rule_is ∙ any_rule s e u.within (bounds s e u).0 (bounds s e u).1
 
     module _ {i rb sb : ℕ} (ei : i ≡ cell_place t v) (erb : rb ≡ slot_place i a.cell.reads a.cell.reads.len) (esb : sb ≡ slot_place i a.cell.stores a.cell.stores.len) where

@@ -5,7 +5,8 @@ use native.Mathlib.Numerals.{add-one}
 use mathlib.Core.Path.{◌≡◌, refl, sym, ap, ◌∙◌, subst}
 use mathlib.Core.Bool.{Bool, true, false, cond, ◌&&◌, ◌||◌, and-false, or-false, or_assoc}
 use mathlib.Core.List.{List, [], ◌∷◌}
-use mathlib.Core.Option.{Option}
+use mathlib.Core.Option as option
+use Rattle.std.specs.Prelude.{Option, Some, None}
 use lib.Dec.{T, eqb, ltb}
 use lib.IntN.{ℤ, pos}
 use lib.ListN.{length, get_or}
@@ -29,6 +30,7 @@ use Rattle.state.specs.Step.{Within, step_state}
 use Rattle.state.specs.Computed.Places.{Shape}
 use Rattle.state.proofs.StepWords.{step_shape}
 use Rattle.state.proofs.Kept.{range, room, within}
+use Rattle.judging.proofs.Rows.{found, found_none, found_some}
 use Rattle.judging.proofs.Turned.{By}
 use Rattle.machine.specs.declared.Answer.{Answer}
 use Rattle.machine.specs.declared.Tally.{Tally}
@@ -66,7 +68,7 @@ running_start s ts ws xs r =
 -- behind the last record
 pub running_end : {s₀ : State} {ws : List ℕ} {xs : List ℤ} {s : State} {ts : List Tally} {i : ℕ} → Running s₀ ws xs s ts i → length ws ≤ i → unchanged s accepted ≡ walk full s₀ (row_lines s₀.counts ws xs)
 unfolding walk
-running_end {s₀} {ws} {xs} {s} {ts} {i} r h = ap (λ (l : List (Option Event)). walk full s l) (sym (from_end (record_at s₀.counts ws xs) i (length ws) h)) ∙ r.same
+running_end {s₀} {ws} {xs} {s} {ts} {i} r h = ap (λ (l : List (option.Option Event)). walk full s l) (sym (from_end (record_at s₀.counts ws xs) i (length ws) h)) ∙ r.same
 
 -- a turn: the record at i has this letter, thread, and variable or lock
 pub record Turn (s₀ : State) (ws : List ℕ) (xs : List ℤ) (s : State) (ts : List Tally) (i k t v : ℕ) : Type 0 where
@@ -92,19 +94,19 @@ module _ {s₀ : State} {ws : List ℕ} {xs : List ℤ} {s : State} {ts : List T
   abbrev x : ℤ
   x = get_or xs i (pos 0)
 
-  abbrev rest : List (Option Event)
+  abbrev rest : List (option.Option Event)
   rest = from (record_at s₀.counts ws xs) (suc i) (length ws - suc i)
 
   abbrev pub here : Event
   here = event_at s₀.counts ws xs i
 
   opened : walk full s (record_at s₀.counts ws xs i ∷ rest) ≡ whole
-  opened = ap (λ (l : List (Option Event)). walk full s l) (sym (from_step (record_at s₀.counts ws xs) i (length ws) u.more)) ∙ r.same
+  opened = ap (λ (l : List (option.Option Event)). walk full s l) (sym (from_step (record_at s₀.counts ws xs) i (length ws) u.more)) ∙ r.same
 
   -- 4: the number is no letter
   pub turn_none : is_letter k ≡ false → unchanged s (refused 4 line) ≡ whole
   unfolding record_at walk
-  turn_none l = ap (λ (y : Option Event). walk full s (y ∷ rest)) (sym (event_none (line_after s₀.counts i) w x (ap is_letter (sym u.letter) ∙ l))) ∙ opened
+  turn_none l = ap (λ (y : option.Option Event). walk full s (y ∷ rest)) (sym (event_none (line_after s₀.counts i) w x (ap is_letter (sym u.letter) ∙ l))) ∙ opened
 
   module _ (l : is_letter k ≡ true) where
     named : is_letter (letter_in w) ≡ true
@@ -114,7 +116,7 @@ module _ {s₀ : State} {ws : List ℕ} {xs : List ℤ} {s : State} {ts : List T
     unfolding record_at event_at walk
     stepping =
         ap (λ (a : Answer). onwards a (λ z. walk full z rest)) (sym (step_ranged full s here r.ranged))
-        ∙ ap (λ (y : Option Event). walk full s (y ∷ rest)) (sym (event_some (line_after s₀.counts i) w x named)) ∙ opened
+        ∙ ap (λ (y : option.Option Event). walk full s (y ∷ rest)) (sym (event_some (line_after s₀.counts i) w x named)) ∙ opened
 
     -- the event is refused with this number
     stop : (n : ℕ) → answer full s.counts (words_in s) here ≡ n → (n ≡ 0 → ⊥) → unchanged s (refused n line) ≡ whole
@@ -193,12 +195,12 @@ module _ {s₀ : State} {ws : List ℕ} {xs : List ℤ} {s : State} {ts : List T
       unfolding answer words_in
       row_answer = rw (lt-leb 2000 s.events o.room, o.declared) refl
 
-      pub turn_broken : (rule : ℕ) → rule ≡ judge s.counts (words_in s) here → (rule ≡ 0 → ⊥) → unchanged s (refused rule line) ≡ whole
-      turn_broken rule e z = stop rule (row_answer ∙ sym e) z
+      pub turn_broken : {rule : Option ℕ} → rule ≡ found (judge s.counts (words_in s) here) → {n : ℕ} → rule ≡ Some n → unchanged s (refused n line) ≡ whole
+      turn_broken e {n} z = let p = found_some (judge s.counts (words_in s) here) (sym e ∙ z) in stop n (row_answer ∙ sym p.0) p.1
 
-      pub turn_more : (rule : ℕ) → rule ≡ judge s.counts (words_in s) here → rule ≡ 0 → (s' : State) → s' ≡ step_state s here → (ts' : List Tally) → Tallied s' ts' → Running s₀ ws xs s' ts' (i + 1)
-      turn_more rule e z s' q ts' t' =
-          let a : answer full s.counts (words_in s) here ≡ 0 = row_answer ∙ sym e ∙ z in
+      pub turn_more : {rule : Option ℕ} → rule ≡ found (judge s.counts (words_in s) here) → rule ≡ None → (s' : State) → s' ≡ step_state s here → (ts' : List Tally) → Tallied s' ts' → Running s₀ ws xs s' ts' (i + 1)
+      turn_more e z s' q ts' t' =
+          let a : answer full s.counts (words_in s) here ≡ 0 = row_answer ∙ found_none (judge s.counts (words_in s) here) (sym e ∙ z) in
           subst (λ (y : State). Tallied y ts' → Running s₀ ws xs y ts' (i + 1)) (sym q) (λ f. record {
             counts = unfold step_state in r.counts;
             threads = unfold step_state in r.threads;

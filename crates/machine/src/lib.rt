@@ -4,7 +4,7 @@
 
 ghost use Rattle.std.specs.Prelude.{◌≡◌, ◌≤◌, ◌<◌, [], length};
 ghost use Rattle.rules.specs.Limits.{full, limits_of, line_after};
-ghost use Rattle.rules.specs.Rules.{judge, accepted, said, unless};
+ghost use Rattle.rules.specs.Rules.{judge, said};
 ghost use Rattle.rules.specs.Memories.{memories_of};
 ghost use Rattle.state.specs.State.{words_in};
 ghost use Rattle.state.specs.Step.{step_state};
@@ -13,7 +13,7 @@ ghost use Rattle.judging.specs.Computed.Turns.{parts_at, awaits_write};
 ghost use Rattle.records.specs.Records.{row_lines};
 ghost use Rattle.machine.specs.Stepped.{step_with, stepped};
 ghost use Rattle.machine.specs.Rows.{MarksRow};
-ghost use Rattle.machine.specs.Computed.Walk.{walk, state_of, outcome_of, answer_of, Turnable};
+ghost use Rattle.machine.specs.Computed.Walk.{walk, state_of, outcome_of, answer_of, marked, Turnable};
 ghost use Rattle.machine.specs.Computed.Tallies.{moved, tally_after, tally_of, Small, some_in, Ready};
 
 use judging::{Ends, OnSome, Parts};
@@ -139,11 +139,11 @@ fn lead_of(
     t: usize,
     v: usize,
     k: u8,
-) -> u8
+) -> Option<u8>
     ensures { result ≡ lead_with h.now c.now cells.now stores.now t v k }
 {
     if !rules::is_volatile(*h, v) {
-        return 0;
+        return None;
     }
     if (k == b'U') | (k == b'W') {
         let order = volatile_order(h, cells, stores, t, v, k);
@@ -164,14 +164,14 @@ fn refusal_after(number: u8, h: &Counts, n: u32) -> Refusal
     }
 }
 
-// Refuses the event after n events by the rule with this number; 0 stands for none.
-fn refuse_if(rule: u8, h: &Counts, n: u32) -> Verdict
-    ensures { result ≡ said (unless rule (line_after h.now n) accepted) }
+// Refuses the event after n events by the rule with this number, if one is broken.
+fn refuse_if(rule: Option<u8>, h: &Counts, n: u32) -> Verdict
+    ensures { result ≡ said (marked rule (line_after h.now n)) }
 {
-    if rule == 0 {
-        return Ok(());
+    if let Some(number) = rule {
+        return Err(refusal_after(number, h, n));
     }
-    Err(refusal_after(rule, h, n))
+    Ok(())
 }
 
 // The copies in the cells of a state, where these are the positions of the threads' last locks.
@@ -376,8 +376,7 @@ fn take_turn(s: &State, e: Event) -> Result<State, Refusal>
     let turn = judging::any_turn(parts, s.counts.threads, any, t, l, k, x, p);
     let ahead = judging::ahead_rule(s.waits[t], parts.wait, s.counts.locks, l, k);
     let lead = lead_of(&s.counts, &cell, &s.cells, &s.stores, t, v, k);
-    let rule = judging::either(ahead, judging::either(lead, turn.rule));
-    refuse_if(rule, &s.counts, s.events)?;
+    refuse_if(ahead.or(lead.or(turn.rule)), &s.counts, s.events)?;
     let at = state::cell_place(t, v);
     let mut next = *s;
     next.events += 1;

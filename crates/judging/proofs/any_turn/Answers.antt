@@ -7,4 +7,4 @@ use Rattle.judging.proofs.any_turn.Goals as goal
 
 pub returns : goal.returns
 unfolding turn_of
-returns c = rw (c.either-3.ensures, c.either-2.ensures, c.either.ensures, c.either-locks.ensures, c.stores_turn-store.ensures, c.reads_turn-read.ensures, c.cell_turn-alone.ensures, c.wait_turn-waits.ensures, c.lock_turn-lock.ensures, to_z-of_z value_width c.args.x c.ranges.x) refl
+returns c = rw (c.or-rule.ensures, c.or-3.ensures, c.or-2.ensures, c.or.ensures, c.stores_turn-store.ensures, c.reads_turn-read.ensures, c.cell_turn-alone.ensures, c.wait_turn-waits.ensures, c.lock_turn-lock.ensures, to_z-of_z value_width c.args.x c.ranges.x) refl

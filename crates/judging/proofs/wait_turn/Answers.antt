@@ -11,15 +11,15 @@ use Rattle.judging.proofs.wait_turn.Goals as goal
 
 pub returns-in-67 : goal.returns-in-67
 unfolding wait_turn hold_for hold_after wait_for wait_after row_of row_in
-returns-in-67 c = rw (c.back-turn.ensures, c.taken_again-turn.ensures, c.first_of.ensures, c.lock_checks.ensures, c.in-67.is) refl
+returns-in-67 c = rw (c.back-turn.ensures, c.taken_again-turn.ensures, c.first_of-turn.ensures, c.lock_checks.ensures, c.in-67.is) refl
 
 pub returns-in-89 : goal.returns-in-89
 unfolding wait_turn hold_for hold_after wait_for wait_after row_of row_in
-returns-in-89 c = rw (c.waiting-turn.ensures, c.given_up-turn.ensures, c.first_of-in-89.ensures, c.unlock_checks.ensures, c.in-89.is) refl
+returns-in-89 c = rw (c.waiting-turn.ensures, c.given_up-turn.ensures, c.first_of-turn-in-89.ensures, c.unlock_checks.ensures, c.in-89.is) refl
 
 pub returns-in-70 : goal.returns-in-70
 unfolding wait_turn hold_for hold_after wait_for wait_after row_of row_in
-returns-in-70 c = rw (c.notified-turn.ensures, c.first_of-in-70.ensures, c.notify_checks.ensures, c.in-70.is) refl
+returns-in-70 c = rw (c.notified-turn.ensures, c.first_of-turn-in-70.ensures, c.notify_checks.ensures, c.in-70.is) refl
 
 pub returns-in_default : goal.returns-in_default
 unfolding wait_turn hold_for hold_after wait_for wait_after row_of row_in

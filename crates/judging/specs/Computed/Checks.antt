@@ -1,5 +1,5 @@
 -- The checks of each row, from the parts of a state that an event looks at.
-use Rattle.std.specs.Prelude.{ℕ, ◌+◌, ◌-◌, Bool, false, not, cond, ◌&&◌, ◌||◌, List, [], ◌∷◌, ◌++◌, eqb, ltb, leb, ℤ, length, get_or, replicate}
+use Rattle.std.specs.Prelude.{ℕ, Option, Some, None, ◌+◌, ◌-◌, Bool, false, not, cond, ◌&&◌, ◌||◌, List, [], ◌∷◌, ◌++◌, eqb, ltb, leb, ℤ, length, get_or, replicate}
 use Rattle.rules.specs.declared.Slot.{Slot}
 use Rattle.rules.specs.Events.{eq_z}
 use Rattle.rules.specs.Limits.{most}
@@ -83,7 +83,7 @@ filled ns = ns ++ replicate (5 - length ns) 0
 unfoldable pub row_of : ℕ → List ℕ
 row_of k = filled (row_in (rows_behind []) k)
 
--- the rule of a row at its first broken check; 0 where none is
-abbrev pub first_of : Checks → List ℕ → ℕ
+-- the number of a row at its first broken check, if one is
+abbrev pub first_of : Checks → List ℕ → Option ℕ
 first_of b row =
-    cond b.first (get_or row 0 0) (cond b.second (get_or row 1 0) (cond b.third (get_or row 2 0) (cond b.fourth (get_or row 3 0) (cond b.fifth (get_or row 4 0) 0))))
+    cond b.first (Some (get_or row 0 0)) (cond b.second (Some (get_or row 1 0)) (cond b.third (Some (get_or row 2 0)) (cond b.fourth (Some (get_or row 3 0)) (cond b.fifth (Some (get_or row 4 0)) None))))

@@ -1,5 +1,5 @@
 -- The checks that lead each row: 29 and 30, of waiting threads; 26, 27 and 28, of an event on a volatile variable. What 27 asks of all variables is `order_at`.
-use Rattle.std.specs.Prelude.{ℕ, Bool, not, cond, ◌&&◌, ◌||◌, List, eqb, ltb, leb, ℤ, get_or}
+use Rattle.std.specs.Prelude.{ℕ, Option, Some, None, Bool, not, cond, ◌&&◌, ◌||◌, List, eqb, ltb, leb, ℤ, get_or}
 use Rattle.rules.specs.declared.Counts.{Counts}
 use Rattle.rules.specs.declared.Slot.{Slot}
 use Rattle.rules.specs.Events.{A, B, C, F, L, P, R, S, U, W, subject_of}
@@ -29,15 +29,15 @@ is_untold w l k =
     eqb k F && (not (ltb 0 (remembered_of w l)) || notified_of w l)
     || eqb k C && not (ltb 0 (remembered_of w l) && notified_of w l)
 
--- the first of these that letter k breaks; 0 where none is. a is the waiting of its thread, w that of its subject, of n locks
-unfoldable pub ahead_rule : Waiting → Waiting → ℕ → ℕ → ℕ → ℕ
-ahead_rule a w n l k = cond (is_barred a n k) (get_or lead 0 0) (cond (is_untold w l k) (get_or lead 1 0) 0)
+-- the number of the first of these that letter k breaks, if it breaks one. a is the waiting of its thread, w that of its subject, of n locks
+unfoldable pub ahead_rule : Waiting → Waiting → ℕ → ℕ → ℕ → Option ℕ
+ahead_rule a w n l k = cond (is_barred a n k) (Some (get_or lead 0 0)) (cond (is_untold w l k) (Some (get_or lead 1 0)) None)
 
 -- of an event other than F and C, which alone break 30
-unfoldable pub barred_rule : Waiting → ℕ → ℕ → ℕ
-barred_rule w n k = cond (is_barred w n k) (get_or lead 0 0) 0
+unfoldable pub barred_rule : Waiting → ℕ → ℕ → Option ℕ
+barred_rule w n k = cond (is_barred w n k) (Some (get_or lead 0 0)) None
 
-abbrev pub ahead_at : State → ℕ → ℕ → ℕ → ℤ → ℕ
+abbrev pub ahead_at : State → ℕ → ℕ → ℕ → ℤ → Option ℕ
 ahead_at s t l k x = ahead_rule (get_or s.waits t no_wait) (get_or s.waits (subject_of k t x) no_wait) s.counts.locks l k
 
 -- ---- 26, 27 and 28
@@ -54,11 +54,11 @@ lead_checks c o k = record {
   prescient = eqb k P || eqb k B;
 }
 
--- the first broken check of these, 0 where none is
-abbrev pub first_lead : Lead → ℕ
-first_lead b = cond b.neighbour (get_or lead 2 0) (cond b.order (get_or lead 3 0) (cond b.prescient (get_or lead 4 0) 0))
+-- the number of the first broken check of these, if one is
+abbrev pub first_lead : Lead → Option ℕ
+first_lead b = cond b.neighbour (Some (get_or lead 2 0)) (cond b.order (Some (get_or lead 3 0)) (cond b.prescient (Some (get_or lead 4 0)) None))
 
-unfoldable pub lead_rule : Cell → Bool → ℕ → ℕ
+unfoldable pub lead_rule : Cell → Bool → ℕ → Option ℕ
 lead_rule c o k = first_lead (lead_checks c o k)
 
 -- the volatile variable of cell c bars a use whose read is at r
@@ -87,8 +87,8 @@ unfoldable pub order_at : Counts → List Cell → List Slot → ℕ → ℕ →
 order_at h cs ss t v k = some h.variables (λ u. volatile h u && bars_at cs ss t v k u)
 
 -- what letter k of thread t on variable v breaks of the checks that lead its row; c is the cell of both
-unfoldable pub lead_with : Counts → Cell → List Cell → List Slot → ℕ → ℕ → ℕ → ℕ
-lead_with h c cs ss t v k = cond (volatile h v) (lead_rule c (order_at h cs ss t v k) k) 0
+unfoldable pub lead_with : Counts → Cell → List Cell → List Slot → ℕ → ℕ → ℕ → Option ℕ
+lead_with h c cs ss t v k = cond (volatile h v) (lead_rule c (order_at h cs ss t v k) k) None
 
-abbrev pub lead_at : State → ℕ → ℕ → ℕ → ℕ
+abbrev pub lead_at : State → ℕ → ℕ → ℕ → Option ℕ
 lead_at s t v k = lead_with s.counts (get_or s.cells (cell_place t v) blank) s.cells s.stores t v k

@@ -1,6 +1,7 @@
 -- What a turn answers: the first broken check of the letter's row, and the parts as the event leaves them. A letter that is none of a
 -- turn's breaks nothing there and leaves everything.
-use Rattle.std.specs.Prelude.{ℕ, Bool, cond, ◌&&◌, not, List, [], ◌∷◌, eqb, ltb, ℤ, pos, get_or}
+use Rattle.std.specs.Prelude.{ℕ, Option, Bool, cond, ◌&&◌, not, List, [], ◌∷◌, eqb, ltb, ℤ, pos, get_or}
+use Rattle.std.specs.Option.{option_or}
 use Rattle.rules.specs.declared.Slot.{Slot}
 use Rattle.rules.specs.Events.{A, B, C, F, K, L, N, P, R, S, U, W, Y, among}
 use Rattle.rules.specs.Rules.{some}
@@ -43,7 +44,7 @@ unfoldable pub is_used : Cell → Bool
 is_used c = not c.after_load && not c.after_assign && eqb c.used c.loaded
 
 -- U; q is the position of the thread's last lock
-unfoldable pub use_rule : Cell → ℕ → ℤ → ℕ
+unfoldable pub use_rule : Cell → ℕ → ℤ → Option ℕ
 use_rule c q x = first_of (use_checks c q x) (row_of U)
 
 -- U, A, B; p is the position of the event
@@ -109,10 +110,6 @@ parts_at s t v l u =
       locked = get_or s.locked t 0;
     }
 
--- the first of two numbers that is not 0
-abbrev pub either_of : ℕ → ℕ → ℕ
-either_of a b = cond (eqb a 0) b a
-
 -- all turns one after the other, of which one is the letter's
 unfoldable pub turn_of : Parts → ℕ → OnSome → ℕ → ℕ → ℕ → ℤ → ℕ → Turn
 turn_of a n w t l k x p =
@@ -122,7 +119,7 @@ turn_of a n w t l k x p =
     let read = reads_turn alone.cell a.reads.front a.reads.behind a.main k x p in
     let store = stores_turn read.cell a.stores.front a.stores.behind a.main a.locked k x p in
     record {
-      rule = either_of (either_of (either_of lock.rule wait.rule) alone.rule) (either_of read.rule store.rule);
+      rule = option_or (option_or (option_or (option_or lock.rule wait.rule) alone.rule) read.rule) store.rule;
       cell = store.cell;
       read = read.slot;
       store = store.slot;

@@ -10,7 +10,8 @@ use Rattle.rules.specs.Limits.{value_width}
 use Rattle.rules.specs.Rules.{judge}
 use Rattle.state.specs.State.{words_in}
 use Rattle.state.specs.Step.{var_of, lock_of}
-use Rattle.judging.specs.Computed.Turns.{either_of}
+use Rattle.std.specs.Option.{option_or}
+use Rattle.judging.proofs.Rows.{found}
 use Rattle.machine.proofs.Tallies.{some_is}
 use Rattle.machine.proofs.OneStep.{var_asked, lock_asked, bounds, turn_rule, turn_put, turn_stops, turn_goes}
 use Rattle.machine.proofs.take_turn.Goals as goal
@@ -55,8 +56,8 @@ pub returns-in_err-refuse_if : goal.returns-in_err-refuse_if
 returns-in_err-refuse_if c =
     let f = (goal.at.returns-in_err-refuse_if c).After-subject_of-u in
     let p = err_from_is_err_and c.from_residual.result c.from_residual.ensures.1 in
-    let r : c.either-rule.result ≡ judge c.args.s.now.counts (words_in c.args.s.now) c.args.e = turn_rule c.args.s.now c.args.e c.requires c.letter_of-k.ensures (variable f) (lock f) (valued f) c.subject_of-u.ensures c.parts_of-parts.ensures (some_is c.args.s.now _ _ _ c.tally_of.ensures c.some_in-any.ensures) c.any_turn-turn.ensures c.ahead_rule-ahead.ensures c.lead_of-lead.ensures (c.either-rule.ensures ∙ ap (either_of c.ahead_rule-ahead.result) c.either.ensures) in
-    rw (p.1, p.2) (turn_stops c.args.s.now c.args.e _ r c.in_err-refuse_if.ensures)
+    let r : c.or-2.result ≡ found (judge c.args.s.now.counts (words_in c.args.s.now) c.args.e) = turn_rule c.args.s.now c.args.e c.requires c.letter_of-k.ensures (variable f) (lock f) (valued f) c.subject_of-u.ensures c.parts_of-parts.ensures (some_is c.args.s.now _ _ _ c.tally_of.ensures c.some_in-any.ensures) c.any_turn-turn.ensures c.ahead_rule-ahead.ensures c.lead_of-lead.ensures (c.or-2.ensures ∙ ap (option_or c.ahead_rule-ahead.result) c.or.ensures) in
+    rw (p.1, p.2) (turn_stops c.args.s.now c.args.e _ _ r c.in_err-refuse_if.ensures)
 
 pub offset_bounds-next-l : goal.offset_bounds-next-l
 offset_bounds-next-l c = omega (arith, lock_low (goal.at.offset_bounds-next-l c).After-subject_of-u)
@@ -73,5 +74,5 @@ bounds-next-v c = variable_low (goal.at.bounds-next-v c).After-subject_of-u
 pub returns : goal.returns
 returns c =
     let f = (goal.at.returns c).After-subject_of-u in
-    let r : c.either-rule.result ≡ judge c.args.s.now.counts (words_in c.args.s.now) c.args.e = turn_rule c.args.s.now c.args.e c.requires c.letter_of-k.ensures (variable f) (lock f) (valued f) c.subject_of-u.ensures c.parts_of-parts.ensures (some_is c.args.s.now _ _ _ c.tally_of.ensures c.some_in-any.ensures) c.any_turn-turn.ensures c.ahead_rule-ahead.ensures c.lead_of-lead.ensures (c.either-rule.ensures ∙ ap (either_of c.ahead_rule-ahead.result) c.either.ensures) in
-    turn_goes c.args.s.now c.args.e _ r c.in_ok-refuse_if.ensures (turn_put c.args.s.now c.args.e c.requires c.letter_of-k.ensures (variable f) (lock f) (valued f) c.subject_of-u.ensures c.parts_of-parts.ensures (some_is c.args.s.now _ _ _ c.tally_of.ensures c.some_in-any.ensures) c.any_turn-turn.ensures c.ahead_rule-ahead.ensures c.lead_of-lead.ensures (c.either-rule.ensures ∙ ap (either_of c.ahead_rule-ahead.result) c.either.ensures) c.cell_place-at.ensures.0 c.slot_place.ensures.0 c.slot_place-2.ensures.0)
+    let r : c.or-2.result ≡ found (judge c.args.s.now.counts (words_in c.args.s.now) c.args.e) = turn_rule c.args.s.now c.args.e c.requires c.letter_of-k.ensures (variable f) (lock f) (valued f) c.subject_of-u.ensures c.parts_of-parts.ensures (some_is c.args.s.now _ _ _ c.tally_of.ensures c.some_in-any.ensures) c.any_turn-turn.ensures c.ahead_rule-ahead.ensures c.lead_of-lead.ensures (c.or-2.ensures ∙ ap (option_or c.ahead_rule-ahead.result) c.or.ensures) in
+    turn_goes c.args.s.now c.args.e _ _ r c.in_ok-refuse_if.ensures (turn_put c.args.s.now c.args.e c.requires c.letter_of-k.ensures (variable f) (lock f) (valued f) c.subject_of-u.ensures c.parts_of-parts.ensures (some_is c.args.s.now _ _ _ c.tally_of.ensures c.some_in-any.ensures) c.any_turn-turn.ensures c.ahead_rule-ahead.ensures c.lead_of-lead.ensures (c.or-2.ensures ∙ ap (option_or c.ahead_rule-ahead.result) c.or.ensures) c.cell_place-at.ensures.0 c.slot_place.ensures.0 c.slot_place-2.ensures.0)

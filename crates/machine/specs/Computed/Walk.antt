@@ -1,5 +1,6 @@
 -- Steps over the lines of a row, each an event or none, up to the first refusal; and what one step rests on.
-use Rattle.std.specs.Prelude.{ℕ, ◌<◌, ◌≡◌, true, List, [], ◌∷◌, Result, Ok, Err}
+use Rattle.std.specs.Prelude.{ℕ, ◌<◌, ◌≡◌, true, List, [], ◌∷◌, Result, Ok, Err, Some, None}
+use Rattle.std.specs.Prelude as std
 use Rattle.std.proofs.Math.Option.{Option, none, some}
 use Rattle.rules.specs.declared.Event.{Event}
 use Rattle.rules.specs.declared.Main.{Main}
@@ -7,7 +8,7 @@ use Rattle.rules.specs.declared.Memories.{Memories}
 use Rattle.rules.specs.declared.Refusal.{Refusal}
 use Rattle.rules.specs.Limits.{Limits, full, no_volatiles, line_after}
 use Rattle.rules.specs.Memories.{memories_of}
-use Rattle.rules.specs.Rules.{accepted, refused}
+use Rattle.rules.specs.Rules.{Marked, accepted, refused}
 use Rattle.state.specs.declared.Cell.{Cell}
 use Rattle.state.specs.declared.State.{State}
 use Rattle.state.specs.Range.{in_range}
@@ -20,6 +21,11 @@ unfoldable pub walk : Limits → State → List (Option Event) → Answer
 walk m s [] = unchanged s accepted
 walk m s (none ∷ rest) = unchanged s (refused 4 (line_after s.counts s.events))
 walk m s (some e ∷ rest) = onwards (stepped m s e) (λ z. walk m z rest)
+
+-- what is said of the event on a line by the number of the rule that it breaks, if it breaks one
+abbrev pub marked : std.Option ℕ → ℕ → Marked
+marked None line = accepted
+marked (Some n) line = refused n line
 
 -- the memories in the state that is left, where nothing is refused
 abbrev pub outcome_of : Answer → Result Memories Refusal
