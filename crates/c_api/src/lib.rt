@@ -23,6 +23,7 @@ pub struct Reply {
     pub line: usize,
 }
 
+// The number of a refusal and its line.
 impl From<Refusal> for Reply {
     ghost from_gives = { λ a r. r ≡ refusal_reply a };
 
@@ -34,6 +35,7 @@ impl From<Refusal> for Reply {
     }
 }
 
+// Those of a verdict, both 0 where nothing is refused.
 impl From<Verdict> for Reply {
     ghost from_gives = { λ v r. r ≡ reply_of v };
 
@@ -177,6 +179,7 @@ pub struct OrderReply {
     pub denial: Reply,
 }
 
+// The entries of an order, or what denies it; where nothing is said of one neither.
 impl From<Ordering> for OrderReply {
     ghost from_gives = { λ o r. r ≡ order_reply o };
 
@@ -215,6 +218,7 @@ pub struct MarkReply {
     pub denial_line: usize,
 }
 
+// The numbers of a report.
 impl From<Report> for MarkReply {
     ghost from_gives = { λ r m. m ≡ mark_reply r };
 
@@ -311,6 +315,7 @@ pub struct TailReply {
     pub first: usize,
 }
 
+// The numbers of a tail, or of its refusal.
 impl From<Result<Tail, Refusal>> for TailReply {
     ghost from_gives = { λ t r. r ≡ tail_reply t };
 
@@ -369,6 +374,7 @@ pub struct SheetReply {
     pub written: usize,
 }
 
+// The numbers of what is said of a sheet.
 impl From<Session> for SheetReply {
     ghost from_gives = { λ s r. r ≡ sheet_reply s };
 

@@ -44,18 +44,21 @@ trait Shown {
     fn write(&self, rt: &impl Print);
 }
 
+// `=` and the number.
 impl Shown for u8 {
     fn write(&self, rt: &impl Print) {
         row(rt, &[usize::from(*self)]);
     }
 }
 
+// The same.
 impl Shown for u32 {
     fn write(&self, rt: &impl Print) {
         row(rt, &[*self as usize]);
     }
 }
 
+// The same.
 impl Shown for u64 {
     fn write(&self, rt: &impl Print) {
         row(rt, &[*self as usize]);
@@ -150,6 +153,7 @@ fn orderless(rt: &impl Print, paper: &[u8]) {
 
 // ---- The writers of a trace.
 
+// The line of an event.
 fn event(rt: &impl Print, thread: usize, kind: Kind) {
     let e = Event {
         thread,
@@ -159,6 +163,7 @@ fn event(rt: &impl Print, thread: usize, kind: Kind) {
     written(rt, |out| writer::write_event(out, e));
 }
 
+// Counts with no volatile variable.
 fn counts(threads: usize, variables: usize, locks: usize) -> Counts {
     Counts {
         threads,
@@ -191,6 +196,7 @@ fn canonical(rt: &impl Print) {
     written(rt, |out| writer::write_trailer(out, 84));
 }
 
+// The least and the greatest numbers.
 fn limits(rt: &impl Print) {
     written(rt, |out| writer::write_guards(out, None));
     let all: [usize; 16] = [0, 1, 2, 3, 4, 5, 6, 7, 8, 9, 10, 11, 12, 13, 14, 15];
@@ -245,6 +251,7 @@ fn marked(rt: &impl Print, h: Counts, what: &[u32], values: &[Value]) {
     r.map_or(0, |m| m.main[0].value).write(rt);
 }
 
+// Rows that are accepted, with a letter that is none, of different lengths, without threads, with another value loaded, and too long.
 fn rows(rt: &impl Print) {
     let h = counts(2, 2, 2);
     let none = counts(0, 2, 2);
@@ -299,6 +306,7 @@ fn waiting_rows(rt: &impl Print) {
 
 // ---- The part of a trace that holds its events.
 
+// The part and its length.
 fn part(rt: &impl Print, course: Course, paper: &[u8]) {
     let found = trace::find_events(course, paper);
     put(rt, found);
@@ -449,6 +457,7 @@ fn waiting_steps(rt: &impl Print, h: Counts) {
     awaited(rt, &s);
 }
 
+// All of these.
 fn lent_states(rt: &impl Print) {
     put(rt, b"steps in place\n");
     let h = counts(2, 2, 2);
@@ -468,12 +477,14 @@ const FILLER: Event = Event {
     kind: Kind::Use(7, 7),
 };
 
+// Each event of a row.
 fn all_places(rt: &impl Print, rows: &[Event]) {
     for e in rows {
         e.write(rt);
     }
 }
 
+// A row of which so many places are lent, after n records.
 fn fill(rt: &impl Print, places: usize, what: &[u32], values: &[Value], n: usize)
     requires { places ≤ 5 }
 {
@@ -616,6 +627,7 @@ fn told(t: Result<Tail, Refusal>) -> [usize; 4] {
     }
 }
 
+// What is said of a tail, and a row of which so many places are lent for it.
 fn finish(rt: &impl Print, course: Course, paper: &[u8], places: usize)
     requires { places ≤ 5 }
 {

@@ -715,6 +715,7 @@ pub fn cell_turn(c: Cell, locked: usize, k: u8, x: Value, p: usize) -> CellTurn
 }
 
 // R, L: the reads of the cell. `front` is the slot at the queue's first place, `behind` the one behind its last.
+// Kept: `front` and `behind` apart: `machine::run` has them from two places, and an `Ends` made for the call is taken apart again.
 pub fn reads_turn(
     c: Cell,
     front: Slot,

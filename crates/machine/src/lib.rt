@@ -24,6 +24,7 @@ use rules::{
 use state::{Cell, SLOTS, State};
 
 // What is said of an event, and the state that is left.
+// Kept: the state stands beside a refusal too: a refused step hands it back (`stepped`).
 #[derive(Clone, Copy)]
 pub struct Answer {
     pub verdict: Verdict,
@@ -155,6 +156,7 @@ fn lead_of(
 // ---- A row of events.
 
 // The refusal with this number of the event after n events.
+// Kept: the number of a refusal, as `Refusal` has it.
 fn refusal_after(number: u8, h: &Counts, n: u32) -> Refusal
     ensures { result ≡ record { number = number; line = line_after h.now n } }
 {
@@ -185,6 +187,7 @@ fn copies_of(cells: &[Cell; CELLS], locked: &[usize; THREADS]) -> [Cached; CELLS
 }
 
 // The records of two rows, one after the other, from a state in range: line by line 4, 9, 5 and the row of its letter.
+// Kept: two rows of plain numbers gone through by index, as document 01 has it; the values are as many (`as_many`).
 fn run(
     mut s: State,
     mut tallies: [Tally; THREADS],
@@ -315,6 +318,7 @@ fn run(
 }
 
 // Marks two rows of records, with these counts declared.
+// Kept: two rows of plain numbers, as document 01 has it; rows of different lengths are refused (`MarksRow`).
 pub fn mark_row(h: Counts, what: &[u32], value: &[Value]) -> Result<Memories, Refusal>
     ensures { MarksRow h what.now value.now result }
 {

@@ -97,6 +97,7 @@ fn count_traces(course: Course, s: &[u8]) -> Option<Tally>
 
 // ---- The share.
 
+// Whether d divides both.
 fn divides_both(d: usize, a: usize, n: usize) -> bool
     requires { 0 < d }
     ensures { result ≡ divides_both d a n }
