@@ -109,7 +109,7 @@ pub fn number_until(s: &[u8], at: usize, d: u8) -> Option<Reached>
 }
 
 // The value of a number without a minus.
-// Kept: a function and no TryFrom, since a number that is none comes in too; it is `try_from` inside.
+// Kept: what may not change: `positive_of` in specs/Decimal.antt is over a number or none.
 pub fn positive(n: Option<usize>) -> Result<Value, NotValue>
     ensures { result ≡ positive_of value_width n }
 {
@@ -117,8 +117,8 @@ pub fn positive(n: Option<usize>) -> Result<Value, NotValue>
     Value::try_from(m).map_err(|_| NotValue::Outside)
 }
 
-// Kept: a function and no TryFrom, since std has none from a size to the negative value of that size.
 // The value of a number after a minus, which is not 0: -m as -1 - (m - 1), which does not wrap at the least value.
+// Kept: what may not change: `negative_of` in specs/Decimal.antt is over a number or none; std has no TryFrom to the negative value of a size.
 pub fn negative(n: Option<usize>) -> Result<Value, NotValue>
     ensures { result ≡ negative_of value_width n }
 {

@@ -48,7 +48,7 @@ fn unpack(w: u32, value: Value, line: usize) -> Event
 }
 
 // Fills a row of events from two rows of records, of which the first stands for this line.
-// Kept: two rows of plain numbers, as the marking leaves them.
+// Kept: two rows of plain numbers, which document 01 has the marking go over.
 fn fill_lines(records: &mut [Event], line: usize, what: &[u32], value: &[Value])
     requires line_low { line < 4294967296 }
     requires whats { length what.now ≡ length records.old }

@@ -11,7 +11,7 @@ use decimal::NotValue;
 use rules::{Counts, Course, RECORDS, Refusal, Value, Verdict};
 
 // An event line as plain numbers, and where the next line starts.
-// Kept: the letter is a byte, as document 01 has the marking go over plain numbers.
+// Kept: the letter is a byte, as document 01 has the marking go over plain numbers. The bytes go beside the line, which is handed on changed and the bytes are not.
 #[derive(Clone, Copy)]
 pub struct Line {
     pub letter: u8,
@@ -173,7 +173,7 @@ fn line_at(s: &[u8], at: usize) -> Option<Line>
 }
 
 // A reading that ended in a refusal at the line behind n events.
-// Kept: the number of a refusal, as `Refusal` has it.
+// Kept: the number of a refusal, as `Refusal` has it; beside it the count of a reading, so that it is no twin of `machine::refusal_after`.
 fn stopped(h: Counts, n: usize, number: u8) -> Read
     requires { n ≤ full.events }
     ensures { result ≡ record { count = n; verdict = Err (record { number = number; line = line_after h n }) } }

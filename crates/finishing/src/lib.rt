@@ -92,6 +92,7 @@ impl Key {
 // ---- What the records say of a thread and its variable or lock.
 
 // Whether an assign is pending, and its announced value; whether the copy is fresh; how many loads and writes there are.
+// Kept: `pending` and `announced` are two words of the rules: the latest P has its value also where its assign is made.
 #[derive(Clone, Copy, Default)]
 struct Facts {
     pending: bool,
@@ -154,7 +155,7 @@ fn depth_after(what: u32, depth: u32) -> u32
 }
 
 // The records of an accepted trace, with the value of each beside it. A clause sees them as pairs.
-// Kept: two rows of plain numbers, as `marking::mark` leaves them; a clause sees one list of pairs.
+// Kept: two rows of plain numbers, which document 01 has the marking go over; a clause sees one list of pairs.
 #[derive(Drop)]
 struct Rows<'a> {
     what: &'a [u32],
@@ -224,6 +225,7 @@ impl<'a> Rows<'a> {
 // ---- The tail's records, into two rows.
 
 // Two rows with so many records at their front.
+// Kept: two lent rows, as C has them, and how many records are written at the front of both.
 #[derive(Drop)]
 struct Out<'a> {
     whats: &'a mut [u32],
@@ -329,7 +331,7 @@ impl<'a> Accepted<'a> {
     }
 
     // Puts the tail to the front of two rows; how many events it has there.
-    // Kept: two rows, as C lends them to `finish`.
+    // Kept: the two rows of `make_tail`.
     fn fill(&self, whats: &mut [u32], values: &mut [Value]) -> usize
         ensures { filled result whats.new values.new ≡ added (tail_entries self.now.head self.now.copies.now self.now.rows) (filled 0 whats.old values.old) }
     {
@@ -346,7 +348,7 @@ impl<'a> Accepted<'a> {
 // ---- The tail of a trace.
 
 // Puts the tail of a trace to the front of two rows that have room for every tail. A refused trace gives its own refusal; 24 where it has a V line, Y, F or C.
-// Kept: two rows, as C lends them to `finish`.
+// Kept: two rows, so that `finish` copies each to the one that C lends.
 pub fn make_tail(
     course: Course,
     bytes: &[u8],

@@ -45,6 +45,7 @@ trait Shown {
 }
 
 // `=` and the number.
+// Kept: an impl for each type: std has no `From<u64>` and no `From<u32>` for usize, and an impl by a macro is refused.
 impl Shown for u8 {
     fn write(&self, rt: &impl Print) {
         row(rt, &[usize::from(*self)]);
@@ -52,6 +53,7 @@ impl Shown for u8 {
 }
 
 // The same.
+// Kept: as for u8.
 impl Shown for u32 {
     fn write(&self, rt: &impl Print) {
         row(rt, &[*self as usize]);
@@ -59,6 +61,7 @@ impl Shown for u32 {
 }
 
 // The same.
+// Kept: as for u8.
 impl Shown for u64 {
     fn write(&self, rt: &impl Print) {
         row(rt, &[*self as usize]);

@@ -77,7 +77,7 @@ either_broken (suc n ∷ ns) ms h w e = go (breaks (suc n) h w e) (either_broken
     go true q = sym (rw (ne_eqb (suc n) 0 (suc-ne-zero n)) refl)
     go false q = q
 
-judge_split : (h : Counts) (w : Words) (e : Event) → judge h w e ≡ either_of (ahead h w e) (either_of (leading h w e) (trailing h w e))
+pub judge_split : (h : Counts) (w : Words) (e : Event) → judge h w e ≡ either_of (ahead h w e) (either_of (leading h w e) (trailing h w e))
 unfolding judge rows
 judge_split h w e =
     let behind = row_in (rows_behind []) (letter e.kind) in

@@ -473,8 +473,8 @@ pub fn bars_event(c: Cell, front: Slot, other: Cell, first: Slot, k: u8) -> bool
 }
 
 // ---- What an event leaves. `p` is its position.
-// Kept: a copy of the cell that is changed. Struct updates were tried: they copy field by field, 380 in place of 375 instructions an event
-// (bench/instructions). So were a lock and a waiting by `if` and `else`: `wait_turn` then stays a call.
+// Kept: a copy of the cell that is changed, and early returns for a lock and a waiting: struct updates and `if` with `else` miss the bar of
+// instructions an event (docs/PERFORMANCE.md), 380 in place of 375.
 
 // Whether U leaves a cell as it is.
 pub fn is_used(c: Cell) -> bool
@@ -691,6 +691,7 @@ pub fn use_rule(c: Cell, locked: usize, x: Value) -> Option<u8>
 }
 
 // U, A, B: the cell alone.
+// Kept: here and in the turns below the numbers of an event are apart, as in the definitions `cell_turn` to `wait_turn`.
 pub fn cell_turn(c: Cell, locked: usize, k: u8, x: Value, p: usize) -> CellTurn
     ensures { result ≡ cell_turn c locked k x p }
 {
@@ -830,7 +831,7 @@ pub fn lock_turn(
 }
 
 // Y, F, C on lock l: these, and the waiting of the event's subject.
-// Kept: one record that the arms change, as in `stores_turn`; with a record of its own in each arm it was a call.
+// Kept: one record that the arms change, as in `stores_turn`: with a record of its own in each arm it stays a call.
 pub fn wait_turn(
     a: Hold,
     w: Waiting,
@@ -906,6 +907,7 @@ pub struct Turn {
 }
 
 // All turns: one of them is the letter's. `n` threads are declared, and `any` is what the variables of thread t have.
+// Kept: no switch on the letter: each turn leaves what is not its own, which `turn_of` says; the numbers of an event are apart as in the definitions.
 pub fn any_turn(
     a: Parts,
     n: usize,

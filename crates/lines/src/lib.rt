@@ -5,6 +5,7 @@ ghost use Rattle.std.specs.Prelude.{◌≡◌, [], ◌+◌, length, get_or, drop
 ghost use Rattle.lines.specs.Lines.{before, split_on, letter, up_to};
 
 // The place of the first byte b, or the length where there is none.
+// Kept: the length where there is none, as `before` in specs/Lines.antt: what stands before the byte is then the part up to it in both cases.
 pub fn find(s: &[u8], b: u8) -> usize
     ensures { result ≡ before b s.now }
 {
@@ -34,6 +35,7 @@ pub fn count_fields(s: &[u8]) -> usize
 }
 
 // The place of the first space from `at` on; where there is none, the length, or `at` where it is greater.
+// Kept: the length where there is none, as in `find`.
 pub fn space_from(s: &[u8], at: usize) -> usize
     ensures { result ≡ at + before 32 (drop at s.now) }
 {

@@ -58,6 +58,7 @@ fn value_line(out: &mut [u8], word: &[u8], ns: &[usize], x: Value) -> usize
 }
 
 // The refusal of a trace.
+// Kept: one call of `row_line`, with its own word and promise.
 pub fn write_refused(out: &mut [u8], line: usize, number: usize) -> usize
     ensures { Wrote (room line_room (ended (refused_line line number))) out.old result out.new }
 {
@@ -65,6 +66,7 @@ pub fn write_refused(out: &mut [u8], line: usize, number: usize) -> usize
 }
 
 // Why a trace has no order.
+// Kept: one call of `row_line`, with its own word and promise.
 pub fn write_unordered(out: &mut [u8], line: usize, number: usize) -> usize
     ensures { Wrote (room line_room (ended (unordered_line line number))) out.old result out.new }
 {
@@ -72,6 +74,7 @@ pub fn write_unordered(out: &mut [u8], line: usize, number: usize) -> usize
 }
 
 // The number of events of a trace, or of accepted traces of a sheet.
+// Kept: one call of `row_line`, with its own word and promise.
 pub fn write_accepted(out: &mut [u8], n: usize) -> usize
     ensures { Wrote (room line_room (ended (accepted_line n))) out.old result out.new }
 {
@@ -79,6 +82,7 @@ pub fn write_accepted(out: &mut [u8], n: usize) -> usize
 }
 
 // The number of traces of a sheet.
+// Kept: one call of `row_line`, with its own word and promise.
 pub fn write_papers(out: &mut [u8], n: usize) -> usize
     ensures { Wrote (room line_room (ended (papers_line n))) out.old result out.new }
 {
@@ -147,7 +151,7 @@ fn write_section(out: &mut [u8], w: u64) -> usize
 // ---- Lines one after the other.
 
 // The values of the first n variables in main memory.
-// Kept: here and in the next two n is a count of places in an array; `write_memories` asks `is_allowed`, which bounds it, once for all three.
+// Kept: no plainer with parts `&main[..n]`: the bound is then asked of a part at the call, and of one for each thread in the next two.
 fn write_mains(out: &mut [u8], main: &[Main; VARIABLES], n: usize) -> usize
     requires { n ≤ 16 }
     ensures { Wrote (write_all (main_lines (each (main_at main.now) (below n)))) out.old result out.new }

@@ -118,6 +118,7 @@ fn bars_at(
 }
 
 // 27: whether a volatile variable bars letter k of thread t on volatile variable v.
+// Kept: parts of a state behind references, as `order_at` and `lead_with` have them; all of a state would say less of what is read.
 fn volatile_order(
     h: &Counts,
     cells: &[Cell; CELLS],

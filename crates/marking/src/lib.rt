@@ -20,7 +20,7 @@ pub struct Marking {
 }
 
 // Marks the records of two rows that were read. The refusal is the first in line order.
-// Kept: two rows of plain numbers, as in `mark`.
+// Kept: two rows of plain numbers, which document 01 has the marking go over.
 fn mark_read(
     h: Counts,
     guards: Guards,
@@ -43,7 +43,7 @@ fn mark_read(
 }
 
 // Marks a whole trace: 1, 2, 3, over the limits of the course, 6, then line by line 4, one event too many, 5 and the row. The rows are room for the records of its events.
-// Kept: two rows of plain numbers, which document 01 has the marking go over, and which C lends.
+// Kept: two rows of plain numbers, which document 01 has the marking go over.
 pub fn mark(
     course: Course,
     bytes: &[u8],

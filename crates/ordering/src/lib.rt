@@ -16,7 +16,7 @@ use rules::{CELLS, Counts, Course, RECORDS, Refusal, THREADS, VARIABLES, Value, 
 use trace::Guards;
 
 // What is said of the order of a trace. `answer_for` in specs/Answer.antt says when each case is given, with its number and values.
-// Kept: three cases, each with its name and values in `answer_of`; an Option of a Result would name none of them.
+// Kept: three cases, each with its name and values in `answer_of` and `answer_for`; an Option of a Result would name none of them.
 #[derive(Clone, Copy)]
 pub enum Ordering {
     // An order, with so many sections.
@@ -41,7 +41,7 @@ struct Action {
 }
 
 // The rows of an accepted trace: each record names an event. The values are there for what the contracts say of the events.
-// Kept: two rows of plain numbers: document 01 has the events kept so ("over plain numbers"), and C lends two.
+// Kept: two rows of plain numbers, which document 01 has the marking go over. No model, and no type shared with `finishing`: `Fits` speaks of the head with both rows.
 #[derive(Clone, Copy)]
 struct Rows<'a> {
     head: Counts,
@@ -71,6 +71,7 @@ impl Rows<'_> {
 // ---- What one event does, k its letter.
 
 // How often each thread holds each lock, at 16 * thread + lock; how often it holds on all locks; and the holds that it gave up while it waits.
+// Kept: three arrays of numbers, as the definitions have them (`under_in`, `unfinished_in`); a struct for a thread would hold 16 levels in each.
 #[derive(Drop)]
 struct Holds {
     levels: [u32; CELLS],
@@ -161,7 +162,7 @@ fn owes_some(pending: &[bool; CELLS], t: usize, n: usize) -> bool
 // ---- The first pass.
 
 // Denied by this rule, after i events.
-// Kept: the number of a refusal, as `Refusal` has it.
+// Kept: the number of a refusal, as `Refusal` has it; over the number of an event in a row, where `machine::refusal_after` is over those of a state.
 fn denied(h: Counts, rule: u8, i: usize) -> Refusal
     requires { i ≤ 2000 }
     ensures { result ≡ record { number = rule; line = line_after h i } }
@@ -230,6 +231,7 @@ struct Begun {
 // The second pass. The scratch has a place for each K or C, in their order: each section stands at the place of its last one, 0 at the others. A section
 // begins at a K or C before which its thread held nothing, and is written down at the N or Y after which it holds nothing. Other events are passed over. How
 // many K and C.
+// Kept: `n` counts the K and C, and is no index of the loop.
 fn fill(rows: Rows, scratch: &mut [u64]) -> usize
     requires ended { unfinished rows.head (past (event_at rows.head rows.what.now rows.value.now) (length rows.what.now)) ≡ false }
     requires places { full.scratch ≤ length scratch.old }
@@ -259,6 +261,7 @@ fn fill(rows: Rows, scratch: &mut [u64]) -> usize
 }
 
 // The numbers of a part of the scratch that are not 0, to the front of the list. How many.
+// Kept: the count is what it answers, and a chain with a filter would have to count again.
 fn gather(list: &mut [u64], part: &[u64]) -> usize
     requires { length (nonzero part.now) ≤ length list.old }
     ensures { Put (nonzero part.now) list.old 0 result list.new }

@@ -20,6 +20,7 @@ use tail_text::TAIL_TEXT;
 pub const INPUT: usize = 65537;
 
 // What is printed of an input: the listing of a trace, the text of its tail, or the counts of a session sheet.
+// Kept: an enum and no closure: a function that calls a parameter requires that it may, and no public function has a `requires`.
 #[derive(Clone, Copy)]
 pub enum Printed {
     Listing,

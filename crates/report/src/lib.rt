@@ -13,7 +13,7 @@ use ordering::{Ordering, Outcome};
 use rules::{Course, RECORDS, Refusal, Value, Verdict};
 
 // What is said of a trace: the verdict, the number of events of an accepted one, what is said of its order, and the length of the listing.
-// Kept: `written` is of both cases, and who copies `events` records or hands on the rest reads 0 and NoOrder after a refusal without asking for the verdict (`Fills`).
+// Kept: no plainer as a Result: `written` is of both cases, and `mark_trace`, `mark_events` and C copy `events` records, 0 after a refusal, without a case.
 #[derive(Clone, Copy)]
 pub struct Report {
     pub verdict: Verdict,
@@ -74,7 +74,7 @@ fn write_listing(out: &mut [u8], outcome: &Outcome, list: &[u64]) -> usize
 }
 
 // Marks a whole trace, with its order and its listing, where so many places are lent for its records. 7 before all. The rows are room for the records.
-// Kept: two rows of plain numbers, which C lends (include/dabzhoni.h).
+// Kept: two rows of plain numbers, as `marking::mark` fills them.
 pub fn mark_lent(
     course: Course,
     bytes: &[u8],

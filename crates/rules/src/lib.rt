@@ -62,6 +62,7 @@ pub struct Event {
 
 // An outstanding read or store: its value, and a position among all events, from 1: of a read its own, of a store that of its assign, of a P its own.
 // With 64 bits for each it has no padding, and the empty queues of a first state are cleared at once.
+// Kept: the C interface: `struct dabzhoni_slot` of include/dabzhoni.h.
 #[repr(C)]
 #[derive(Clone, Copy)]
 pub struct Slot {
@@ -70,6 +71,7 @@ pub struct Slot {
 }
 
 // How many threads, variables and locks a trace declares in its head, and which variables its V line names.
+// Kept: the C interface: `struct dabzhoni_counts` of include/dabzhoni.h.
 #[repr(C)]
 #[derive(Clone, Copy)]
 pub struct Counts {
@@ -130,6 +132,7 @@ pub fn cap(n: usize) -> u32
 }
 
 // The thread that a number in the place of a value names; a negative one names none. A value has the width that the definitions name.
+// Kept: 255 for none, which no head declares, is the number that `thread_of` in specs/Events.antt gives and that a record holds.
 pub fn thread_of(x: Value) -> usize
     ensures is { result ≡ thread_of x }
     ensures width { FitsSigned value_width x }
@@ -177,7 +180,7 @@ pub fn is_lock_letter(k: u8) -> bool
 }
 
 // The letter byte of a kind.
-// Kept: no From<Kind> for u8, which would not say that the byte is the letter; `letter` is its promise by name.
+// Kept: no From<Kind> for u8: `u8::from(kind)` says less than this name, which is that of the definition.
 pub fn letter_of(k: Kind) -> u8
     ensures { result ≡ letter k }
 {
@@ -299,7 +302,7 @@ pub fn is_allowed(course: Course, h: Counts) -> bool
 }
 
 // The most events of a course.
-// Kept: this and `excess_of` are two numbers of `limits_of`, each a table over the courses; one function for both would need a name for which.
+// Kept: this and `excess_of` are two fields of `limits_of`; a struct with both would be made at each call for one of them.
 pub fn most_events(course: Course) -> u32
     ensures { result ≡ (limits_of course).events }
 {
@@ -343,6 +346,7 @@ pub fn line_after(h: Counts, n: u32) -> usize
 }
 
 // 7, where no order is wanted: places lent for records, bytes lent for output.
+// Kept: this and `is_order_short` are two refusals, `lent_short` and `order_short`, each of two limits of its own.
 #[tactic(auto, unfolding(crate::specs::Limits::lent_short))]
 pub fn is_lent_short(records: usize, out: usize) -> bool
     ensures { result ≡ lent_short full records out }
@@ -351,6 +355,7 @@ pub fn is_lent_short(records: usize, out: usize) -> bool
 }
 
 // 7, where an order is wanted, also these: places lent for the order list and the scratch.
+// Kept: as `is_lent_short`.
 #[tactic(auto, unfolding(crate::specs::Limits::order_short))]
 pub fn is_order_short(list: usize, scratch: usize) -> bool
     ensures { result ≡ order_short full list scratch }
@@ -361,7 +366,7 @@ pub fn is_order_short(list: usize, scratch: usize) -> bool
 // ---- Verdicts.
 
 // The number of a verdict; 0 where it is accepted.
-// Kept: a public function with `number_in` for its promise; this and `line_of` read the two parts of a refusal, and a pair of both would be taken apart by each caller.
+// Kept: a public function, with `number_in` for its promise; it and `line_of` differ in the part that they read.
 pub fn number_of(v: Verdict) -> u8
     ensures { result ≡ number_in (told v) }
 {
@@ -372,7 +377,7 @@ pub fn number_of(v: Verdict) -> u8
 }
 
 // The line of a verdict; 0 where it is accepted.
-// Kept: as `number_of`, with `line_in` for its promise.
+// Kept: a public function, with `line_in` for its promise.
 pub fn line_of(v: Verdict) -> usize
     ensures { result ≡ line_in (told v) }
 {

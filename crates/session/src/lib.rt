@@ -16,7 +16,7 @@ use rules::{Course, OUTPUT, RECORDS, Refusal, Value, Verdict};
 
 // What is said of a sheet: its refusal, or how many traces it holds and how many of them are accepted, both 0 after a refusal; and the length of
 // its text.
-// Kept: `written` is of both cases, and C reads 0 for the counts after a refusal; with a Result both are asked for the case.
+// Kept: no plainer as a Result: `written` is of both cases, and C reads the counts, 0 after a refusal, without a case.
 #[derive(Clone, Copy)]
 pub struct Session {
     pub verdict: Verdict,
@@ -59,7 +59,7 @@ fn find_start(s: &[u8]) -> Option<usize>
 // ---- Counting.
 
 // The number of a trace; 0 where it is accepted. The rows are room for its records.
-// Kept: no conversion: it marks a trace; the rows are room for `marking::mark`.
+// Kept: a number, 0 where it is accepted: it is the place in the row of counts. The rows are room for `marking::mark`.
 fn number_of(
     course: Course,
     t: &[u8],
@@ -106,6 +106,7 @@ fn divides_both(d: usize, a: usize, n: usize) -> bool
 }
 
 // The greatest number up to a that divides both.
+// Kept: tried: `(1..=a).rev().find(..).unwrap_or(1)`: the proof did not close.
 fn divisor(a: usize, n: usize) -> usize
     ensures { result ≡ common a a n }
 {

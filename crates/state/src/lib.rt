@@ -11,6 +11,7 @@ ghost use Rattle.state.specs.Computed.Places.{cell_place, slot_place, Shape};
 use rules::{CELLS, Counts, Course, LOCKS, Main, Slot, THREADS, VARIABLES, Value};
 
 // A queue of at most eight: its oldest is at place `first` of the cell's eight places (modulo 8), the others follow it round.
+// Kept: the C interface: `struct dabzhoni_ring` of include/dabzhoni.h.
 #[repr(C)]
 #[derive(Clone, Copy, Default)]
 pub struct Ring {
@@ -19,6 +20,7 @@ pub struct Ring {
 }
 
 // What is kept for one thread and variable. The outstanding reads and stores themselves are in the state's `reads` and `stores`.
+// Kept: the C interface: `struct dabzhoni_cell` of include/dabzhoni.h.
 #[repr(C)]
 #[derive(Clone, Copy, Default)]
 pub struct Cell {
@@ -63,6 +65,7 @@ pub struct Waiting {
 // The places of outstanding reads, and of outstanding stores: eight for each cell.
 pub const SLOTS: usize = 8 * CELLS;
 
+// Kept: the C interface: `struct dabzhoni_state` of include/dabzhoni.h.
 #[repr(C)]
 #[derive(Clone, Copy)]
 pub struct State {

@@ -15,7 +15,7 @@ use rules::{Course, Event, Value};
 pub const TAIL_TEXT: usize = 65536;
 
 // The line of the event that a record names; nothing where it names none. No line tells its own number.
-// Kept: a record and its value, as the rows have them.
+// Kept: two plain numbers, as a record and its value stand in the rows of `make_tail`.
 fn write_record(out: &mut [u8], what: u32, value: Value) -> usize
     ensures { Wrote (room line_room (record_text what value)) out.old result out.new }
 {
@@ -32,7 +32,7 @@ fn write_record(out: &mut [u8], what: u32, value: Value) -> usize
 }
 
 // The lines of the records of two rows.
-// Kept: two rows of plain numbers, as `make_tail` fills them.
+// Kept: two rows of plain numbers, those of `make_tail`.
 fn write_records(out: &mut [u8], what: &[u32], value: &[Value]) -> usize
     requires { length (records_text (zip what.now value.now)) + line_room ≤ length out.old }
     ensures { Wrote (λ _. records_text (zip what.now value.now)) out.old result out.new }
