@@ -8,8 +8,8 @@
      4. A length is a number of places, and the buffer has so many. No two of those handed in overlap.
    - during the call nothing else writes to any of them, and nothing else reads any but paper and sheet.
    - the calling thread has the stack that the entry needs. At most so many bytes were touched in the tests, on x86-64: by dabzhoni_mark and
-     dabzhoni_mark_short 118,168, by the two that give no order 114,888, by dabzhoni_finish and dabzhoni_finish_short 143,992, by dabzhoni_sheet
-     and dabzhoni_sheet_short 115,352, by dabzhoni_step and dabzhoni_step_short 364,984, by dabzhoni_initial none. Each of them was run on a
+     dabzhoni_mark_short 87,608, by the two that give no order 84,920, by dabzhoni_finish and dabzhoni_finish_short 114,360, by dabzhoni_sheet
+     and dabzhoni_sheet_short 85,560, by dabzhoni_step and dabzhoni_step_short 293,944, by dabzhoni_initial none. Each of them was run on a
      stack of 512 KiB. */
 #ifndef DABZHONI_H
 #define DABZHONI_H
