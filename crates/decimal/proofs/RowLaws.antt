@@ -1,15 +1,19 @@
 -- Laws of a row of numbers, written one after the other, and of lines.
 use mathlib.Core.Path.{◌≡◌, refl, sym, ap, ◌∙◌}
 use mathlib.Core.List.{List, [], ◌∷◌, ◌++◌, append_assoc, append-nil}
-use Prim.Native.Nat.{ℕ, ◌<◌, ◌≤◌, ◌+◌, ◌-◌, ◌*◌}
+use Prim.Native.Nat.{ℕ, ◌<◌, ◌≤◌, ◌+◌, ◌-◌, ◌*◌, ◌/◌}
 use native.Mathlib.Numerals.{add-one}
 use native.Mathlib.Omega.{arith}
+use mathlib.Core.Logic.{⊎_elim}
+use borrow.Author.Tests.{le-leb, lt-leb}
+use lib.Dec.{leb}
 use lib.IntN.{ℤ}
 use lib.ListN.{length, get_or, take, drop, length-append}
-use lib.Seq.{take-suc, length-take-le}
+use lib.Seq.{take-suc, take_all, length-take-le}
 use borrow.Rule.Slice.PartMut.{put_mid}
+use Rattle.lines.proofs.PartLaws.{lt_or_le}
 use Rattle.decimal.specs.Text.{natural_text, integer_text, row_text, word_row, word_value, ended, room, Wrote, over}
-use Rattle.decimal.proofs.TextLaws.{text_short, value_short, over_length, over_then, room_yes, rest_length}
+use Rattle.decimal.proofs.TextLaws.{text_short, value_short, over_length, over_then, room_yes, rest_length, wrote_text}
 
 -- one number more
 row_snoc : (l : List ℕ) (n : ℕ) → row_text (l ++ (n ∷ [])) ≡ row_text l ++ (32 ∷ natural_text n)
@@ -40,6 +44,9 @@ module _ (ns o : List ℕ) (i a : ℕ) (p : List ℕ) (r : RowAt ns o i a p) whe
   pub row_length : length p ≡ length o
   row_length = ap length r.bytes ∙ over_length (row_text (take i ns)) o (omega (arith, r.count, row_most, r.space, r.within))
 
+  pub row_place : a ≤ length p
+  row_place = omega (arith, row_most, row_length, r.space, r.within)
+
   pub row_step : i < length ns → (q : List ℕ) (k : ℕ) → Wrote (room 32 (32 ∷ natural_text (get_or ns i 0))) (take (length p - a) (drop a p)) k q
       → RowAt ns o (i + 1) (a + k) (put_mid a (length p - a) p q)
   row_step h q k w =
@@ -57,7 +64,20 @@ module _ (ns o : List ℕ) (i a : ℕ) (p : List ℕ) (r : RowAt ns o i a p) whe
             ∙ ap (λ (u : List ℕ). over u o) more;
       }
 
+  pub row_end : length ns ≤ i → Wrote (room (32 * length ns) (row_text ns)) o a p
+  row_end h =
+      let e : take i ns ≡ ns = take_all i ns h in
+      wrote_text (32 * length ns) (row_text ns) o p a r.space (r.count ∙ ap (λ (u : List ℕ). length (row_text u)) e)
+      (r.bytes ∙ ap (λ (u : List ℕ). over (row_text u) o) e)
+
 -- ---- lines
+
+-- a word, k numbers and e bytes more, behind a test that does not wrap
+pub enough_same : (n w k e : ℕ) → w + e ≤ n → leb k ((n - w - e) / 32) ≡ leb (w + 32 * k + e) n
+enough_same n w k e h = ⊎_elim
+    (λ l. lt-leb k ((n - w - e) / 32) (omega arith) ∙ sym (lt-leb (w + 32 * k + e) n l))
+    (λ l. le-leb k ((n - w - e) / 32) (omega arith) ∙ sym (le-leb (w + 32 * k + e) n l))
+    (lt_or_le n (w + 32 * k + e))
 
 pub word_short : (w ns : List ℕ) → length (word_row w ns) ≤ length w + 32 * length ns
 unfolding word_row

@@ -72,6 +72,15 @@ pub sign : (x : ℤ) → lt_z x (pos 0) ≡ is_negative x
 sign (pos n) = le-ltb n 0 (omega arith)
 sign (negsuc n) = refl
 
+-- the two cases of a value's text
+pub text_negative : (x : ℤ) → is_negative x ≡ true → integer_text x ≡ 45 ∷ natural_text (nat_abs x)
+unfolding integer_text
+text_negative x e = rw e
+
+pub text_positive : (x : ℤ) → is_negative x ≡ false → integer_text x ≡ natural_text (nat_abs x)
+unfolding integer_text
+text_positive x e = rw e
+
 -- one more byte of a text that is copied
 pub over_take : {A : Type 0} (t o : List A) (i : ℕ) (d : A) → i < length t → i < length o → set (over (take i t) o) i (get_or t i d) ≡ over (take (i + 1) t) o
 over_take {A} t o i d h l =

@@ -4,7 +4,7 @@
 ghost use Rattle.std.specs.Prelude.{◌≡◌, [], ◌∷◌, ◌+◌, ◌*◌, ◌≤◌, ◌<◌, min, leb, length, drop};
 ghost use Rattle.rules.specs.Limits.{value_width};
 ghost use Rattle.decimal.specs.Decimal.{cap, digits_from, natural_of, positive_of, negative_of};
-ghost use Rattle.decimal.specs.Computed.Forward.{number_until};
+ghost use Rattle.decimal.specs.Computed.Forward.{scan, number_until};
 ghost use Rattle.decimal.specs.Text.{natural_text, signed_text, integer_text, row_text, word_row, word_value, ended, over, room, Wrote};
 
 use rules::Value;
@@ -73,21 +73,40 @@ pub fn read_natural(f: &[u8]) -> Option<usize>
     digits(f)
 }
 
-// The number from `at` up to the byte d, of any length.
+// The digits from `at` up to the byte d, without a look at a leading zero.
+fn scan_digits(s: &[u8], at: usize, d: u8) -> Option<Reached>
+    ensures { result ≡ scan d 0 at (drop at s.now) }
+{
+    let mut n: usize = 0;
+    for i in at..s.len() {
+        let b = s[i];
+        if b == d {
+            return Some(Reached {
+                number: n,
+                next: i + 1,
+            });
+        }
+        if !b.is_ascii_digit() {
+            return None;
+        }
+        n = push_digit(n, usize::from(b - b'0'));
+    }
+    None
+}
+
+// The number from `at` up to the byte d, of any length: digits, at least one, and no leading zero.
 fn long_number(s: &[u8], at: usize, d: u8) -> Option<Reached>
     requires { at < length s.now }
     ensures { result ≡ number_until d at (drop at s.now) }
 {
-    let t = &s[at..];
-    let k = lines::find(t, d);
-    if t.len() <= k {
+    let r = scan_digits(s, at, d)?;
+    if r.next <= at + 1 {
         return None;
     }
-    let number = read_natural(&t[..k])?;
-    Some(Reached {
-        number,
-        next: at + k + 1,
-    })
+    if s[at] == b'0' && at + 2 < r.next {
+        return None;
+    }
+    Some(r)
 }
 
 // The number from `at` up to the byte d. One digit, as most numbers have, is read at once.

@@ -1,32 +1,30 @@
-use Rattle.std.proofs.Common.{◌<◌, ◌≤◌, Some, None, ◌≡◌, ◌∙◌, ap, sym, drop, length, take}
-use Rattle.lines.specs.Lines.{before}
-use Rattle.lines.proofs.PartLaws.{rest}
-use Rattle.decimal.specs.Decimal.{natural_of}
-use Rattle.decimal.proofs.NumberLaws.{until_end, until_none, until_some}
+use Rattle.std.proofs.Common.{arith, ◌≡◌, sym, ◌∙◌, drop, Some}
+use Rattle.decimal.specs.Computed.Forward.{scan}
+use Rattle.decimal.proofs.NumberLaws.{until_bad, until_empty, until_zero, until_plain, until_one}
 use Rattle.decimal.proofs.long_number.Goals as goal
+use Rattle.decimal.proofs.long_number.Goals.{else-s-at-eq48-via-then-s-at-eq48+else-at-r, else-s-at-eq48-via-else-s-at-eq48}
 
-pub returns-then-t-k : goal.returns-then-t-k
-returns-then-t-k c =
+pub returns-in_err-r : goal.returns-in_err-r
+returns-in_err-r c =
     let a = c.args in
-    let t = drop a.at a.s.now in
-    let e = rest a.at a.s.now in
-    let h : length t ≤ before a.d t = rw (← e, ← c.find-k.ensures) c.if-t-k.true in
-    until_end a.d a.at t h
+    c.from_residual.ensures ∙ until_bad a.d a.at a.s.now (sym c.scan_digits.ensures ∙ c.in_err-r.was)
 
-pub returns-in_err-number : goal.returns-in_err-number
-returns-in_err-number c =
+pub returns-then-r-at : goal.returns-then-r-at
+returns-then-r-at c =
     let a = c.args in
-    let t = drop a.at a.s.now in
-    let e = rest a.at a.s.now in
-    let n : natural_of (take (before a.d t) t) ≡ None = rw (← e, ← c.find-k.ensures) (sym c.read_natural.ensures ∙ c.in_err-number.was) in
-    c.from_residual.ensures ∙ until_none a.d a.at t n
+    until_empty a.d a.at a.s.now c.in_ok-r.r (sym c.scan_digits.ensures ∙ c.in_ok-r.was) c.if-r-at.true
+
+pub returns-then-at-r : goal.returns-then-at-r
+returns-then-at-r c =
+    let a = c.args in
+    until_zero a.d a.at a.s.now c.in_ok-r.r (sym c.scan_digits.ensures ∙ c.in_ok-r.was) c.if-s-at-eq48.true c.if-at-r.true
 
 pub returns : goal.returns
 returns c =
     let a = c.args in
-    let t = drop a.at a.s.now in
-    let e = rest a.at a.s.now in
-    let k : c.find-k.result ≡ before a.d t = c.find-k.ensures ∙ ap (before a.d) e in
-    let n : natural_of (take (before a.d t) t) ≡ Some c.in_ok-number.number = rw (← e, ← c.find-k.ensures) (sym c.read_natural.ensures ∙ c.in_ok-number.was) in
-    let h : before a.d t < length t = rw (← e, ← c.find-k.ensures) c.if-t-k.false in
-    rw (k) (until_some a.d a.at c.in_ok-number.number t h n)
+    let r = c.in_ok-r.r in
+    let is : scan a.d 0 a.at (drop a.at a.s.now) ≡ Some r = sym c.scan_digits.ensures ∙ c.in_ok-r.was in
+    sym is ∙ elim c.else-s-at-eq48.branch [
+      | else-s-at-eq48-via-then-s-at-eq48+else-at-r w ↦ until_one a.d a.at a.s.now r is (omega arith) (omega arith)
+      | else-s-at-eq48-via-else-s-at-eq48 w ↦ until_plain a.d a.at a.s.now r is w.if-s-at-eq48.false (omega arith)
+    ]
