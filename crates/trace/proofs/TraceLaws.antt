@@ -21,7 +21,7 @@ use Rattle.lines.proofs.FieldLaws.{up_le, ended_drop, ended_before}
 use Rattle.std.proofs.Common.{Option, Some, None, Result, Ok, Err}
 use Rattle.decimal.specs.Decimal.{natural_of}
 use Rattle.trace.specs.declared.Trace.{Trace}
-use Rattle.trace.specs.Trace.{refusal, too_long, wrong_head, over_limits, wrong_guards, Guards, check_at, last_line, last_number, last_of, trailer_of, check_head, head_of, guards_of, volatiles_of, with_guards, second_of, behind_head, first_head, first_of, behind_trailer, plain_trace_of, events_of, begins_with_v, with_volatiles, third_of, behind_guards, trace_of, meant_volatile, found, head_in}
+use Rattle.trace.specs.Trace.{refusal, too_long, wrong_head, over_limits, wrong_guards, Guards, check_at, last_line, last_number, last_of, trailer_of, check_counts, check_head, head_of, guards_of, volatiles_of, with_guards, second_of, behind_head, first_head, first_of, behind_trailer, plain_trace_of, events_of, begins_with_v, with_volatiles, third_of, behind_guards, trace_of, meant_volatile, found, head_in}
 use Rattle.trace.proofs.VolatileLaws.{volatiles_flags, volatiles_named, any_some, any_none, none_volatile, allowed_with}
 
 pub last_none : (s : List ℕ) → length s ≡ 0 → record { at = 0; number = None } ≡ last_of s
@@ -34,6 +34,12 @@ unfolding last_line
 last_le s = omega (arith, up_le 10 (take (length s - 1) s), length-take (length s - 1) s)
 
 -- ---- the head
+
+pub counts_right : (c : Counts) → allowed full c ≡ true → Some c ≡ check_counts c
+counts_right c a = rw a refl
+
+pub counts_wrong : (c : Counts) → allowed full c ≡ false → None ≡ check_counts c
+counts_wrong c a = rw a refl
 
 -- a right head is allowed by the full limits, and no head names a volatile variable
 pub record Fit (h : Counts) : Type 0 where
@@ -66,6 +72,12 @@ head_fit s h e = by (ltb (before 10 s) (length s)) (eqb (length fs) 4) (eqb (let
     by true true false e = cc
     by true false q e = cc
     by false p q e = cc
+
+pub head_allowed : (s : List ℕ) (h : Counts) → first_head s ≡ Some h → allowed full h ≡ true
+head_allowed s h e = (head_fit s h e).fits
+
+pub head_plain : (s : List ℕ) (h : Counts) → first_head s ≡ Some h → h.volatiles ≡ no_volatiles
+head_plain s h e = (head_fit s h e).plain
 
 -- a line of four fields that begins with an H
 pub head_numbers : (s : List ℕ) → length (split_on 32 s) ≡ 4 → letter (get_or (split_on 32 s) 0 []) ≡ 72
@@ -348,6 +360,20 @@ module _ (m : Limits) (s : List ℕ) where
   -- the same of what stands behind line 2
   pub plain_lies : (t : Trace) → plain_trace_of m s ≡ Ok t → Lies t s
   plain_lies = lies_found (finding_plain m s)
+
+  -- it ends within the bytes that are allowed, and no more variables are declared than there may be, also where nothing is found
+  pub plain_fits : ((t : Trace) → plain_trace_of m s ≡ Ok t → t.to ≤ m.bytes) × ((head_in (plain_trace_of m s)).variables ≤ full.variables)
+  plain_fits = by (finding_plain m s)
+    where
+      by : {r : Result Trace Refusal} → Finding m s false r → ((t : Trace) → r ≡ Ok t → t.to ≤ m.bytes) × ((head_in r).variables ≤ full.variables)
+      by (denied n line o f) = (λ t q. cc, omega arith)
+      by (over h f k) = (λ t q. cc, omega arith)
+      by (given h g a e f l k few) = (
+        λ t q.
+            let z : record { head = h; guards = g; from = a; to = e } ≡ t = cc in
+            omega (arith, ap (λ (t : Trace). t.to) z, trailer_le s e k, few),
+        f.few,
+      )
 
 -- ---- the `V` line
 

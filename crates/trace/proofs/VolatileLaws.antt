@@ -1,4 +1,4 @@
--- Laws of the `V` line: what a right one names, and counts with these volatile variables.
+-- Laws of the `V` line: the walk along its numbers, what a right one names, and counts with these volatile variables.
 use mathlib.Core.Path.{◌≡◌, refl, sym, ap, ◌∙◌, subst}
 use mathlib.Core.Bool.{Bool, true, false, not, cond, ◌&&◌}
 use mathlib.Core.List.{List, [], ◌∷◌}
@@ -7,20 +7,30 @@ use Prim.Native.Nat.{ℕ, zero, suc, ◌≤◌, ◌<◌, ◌+◌}
 use native.Mathlib.Omega.{arith}
 use borrow.Author.Tests.{le-leb, leb-true, ltb-true}
 use lib.Dec.{eqb, ltb, leb}
-use lib.ListN.{length, get_or, drop, set, length-set, get_or-replicate, get_or-eq_default}
+use lib.ListN.{length, get_or, drop, set, length-set, length-drop, get_or-replicate, get_or-eq_default}
 use lib.Seq.{get_or-set_same, get_or-set_other}
 use Rattle.std.proofs.Common.{Option, Some, None}
 use Rattle.rules.specs.declared.Counts.{Counts}
 use Rattle.rules.specs.Limits.{Limits, full, no_volatiles, with_flags, volatile, any_volatile, stray_volatile, allowed}
 use Rattle.rules.proofs.Laws.{some_has, some_none, none_some}
 use Rattle.rules.proofs.Bounds.{declares}
-use Rattle.lines.specs.Lines.{letter}
+use Rattle.lines.specs.Lines.{split_on, letter}
 use Rattle.lines.proofs.PartLaws.{lt_or_le}
+use Rattle.lines.proofs.FieldLaws.{Along, along_more, split_some}
 use Rattle.decimal.specs.Decimal.{natural_of}
 use Rattle.trace.specs.Trace.{number_within, with_number, volatiles_from, volatiles_of}
 
--- a number of the line is a declared variable
-number_below : (low high : ℕ) (x : Option ℕ) (n : ℕ) → number_within low high x ≡ Some n → n < high
+-- a walk along the fields is at one of them, and at the last where it is at the end
+pub along_at : (s : List ℕ) (i e : ℕ) → Along s i e → i < length (split_on 32 s)
+along_at s i e w =
+    let f = split_some 32 (drop w.start s) in
+    omega (arith, ap length (w.fields ∙ f.2), length-drop i (split_on 32 s))
+
+pub along_last : (s : List ℕ) (i e : ℕ) → Along s i e → length s ≤ e → length (split_on 32 s) ≤ i + 1
+along_last s i e w h = ⊎_elim (λ l. let k = along_more s i e w l in absurd (omega arith)) (λ l. l) (lt_or_le (i + 1) (length (split_on 32 s)))
+
+-- a number that is taken is one of its kind
+pub number_below : (low high : ℕ) (x : Option ℕ) (n : ℕ) → number_within low high x ≡ Some n → n < high
 number_below low high None n h = cc
 number_below low high (Some k) n h = by (leb low k) (ltb k high) refl h
   where
@@ -28,6 +38,10 @@ number_below low high (Some k) n h = by (leb low k) (ltb k high) refl h
     by true true e h = let z : k ≡ n = cc in omega (arith, z, ltb-true k high e)
     by true false e h = cc
     by false q e h = cc
+
+-- a number of the line is a declared variable
+pub rising_below : (v low : ℕ) (x : Option ℕ) (n : ℕ) → number_within low v x ≡ Some n → n < v
+rising_below v low x n h = number_below low v x n h
 
 -- ---- the flags: one for each variable that a trace may have, none of them for one that is not declared
 
@@ -51,7 +65,7 @@ flags_from : (v low : ℕ) (g : List Bool) (fs : List (List ℕ)) → Flags v g 
 unfolding volatiles_from
 flags_from v low g [] w r e = let q : g ≡ r = cc in subst (Flags v) q w
 flags_from v low g (f ∷ fs) w r e =
-    by (number_within low v (natural_of f)) (number_below low v (natural_of f)) (λ n h. flags_from v (n + 1) (set g n true) fs (flags_set v n g h w) r) e
+    by (number_within low v (natural_of f)) (rising_below v low (natural_of f)) (λ n h. flags_from v (n + 1) (set g n true) fs (flags_set v n g h w) r) e
   where
     by : (x : Option ℕ) → ((n : ℕ) → x ≡ Some n → n < v) → ((n : ℕ) → n < v → volatiles_from v (n + 1) (set g n true) fs ≡ Some r → Flags v r)
         → with_number x (λ n. volatiles_from v (n + 1) (set g n true) fs) ≡ Some r → Flags v r
@@ -94,7 +108,7 @@ named_some : (v : ℕ) → v ≤ full.variables → (fs : List (List ℕ)) → 1
 unfolding volatiles_from
 named_some v l [] h r e = absurd (omega arith)
 named_some v l (f ∷ []) h r e = absurd (omega arith)
-named_some v l (f ∷ f' ∷ fs) h r e = by (number_within 0 v (natural_of f')) (number_below 0 v (natural_of f')) e
+named_some v l (f ∷ f' ∷ fs) h r e = by (number_within 0 v (natural_of f')) (rising_below v 0 (natural_of f')) e
   where
     by : (x : Option ℕ) → ((n : ℕ) → x ≡ Some n → n < v) → with_number x (λ n. volatiles_from v (n + 1) (set no_volatiles n true) fs) ≡ Some r → Named r
     by None b e = cc
