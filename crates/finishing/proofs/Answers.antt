@@ -7,8 +7,8 @@ use mathlib.Core.List.{List, [], ◌∷◌, map, reverse, reverse-reverse}
 use mathlib.Core.Option.{some}
 use Rattle.std.specs.List.{zip}
 use Rattle.std.specs.Prelude.{Result, Ok, Err}
-use lib.IntN.{ℤ, pos}
-use lib.ListN.{length, take, drop, replicate, length-map, length-replicate, length-reverse}
+use lib.IntN.{ℤ}
+use lib.ListN.{length, take, drop, length-map, length-reverse}
 use lib.Seq.{take_at}
 use borrow.Author.Tests.{lt-ltb, le-ltb}
 use Rattle.rules.specs.declared.Counts.{Counts}
@@ -239,20 +239,20 @@ module _ (m : Limits) (u : UpToFull m) (s : List ℕ) where
           let xs : over (map value_in (tail_of m s)) values ≡ values'' = sym (ap (λ (z : Filled). z.values) e ∙ ap (λ (l : List ℤ). over l values) values_are) in
           subst (λ (X : Type 0). X) (λ i. Gives m s whats values (Ok (record { events = sym n i; line = sym at i })) (ws i) (xs i)) (gives_all whats values (verdict_given a tails (min (length whats) (length values)) places))
 
-  -- ---- from rows of zeros that have room for every tail
+  -- ---- from rows that have room for every tail
 
   abbrev v : Marked
   v = tail_verdict m s 2256
 
-  places : min (length (replicate {A = ℕ} 2256 0)) (length (replicate 2256 (pos 0))) ≡ 2256
-  places = omega (arith, length-replicate {A = ℕ} 2256 0, length-replicate 2256 (pos 0))
+  places : (ws : List ℕ) (xs : List ℤ) → length ws ≡ 2256 → length xs ≡ 2256 → min (length ws) (length xs) ≡ 2256
+  places ws xs x y = omega (arith, x, y)
 
-  module _ {ws : List ℕ} {xs : List ℤ} where
-    answer : {made : Result Tail Refusal} → Gives m s (replicate 2256 0) (replicate 2256 (pos 0)) made ws xs → made ≡ answer_of v (length tail_events) line
-    answer g = g.answers ∙ ap (λ (p : ℕ). answer_of (tail_verdict m s p) (length tail_events) line) places
+  module _ {ws₀ : List ℕ} {xs₀ : List ℤ} {ws : List ℕ} {xs : List ℤ} (x : length ws₀ ≡ 2256) (y : length xs₀ ≡ 2256) where
+    answer : {made : Result Tail Refusal} → Gives m s ws₀ xs₀ made ws xs → made ≡ answer_of v (length tail_events) line
+    answer g = g.answers ∙ ap (λ (p : ℕ). answer_of (tail_verdict m s p) (length tail_events) line) (places ws₀ xs₀ x y)
 
     -- a refusal
-    module _ {r : Refusal} (g : Gives m s (replicate 2256 0) (replicate 2256 (pos 0)) (Err r) ws xs) where
+    module _ {r : Refusal} (g : Gives m s ws₀ xs₀ (Err r) ws xs) where
       pub is_refused : tail_verdict m s 2256 ≡ refused r.number r.line
       is_refused = by v refl (answer g)
         where
@@ -267,7 +267,7 @@ module _ (m : Limits) (u : UpToFull m) (s : List ℕ) where
       still_refused whats values = gives_none whats values r.number r.line (verdict_same r.number r.line is_refused (min (length whats) (length values)))
 
     -- a tail
-    module _ {tail : Tail} (g : Gives m s (replicate 2256 0) (replicate 2256 (pos 0)) (Ok tail) ws xs) where
+    module _ {tail : Tail} (g : Gives m s ws₀ xs₀ (Ok tail) ws xs) where
       pub record Made : Type 0 where
         pub accepts : tail_verdict m s 2256 ≡ accepted
         pub is : tail ≡ record { events = length (tail_of m s); line = line_after (head_in (trace_of m s)) (length (past_of m s)) }
@@ -292,18 +292,18 @@ module _ (m : Limits) (u : UpToFull m) (s : List ℕ) where
       front_is : {X : Type 0} (f : Event → X) (row₀ row : List X) → row ≡ over (map f tail_events) row₀ → take tail.events row ≡ map f tail_events
       front_is f row₀ row r = ap (take tail.events) r ∙ take_at (map f tail_events) (drop (length (map f tail_events)) row₀) tail.events (length-map tail_events f ∙ sym many)
 
-      abbrev whats_filled : ws ≡ over (map packed tail_events) (replicate 2256 0)
-      whats_filled = g.fills ∙ ap (λ (p : ℕ). on_marked (tail_verdict m s p) (over (map packed tail_events) (replicate 2256 0)) (replicate 2256 0)) places ∙ ap (λ (z : Marked). on_marked z (over (map packed tail_events) (replicate 2256 0)) (replicate 2256 0)) is_made.accepts
+      abbrev whats_filled : ws ≡ over (map packed tail_events) ws₀
+      whats_filled = g.fills ∙ ap (λ (p : ℕ). on_marked (tail_verdict m s p) (over (map packed tail_events) ws₀) ws₀) (places ws₀ xs₀ x y) ∙ ap (λ (z : Marked). on_marked z (over (map packed tail_events) ws₀) ws₀) is_made.accepts
 
-      abbrev values_filled : xs ≡ over (map value_in tail_events) (replicate 2256 (pos 0))
-      values_filled = g.beside ∙ ap (λ (p : ℕ). on_marked (tail_verdict m s p) (over (map value_in tail_events) (replicate 2256 (pos 0))) (replicate 2256 (pos 0))) places ∙ ap (λ (z : Marked). on_marked z (over (map value_in tail_events) (replicate 2256 (pos 0))) (replicate 2256 (pos 0))) is_made.accepts
+      abbrev values_filled : xs ≡ over (map value_in tail_events) xs₀
+      values_filled = g.beside ∙ ap (λ (p : ℕ). on_marked (tail_verdict m s p) (over (map value_in tail_events) xs₀) xs₀) (places ws₀ xs₀ x y) ∙ ap (λ (z : Marked). on_marked z (over (map value_in tail_events) xs₀) xs₀) is_made.accepts
 
       -- the first of them are the records and the values of the tail
       pub whats_front : take tail.events ws ≡ map packed (tail_of m s)
-      whats_front = front_is packed (replicate 2256 0) ws whats_filled
+      whats_front = front_is packed ws₀ ws whats_filled
 
       pub values_front : take tail.events xs ≡ map value_in (tail_of m s)
-      values_front = front_is value_in (replicate 2256 (pos 0)) xs values_filled
+      values_front = front_is value_in xs₀ xs values_filled
 
       -- both have enough
       pub copied : (whats : List ℕ) (values : List ℤ) → tail.events ≤ length whats → tail.events ≤ length values → Gives m s whats values (Ok tail) (onto (take tail.events ws) whats) (onto (take tail.events xs) values)

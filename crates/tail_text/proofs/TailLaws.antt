@@ -7,10 +7,10 @@ use mathlib.Core.Bool.{Bool, true, false, not, ◌&&◌, cond}
 use mathlib.Core.List.{List, [], ◌∷◌, ◌++◌, map, reverse_aux}
 use mathlib.Core.Option.{some}
 use lib.Dec.{T, eqb}
-use lib.IntN.{ℤ, pos}
+use lib.IntN.{ℤ}
 use Rattle.std.specs.List.{zip}
 use Rattle.std.specs.Prelude.{Ok, Err}
-use lib.ListN.{length, replicate, take, length-append}
+use lib.ListN.{length, take, length-append}
 use Rattle.rules.specs.declared.Counts.{Counts}
 use Rattle.rules.specs.declared.Event.{Event}
 use Rattle.rules.specs.Events.{F, letter, place, value, is, on_lock, subject}
@@ -122,21 +122,21 @@ module _ (m : Limits) (u : UpToFull m) (s : List ℕ) where
       by accepted q = omega (arith, ap length (text_is accepted q), tail_most (verdict_tailed m u s 2256 q))
       by (refused number line) q = omega (arith, ap length (text_is (refused number line) q), row_line_short (114 ∷ 101 ∷ 102 ∷ 117 ∷ 115 ∷ 101 ∷ 100 ∷ []) (line ∷ number ∷ []))
 
-  -- ---- what is written of it, from rows of zeros that have room for every tail, into an output that has
+  -- ---- what is written of it, from rows that have room for every tail, into an output that has
 
-  module _ {ws : List ℕ} {xs : List ℤ} (o : List ℕ) (e : tail_output ≤ length o) where
-    pub refused_text : {r : Refusal} → Gives m s (replicate 2256 0) (replicate 2256 (pos 0)) (Err r) ws xs → {k : ℕ} {p : List ℕ} → Wrote (room listing.line_room (ended (refused_line r.line r.number))) o k p → Wrote (room tail_output (tail_text m s)) o k p
-    refused_text {r} g {k} {p} w = wrote_line listing.line_room tail_output (ended (refused_line r.line r.number)) (tail_text m s) o p k (omega arith) e (sym (text_is (refused r.number r.line) (is_refused m u s g))) w
+  module _ {ws₀ : List ℕ} {xs₀ : List ℤ} {ws : List ℕ} {xs : List ℤ} (x : length ws₀ ≡ 2256) (y : length xs₀ ≡ 2256) (o : List ℕ) (e : tail_output ≤ length o) where
+    pub refused_text : {r : Refusal} → Gives m s ws₀ xs₀ (Err r) ws xs → {k : ℕ} {p : List ℕ} → Wrote (room listing.line_room (ended (refused_line r.line r.number))) o k p → Wrote (room tail_output (tail_text m s)) o k p
+    refused_text {r} g {k} {p} w = wrote_line listing.line_room tail_output (ended (refused_line r.line r.number)) (tail_text m s) o p k (omega arith) e (sym (text_is (refused r.number r.line) (is_refused m u s x y g))) w
 
-    module _ {tail : Tail} (g : Gives m s (replicate 2256 0) (replicate 2256 (pos 0)) (Ok tail) ws xs) where
+    module _ {tail : Tail} (g : Gives m s ws₀ xs₀ (Ok tail) ws xs) where
       abbrev tailed : Tailed m u s
-      tailed = verdict_tailed m u s 2256 (is_made m u s g).accepts
+      tailed = verdict_tailed m u s 2256 (is_made m u s x y g).accepts
 
       lines_are : records_text (zip (take tail.events ws) (take tail.events xs)) ≡ events_text (tail_of m s)
-      lines_are = ap₂ (λ (ws : List ℕ) (xs : List ℤ). records_text (zip ws xs)) (whats_front m u s g) (values_front m u s g) ∙ tail_lines tailed
+      lines_are = ap₂ (λ (ws : List ℕ) (xs : List ℤ). records_text (zip ws xs)) (whats_front m u s x y g) (values_front m u s x y g) ∙ tail_lines tailed
 
       pub given_room : length (records_text (zip (take tail.events ws) (take tail.events xs))) + line_room ≤ length o
       given_room = omega (arith, ap length lines_are, tail_most tailed, e)
 
       pub given_text : {k : ℕ} {p : List ℕ} → Wrote (λ _. records_text (zip (take tail.events ws) (take tail.events xs))) o k p → Wrote (room tail_output (tail_text m s)) o k p
-      given_text {k} {p} w = wrote_like (λ _. records_text (zip (take tail.events ws) (take tail.events xs))) (room tail_output (tail_text m s)) o p k (lines_are ∙ sym (text_is accepted (is_made m u s g).accepts) ∙ room_yes tail_output (tail_text m s) o e) w
+      given_text {k} {p} w = wrote_like (λ _. records_text (zip (take tail.events ws) (take tail.events xs))) (room tail_output (tail_text m s)) o p k (lines_are ∙ sym (text_is accepted (is_made m u s x y g).accepts) ∙ room_yes tail_output (tail_text m s) o e) w
