@@ -2,11 +2,11 @@
 use Prim.Native.Nat.{ℕ, suc, ◌+◌, ◌≤◌, ◌<◌}
 use native.Mathlib.Omega.{arith}
 use mathlib.Core.Path.{◌≡◌, refl, sym, ap, ◌∙◌, subst}
-use mathlib.Core.Bool.{false, ◌&&◌}
+use mathlib.Core.Bool.{Bool, true, false, cond, ◌&&◌}
 use mathlib.Core.List.{List, [], ◌∷◌, ◌++◌, map, map-append, append_assoc}
 use lib.Dec.{ltb}
 use lib.IntN.{ℤ}
-use lib.ListN.{length, set, replicate, length-append}
+use lib.ListN.{length, set, replicate, length-set, length-append}
 use lib.Seq.{set-append_seam}
 use Rattle.std.proofs.lemmas.List.{replicate-append-replicate}
 use borrow.Author.Tests.{lt-ltb}
@@ -23,6 +23,27 @@ unfolding added
 added_append [] fs r = refl
 added_append (e ∷ es) fs r = added_append es fs (added_one e r)
 
+-- the rows keep their lengths
+pub record Long (r s : Filled) : Type 0 where
+  pub whats : length s.whats ≡ length r.whats
+  pub values : length s.values ≡ length r.values
+
+one_long : (e : Entry) (r : Filled) → Long r (added_one e r)
+unfolding added_one
+one_long e r = go (ltb r.count (length r.whats) && ltb r.count (length r.values))
+  where
+    go : (b : Bool) → Long r (cond b (filled (suc r.count) (set r.whats r.count e.what) (set r.values r.count e.value)) r)
+    go true = record { whats = length-set r.whats r.count e.what; values = length-set r.values r.count e.value }
+    go false = record { whats = refl; values = refl }
+
+pub added_long : (es : List Entry) (r : Filled) → Long r (added es r)
+unfolding added
+added_long [] r = record { whats = refl; values = refl }
+added_long (e ∷ es) r =
+    let a = one_long e r in
+    let b = added_long es (added_one e r) in
+    record { whats = b.whats ∙ a.whats; values = b.values ∙ a.values }
+
 -- ---- of the functions
 
 pub adds_none : (o : Out) → Adds [] o o
@@ -35,6 +56,12 @@ adds_then {es = es} {fs = fs} {o = o} a b = record {
   same_whats = b.same_whats ∙ a.same_whats;
   same_values = b.same_values ∙ a.same_values;
 }
+
+-- both rows are as long as before
+pub adds_long : {es : List Entry} {o o' : Out} → Adds es o o' → (length o'.whats.now ≡ length o.whats.now) × (length o'.values.now ≡ length o.values.now)
+adds_long {es = es} {o = o} a =
+    let l = added_long es (filled_in o) in
+    (ap (λ (q : Filled). length q.whats) a.puts ∙ l.whats, ap (λ (q : Filled). length q.values) a.puts ∙ l.values)
 
 -- another way to say which entries
 pub adds_same : {es fs : List Entry} {o o' : Out} → es ≡ fs → Adds es o o' → Adds fs o o'

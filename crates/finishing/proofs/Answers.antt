@@ -7,10 +7,11 @@ use mathlib.Core.List.{List, [], ◌∷◌, map, reverse, reverse-reverse}
 use mathlib.Core.Option.{some}
 use Rattle.std.specs.List.{zip}
 use Rattle.std.specs.Prelude.{Result, Ok, Err}
+use lib.Dec.{ltb}
 use lib.IntN.{ℤ}
-use lib.ListN.{length, take, drop, length-map, length-reverse}
+use lib.ListN.{length, take, drop, length-map, length-append, length-reverse}
 use lib.Seq.{take_at}
-use borrow.Author.Tests.{lt-ltb, le-ltb}
+use borrow.Author.Tests.{lt-ltb, le-ltb, ltb-true, ltb-false}
 use Rattle.rules.specs.declared.Counts.{Counts}
 use Rattle.rules.specs.declared.Event.{Event}
 use Rattle.rules.specs.Events.{C, F, Y, among, letter, is}
@@ -22,13 +23,14 @@ use Rattle.rules.proofs.Bounds.{allowed_bounds, allowed_full}
 use Rattle.rules.proofs.Laws.{or_false_left, or_false_right}
 use Rattle.rules.proofs.Ten.{ten_letters_law}
 use Rattle.decimal.specs.Text.{over}
+use Rattle.decimal.proofs.TextLaws.{over_length}
 use Rattle.records.specs.Records.{packed, value_in, onto}
 use Rattle.records.proofs.Copies.{onto_all}
 use Rattle.records.proofs.RecordLaws.{holds}
 use Rattle.trace.specs.Trace.{head_in, trace_of}
 use Rattle.marking.specs.declared.Marking.{Marking}
-use Rattle.marking.specs.Marking.{marked_of, past_of, events_in, accepted_of, Marks}
-use Rattle.marking.proofs.Whole.{head_allowed, past_clean, events_few, events_declared}
+use Rattle.marking.specs.Marking.{marked_of, past_of, events_in, read_in, accepted_of, Marks}
+use Rattle.marking.proofs.Whole.{read_is, head_allowed, past_clean, events_few, events_declared}
 use Rattle.marking.proofs.Handed.{marking_is, head_is, count_is, rows_hold, front_whats, front_values, is_accepted}
 use Rattle.tails.specs.Tails.{Move, moves_of, tail_after}
 use Rattle.tails.proofs.Room.{tail_room}
@@ -190,6 +192,16 @@ module _ (m : Limits) (u : UpToFull m) (s : List ℕ) where
           variables = omega (arith, b, ap (λ (c : Counts). c.variables) q);
         }
 
+    -- the rows keep their lengths
+    long : {X : Type 0} (f : Event → X) (row row' : List X) → row' ≡ over (map f (read_in m s)) row → length row ≡ 2000 → 2000 ≡ length row'
+    long f row row' q x = sym (ap length q ∙ over_length (map f (read_in m s)) row (omega (arith, x, length-map (read_in m s) f, ap length (read_is m u s a), events_few m u s)) ∙ x)
+
+    pub what_long : length what₀ ≡ 2000 → 2000 ≡ length what'
+    what_long x = long packed what₀ what' k.keeps x
+
+    pub value_long : length value₀ ≡ 2000 → 2000 ≡ length value'
+    value_long x = long value_in value₀ value' k.beside x
+
     -- there is no tail, or one is made
     pub gives_tailless : (any_volatile marking.head || any_new (whats_of (zip (take marking.events what') (take marking.events value')))) ≡ true → (whats : List ℕ) (values : List ℤ) → Gives m s whats values (Err (record { number = 24; line = 0 })) whats values
     gives_tailless q whats values = gives_none whats values 24 0 (verdict_tailless a (min (length whats) (length values)) (sym tailless_is ∙ q))
@@ -285,6 +297,9 @@ module _ (m : Limits) (u : UpToFull m) (s : List ℕ) where
       abbrev t : Tailed
       t = verdict_tailed 2256 is_made.accepts
 
+      pub made_few : tail.events ≤ 2256
+      made_few = omega (arith, many, tail_few t.accepts t.tails)
+
       -- one of the rows has too few places
       pub too_few : (whats : List ℕ) (values : List ℤ) → min (length whats) (length values) < tail.events → Gives m s whats values (Err (record { number = 24; line = 0 })) whats values
       too_few whats values b = gives_none whats values 24 0 (verdict_short t.accepts t.tails (min (length whats) (length values)) (omega (arith, b, many)))
@@ -305,9 +320,30 @@ module _ (m : Limits) (u : UpToFull m) (s : List ℕ) where
       pub values_front : take tail.events xs ≡ map value_in (tail_of m s)
       values_front = front_is value_in xs₀ xs values_filled
 
+      front_low : {X : Type 0} (f : Event → X) (row₀ row : List X) → row ≡ over (map f tail_events) row₀ → tail.events ≤ length row
+      front_low f row₀ row r = omega (arith, many, length-map tail_events f, ap length r, length-append (map f tail_events) (drop (length (map f tail_events)) row₀))
+
+      pub whats_low : tail.events ≤ length ws
+      whats_low = front_low packed ws₀ ws whats_filled
+
+      pub values_low : tail.events ≤ length xs
+      values_low = front_low value_in xs₀ xs values_filled
+
       -- both have enough
       pub copied : (whats : List ℕ) (values : List ℤ) → tail.events ≤ length whats → tail.events ≤ length values → Gives m s whats values (Ok tail) (onto (take tail.events ws) whats) (onto (take tail.events xs) values)
       copied whats values b c =
           let ew : over (map packed tail_events) whats ≡ onto (take tail.events ws) whats = sym (ap (λ (l : List ℕ). onto l whats) whats_front ∙ onto_all (map packed tail_events) whats (omega (arith, b, many, length-map tail_events packed))) in
           let ex : over (map value_in tail_events) values ≡ onto (take tail.events xs) values = sym (ap (λ (l : List ℤ). onto l values) values_front ∙ onto_all (map value_in tail_events) values (omega (arith, c, many, length-map tail_events value_in))) in
           subst (λ (X : Type 0). X) (λ i. Gives m s whats values (Ok (sym is_made.is i)) (ew i) (ex i)) (gives_all whats values (verdict_given t.accepts t.tails (min (length whats) (length values)) (omega (arith, b, c, many))))
+
+-- ---- which row is too short
+
+pub less_either : (a b n : ℕ) → (ltb a n || ltb b n) ≡ true → min a b < n
+less_either a b n q = by (ltb a n) refl q
+  where
+    by : (x : Bool) → ltb a n ≡ x → (x || ltb b n) ≡ true → min a b < n
+    by true p r = omega (arith, ltb-true a n p)
+    by false p r = omega (arith, ltb-true b n r)
+
+pub less_neither : (a b n : ℕ) → (ltb a n || ltb b n) ≡ false → (n ≤ a) × (n ≤ b)
+less_neither a b n q = (ltb-false a n (or_false_left (ltb a n) (ltb b n) q), ltb-false b n (or_false_right (ltb a n) (ltb b n) q))
