@@ -18,9 +18,9 @@ returns-in_err-tail c =
 pub returns-then-whats-n : goal.returns-then-whats-n
 returns-then-whats-n c =
     let a = c.args in
-    too_few (limits_of a.course) (up_to_full a.course) a.bytes.now (length-replicate {A = ℕ} 2256 0) (length-replicate 2256 (pos 0)) c.in_ok-tail.ensures a.whats.now a.values.now (omega arith)
+    too_few (limits_of a.course) (up_to_full a.course) a.bytes.now (length-replicate {A = ℕ} 2256 0) (length-replicate 2256 (pos 0)) c.in_ok-tail.ensures a.whats.now a.values.now (grind arith)
 
 pub returns : goal.returns
 returns c =
     let a = c.args in
-    rw (c.copy_row.ensures, c.copy_row-2.ensures) (copied (limits_of a.course) (up_to_full a.course) a.bytes.now (length-replicate {A = ℕ} 2256 0) (length-replicate 2256 (pos 0)) c.in_ok-tail.ensures a.whats.now a.values.now c.if-whats-n.false c.if-values-n.false)
+    rw (c.copy_row.ensures, c.copy_row-2.ensures) (copied (limits_of a.course) (up_to_full a.course) a.bytes.now (length-replicate {A = ℕ} 2256 0) (length-replicate 2256 (pos 0)) c.in_ok-tail.ensures a.whats.now a.values.now (grind arith) (grind arith))
