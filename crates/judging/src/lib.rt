@@ -3,7 +3,7 @@
 // the state after the event; those checks are in specs/Computed/Leads.antt, proofs/Waits.antt and proofs/Leads.antt.
 #![tactic(auto)]
 
-ghost use Rattle.std.specs.Prelude.{◌≡◌};
+ghost use Rattle.std.specs.Prelude.{◌≡◌, ◌<◌, [], get_or};
 ghost use Rattle.rules.specs.Events.{A as Assign, B, C, F, K, L, N, P, R, S, W, Y};
 ghost use Rattle.state.specs.State.{no_slot, no_hold, no_wait, depth_of, remembered_of, notified_of};
 ghost use Rattle.state.specs.Step.{pushed, popped, next_cell};
@@ -21,6 +21,7 @@ ghost use Rattle.judging.specs.Computed.Checks.{
   notify_checks,
   prescient_store_checks,
   prescient_assign_checks,
+  table,
   first_of,
 };
 ghost use Rattle.judging.specs.Computed.Leads.{is_waiting, is_barred, is_untold, ahead_rule, barred_rule, is_access, lead_checks, first_lead, lead_rule, bars_use, bars_write, bars_event};
@@ -302,6 +303,14 @@ const ROWS: [[u8; 5]; 13] = [
     [12, 0, 0, 0, 0],
     [11, 13, 0, 0, 0],
 ];
+
+// The row at a place of the table.
+fn row_at(i: usize) -> [u8; 5]
+    requires { i < 13 }
+    ensures { result ≡ get_or table i [] }
+{
+    ROWS[i]
+}
 
 // The number of a row at its first broken check, if one is.
 fn first_of(b: Checks, row: [u8; 5]) -> Option<u8>
@@ -687,7 +696,7 @@ fn back(w: Waiting, l: usize) -> Waiting
 pub fn use_rule(c: Cell, locked: usize, x: Value) -> Option<u8>
     ensures { result ≡ use_rule c locked x }
 {
-    first_of(use_checks(c, locked, x), ROWS[0])
+    first_of(use_checks(c, locked, x), row_at(0))
 }
 
 // U, A, B: the cell alone.
@@ -701,11 +710,11 @@ pub fn cell_turn(c: Cell, locked: usize, k: u8, x: Value, p: usize) -> CellTurn
             cell: used(c),
         },
         b'A' => CellTurn {
-            rule: first_of(assign_checks(c), ROWS[1]),
+            rule: first_of(assign_checks(c), row_at(1)),
             cell: assigned(c, x, p),
         },
         b'B' => CellTurn {
-            rule: first_of(prescient_assign_checks(c, x), ROWS[9]),
+            rule: first_of(prescient_assign_checks(c, x), row_at(9)),
             cell: prescient_assigned(c, x, p),
         },
         _ => CellTurn {
@@ -731,12 +740,12 @@ pub fn reads_turn(
     let s = oldest(c.reads, front);
     match k {
         b'L' => ReadsTurn {
-            rule: first_of(load_checks(c, s, x), ROWS[2]),
+            rule: first_of(load_checks(c, s, x), row_at(2)),
             cell: loaded(c, s, x, p),
             slot: behind,
         },
         b'R' => ReadsTurn {
-            rule: first_of(read_checks(c, main, x), ROWS[4]),
+            rule: first_of(read_checks(c, main, x), row_at(4)),
             cell: has_read(c, s, x, p),
             slot: Slot {
                 value: x,
@@ -773,12 +782,12 @@ pub fn stores_turn(
     };
     match k {
         b'W' => {
-            turn.rule = first_of(write_checks(c, oldest(c.stores, front), x), ROWS[5]);
+            turn.rule = first_of(write_checks(c, oldest(c.stores, front), x), row_at(5));
             turn.cell = has_written(c, x, p);
             turn.main = Main { value: x };
         }
         b'S' => {
-            turn.rule = first_of(store_checks(c, locked, x), ROWS[3]);
+            turn.rule = first_of(store_checks(c, locked, x), row_at(3));
             turn.cell = stored(c, x, p);
             turn.slot = Slot {
                 value: x,
@@ -786,7 +795,7 @@ pub fn stores_turn(
             };
         }
         b'P' => {
-            turn.rule = first_of(prescient_store_checks(c), ROWS[8]);
+            turn.rule = first_of(prescient_store_checks(c), row_at(8));
             turn.cell = prescient_stored(c, x, p);
             turn.slot = Slot {
                 value: x,
@@ -813,12 +822,12 @@ pub fn lock_turn(
 {
     match k {
         b'K' => LockTurn {
-            rule: first_of(lock_checks(a, threads, any, t), ROWS[6]),
+            rule: first_of(lock_checks(a, threads, any, t), row_at(6)),
             hold: taken(a, t),
             locked: p,
         },
         b'N' => LockTurn {
-            rule: first_of(unlock_checks(a, any, t), ROWS[7]),
+            rule: first_of(unlock_checks(a, any, t), row_at(7)),
             hold: left(a, t),
             locked,
         },
@@ -853,18 +862,18 @@ pub fn wait_turn(
     };
     match k {
         b'C' => {
-            turn.rule = first_of(lock_checks(a, threads, any, t), ROWS[12]);
+            turn.rule = first_of(lock_checks(a, threads, any, t), row_at(12));
             turn.hold = taken_again(a, w, t);
             turn.wait = back(w, l);
             turn.locked = p;
         }
         b'Y' => {
-            turn.rule = first_of(unlock_checks(a, any, t), ROWS[10]);
+            turn.rule = first_of(unlock_checks(a, any, t), row_at(10));
             turn.hold = given_up(a, t);
             turn.wait = waiting(w, a, l, t);
         }
         b'F' => {
-            turn.rule = first_of(notify_checks(a, t), ROWS[11]);
+            turn.rule = first_of(notify_checks(a, t), row_at(11));
             turn.wait = notified(w, l);
         }
         _ => {}

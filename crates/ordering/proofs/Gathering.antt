@@ -10,6 +10,18 @@ use lib.Seq.{take-suc, set_split, take-append_seam, drop-append-add, drop-drop, 
 use borrow.Author.Tests.{eq-eqb, ne_eqb}
 use Rattle.ordering.specs.Computed.Parts.{unless_zero, nonzero, Put}
 
+pub put_none : (list : List ℕ) (c x : ℕ) → x ≡ 0 → Put (unless_zero x) list c c list
+unfolding unless_zero
+put_none list c x z = rw (eq-eqb x 0 z) (record { count = omega arith; lists = sym (take-append-drop c list) })
+
+pub one_room : (n c x : ℕ) → (x ≡ 0 → ⊥) → c + length (unless_zero x) ≤ n → c < n
+unfolding unless_zero
+one_room n c x z h = let h' : c + 1 ≤ n = rw (ne_eqb x 0 z) at h in omega (arith, h')
+
+pub put_one : (list : List ℕ) (c x : ℕ) → (x ≡ 0 → ⊥) → c < length list → Put (unless_zero x) list c (c + 1) (set list c x)
+unfolding unless_zero
+put_one list c x z h = rw (ne_eqb x 0 z) (record { count = refl; lists = set_split list c x h ∙ ap (λ j. take c list ++ (x ∷ drop j list)) (sym (add-one c)) })
+
 non_append : (xs ys : List ℕ) → nonzero (xs ++ ys) ≡ nonzero xs ++ nonzero ys
 unfolding nonzero
 non_append [] ys = refl

@@ -2,9 +2,13 @@
 use Prim.Native.Nat.{ℕ, zero, suc, ◌+◌, ◌-◌, ◌≤◌, ◌<◌}
 use native.Mathlib.Omega.{arith}
 use mathlib.Core.Path.{◌≡◌, refl, sym, ap, ap₂, ◌∙◌}
+use mathlib.Core.Bool.{Bool, true, false}
+use lib.Dec.{eqb}
+use lib.Seq.{get_or-set_same, get_or-set_other}
+use borrow.Author.Tests.{eqb-true, eqb-false}
 use mathlib.Core.List.{List, [], ◌∷◌, ◌++◌, append_assoc, append-nil}
 use native.Mathlib.Numerals.{add-one}
-use lib.ListN.{length, get_or, replicate}
+use lib.ListN.{length, get_or, set, replicate}
 use Rattle.rules.specs.Memories.{from, below, each}
 
 module _ {X : Type 0} (f : ℕ → X) where
@@ -47,6 +51,14 @@ from_all f x i zero e = refl
 from_all f x i (suc n) e = rw (e i, from_all f x (suc i) n e) refl
 
 -- ---- a list filled place by place
+
+pub fill_more : {X : Type 0} (f : ℕ → X) (d : X) (l : List X) (i : ℕ) (x : X) → i < length l → ((j : ℕ) → j < i → get_or l j d ≡ f j) → x ≡ f i
+    → (j : ℕ) → j < i + 1 → get_or (set l i x) j d ≡ f j
+fill_more f d l i x n h e j k = go (eqb j i) refl
+  where
+    go : (b : Bool) → eqb j i ≡ b → get_or (set l i x) j d ≡ f j
+    go true q = rw (eqb-true j i q) (get_or-set_same l i x d n ∙ e)
+    go false q = get_or-set_other l i j x d (eqb-false j i q) ∙ h j (omega (arith, eqb-false j i q))
 
 pub filled : {X : Type 0} (f : ℕ → X) (d : X) (l : List X) (n : ℕ) → length l ≡ n → ((j : ℕ) → j < n → get_or l j d ≡ f j) → l ≡ from f 0 n
 filled f d l n e h = sym (ap (λ (k : ℕ). from f 0 k) (sym e) ∙ from_is f d l 0 (λ j q. let z : 0 + j ≡ j = omega arith in ap f z ∙ sym (h j (omega arith))))

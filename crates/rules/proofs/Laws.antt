@@ -1,9 +1,10 @@
 -- Laws of the verdict: what an accepted event does not break.
-use Prim.Native.Nat.{ℕ, zero, suc, ◌≤◌, ◌<◌}
+use Prim.Native.Nat.{ℕ, zero, suc, ◌+◌, ◌≤◌, ◌<◌}
 use native.Mathlib.Omega.{arith}
 use native.Mathlib.Nat.{suc-ne-zero, not-suc-le-zero}
 use borrow.Author.Tests.{eqb-true, eqb-false, eq-eqb, leb-false, lt-leb, not-true, not-false}
-use mathlib.Core.Path.{◌≡◌, refl, sym, ap₂, ◌∙◌, subst}
+use native.Mathlib.Numerals.{add-one}
+use mathlib.Core.Path.{◌≡◌, refl, sym, ap, ap₂, ◌∙◌, subst}
 use mathlib.Core.Bool.{Bool, true, false, not, cond, ◌&&◌, ◌||◌, or-false}
 use mathlib.Core.List.{List, [], ◌∷◌}
 use lib.Dec.{T, eqb, leb, eqb→eq}
@@ -415,3 +416,15 @@ pub some_ext : (n : ℕ) (f g : ℕ → Bool) → ((i : ℕ) → i < n → f i �
 unfolding some
 some_ext zero f g h = refl
 some_ext (suc n) f g h = ap₂ (λ a b. a || b) (h n (omega arith)) (some_ext n f g (λ i k. h i (omega arith)))
+
+-- `some` of no number, of one number more, and of as many
+pub some_start : (f : ℕ → Bool) → false ≡ some 0 f
+unfolding some
+some_start f = refl
+
+pub some_more : (n : ℕ) (f : ℕ → Bool) {b c : Bool} → b ≡ some n f → c ≡ f n → (c || b) ≡ some (n + 1) f
+unfolding some
+some_more n f p q = rw (add-one n, p, q)
+
+pub some_end : (n : ℕ) (f : ℕ → Bool) {i : ℕ} {b : Bool} → i ≤ n → n ≤ i → b ≡ some i f → b ≡ some n f
+some_end n f {i} h k p = p ∙ ap (λ j. some j f) {x = i} {y = n} (omega arith)

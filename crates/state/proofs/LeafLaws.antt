@@ -43,6 +43,17 @@ depth_under a t = go (ltb t 8 && eqb a.holder (t + 1))
 
 -- ---- a test at each number below n
 
+pub every_zero : (f : ℕ → Bool) → true ≡ every 0 f
+unfolding every
+every_zero f = refl
+
+pub every_more : (n : ℕ) (f : ℕ → Bool) {b c : Bool} → b ≡ every n f → c ≡ f n → (c && b) ≡ every (n + 1) f
+unfolding every
+every_more n f p q = rw (add-one n, p, q) refl
+
+pub every_end : (n : ℕ) (f : ℕ → Bool) {i : ℕ} {b : Bool} → i ≤ n → n ≤ i → b ≡ every i f → b ≡ every n f
+every_end n f {i} h k e = let same : i ≡ n = omega arith in e ∙ ap (λ (m : ℕ). every m f) same
+
 pub every_at : (n : ℕ) (f : ℕ → Bool) → every n f ≡ true → (i : ℕ) → i < n → f i ≡ true
 unfolding every
 every_at zero f e i h = absurd (not-suc-le-zero h)

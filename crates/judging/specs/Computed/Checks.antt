@@ -1,5 +1,5 @@
 -- The checks of each row, from the parts of a state that an event looks at.
-use Rattle.std.specs.Prelude.{ℕ, Option, Some, None, ◌+◌, ◌-◌, Bool, false, not, cond, ◌&&◌, ◌||◌, List, [], ◌∷◌, ◌++◌, eqb, ltb, leb, ℤ, length, get_or, replicate}
+use Rattle.std.specs.Prelude.{ℕ, Option, Some, None, ◌+◌, ◌-◌, Bool, false, not, cond, ◌&&◌, ◌||◌, List, [], ◌∷◌, ◌++◌, map, eqb, ltb, leb, ℤ, length, get_or, replicate}
 use Rattle.rules.specs.declared.Slot.{Slot}
 use Rattle.rules.specs.Events.{eq_z}
 use Rattle.rules.specs.Limits.{most}
@@ -79,9 +79,12 @@ lead = 29 ∷ 30 ∷ 26 ∷ 27 ∷ 28 ∷ []
 abbrev pub filled : List ℕ → List ℕ
 filled ns = ns ++ replicate (5 - length ns) 0
 
--- the row of a letter behind them
+-- the row of a letter behind them, and the table of all rows
 unfoldable pub row_of : ℕ → List ℕ
 row_of k = filled (row_in (rows_behind []) k)
+
+unfoldable pub table : List (List ℕ)
+table = map (λ r. filled r.checks) (rows_behind [])
 
 -- the number of a row at its first broken check, if one is
 abbrev pub first_of : Checks → List ℕ → Option ℕ
