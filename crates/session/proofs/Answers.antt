@@ -4,13 +4,14 @@ use native.Mathlib.Omega.{arith}
 use mathlib.Core.Path.{◌≡◌, refl, sym, ap, ◌∙◌}
 use mathlib.Core.Bool.{Bool, true, false, cond}
 use mathlib.Core.List.{List, [], ◌∷◌}
-use borrow.Author.Tests.{lt-ltb, le-ltb}
+use borrow.Author.Tests.{lt-ltb, le-ltb, ltb-false}
 use lib.Dec.{ltb}
 use lib.ListN.{length}
 use Rattle.std.specs.Prelude.{Some, None}
 use Rattle.rules.specs.Limits.{Limits, full}
 use Rattle.rules.specs.Rules.{accepted, told, said}
 use Rattle.decimal.specs.Text.{over, Wrote}
+use Rattle.decimal.proofs.TextLaws.{over_length}
 use Rattle.listing.specs.Listing.{refused_line, text_of, write_all}
 use Rattle.session.specs.declared.Tally.{Tally}
 use Rattle.session.specs.declared.Session.{Session}
@@ -20,7 +21,7 @@ use Rattle.session.specs.Session.{counted_lines, sheet_lines, sheet_text, sheet_
 use Rattle.session.specs.Computed.Tally.{counts_of, count_in, tally_of}
 use Rattle.session.proofs.Found.{find_away}
 use Rattle.session.proofs.Adding.{counts_are}
-use Rattle.session.proofs.SheetLines.{written_whole, counted_same}
+use Rattle.session.proofs.SheetLines.{sheet_room, written_whole, counted_same}
 
 -- the lines of the traces, from the row of counts
 counted_lines_law : (m : Limits) (ts : List (List ℕ)) → counted_lines (length ts) (count_in (counts_of (numbers_of m ts))) ≡ sheet_lines m (holds ts)
@@ -102,3 +103,20 @@ written_by m s out r out' w = by (ltb (length out) full.output) w.says
     by : (b : Bool) → r ≡ cond b too_little (session_with m (sheet_of s)) → r.written ≡ cond b 0 (length (text_of (sheet_lines m (sheet_of s))))
     by true e = ap (λ (x : Session). x.written) e
     by false e = ap (λ (x : Session). x.written) e
+
+pub written_is : (m : Limits) (s out : List ℕ) (r : Session) (out' : List ℕ) → Sessions m s out r out' → full.output ≤ length out → r.written ≡ length (sheet_text m s)
+unfolding sheet_text
+written_is m s out r out' w h =
+    let e : r ≡ session_with m (sheet_of s) = w.says ∙ rw (le-ltb (length out) full.output h) refl in
+    ap (λ (x : Session). x.written) e
+
+-- the text lies in the output
+pub written_in : (m : Limits) (s out : List ℕ) (r : Session) (out' : List ℕ) → Sessions m s out r out' → r.written ≤ length out'
+unfolding sheet_text
+written_in m s out r out' w = by (ltb (length out) full.output) refl w.says w.prints
+  where
+    by : (b : Bool) → ltb (length out) full.output ≡ b → r ≡ cond b too_little (session_with m (sheet_of s)) → out' ≡ cond b out (over (sheet_text m s) out) → r.written ≤ length out'
+    by true q e f = omega (arith, ap (λ (x : Session). x.written) e)
+    by false q e f =
+        let room : length (sheet_text m s) ≤ length out = omega (arith, sheet_room m s, ltb-false (length out) full.output q) in
+        omega (arith, ap (λ (x : Session). x.written) e, ap length f, over_length (sheet_text m s) out room, room)

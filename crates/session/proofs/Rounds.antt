@@ -53,6 +53,9 @@ module _ (c : Course) (s : List ℕ) where
       pub counting_lost : start_of left ≡ None → None ≡ tally_of (limits_of c) (find_from (length s) s [])
       counting_lost e = ap (tally_of (limits_of c)) (sym (find_lost w.fuel left w.done more e) ∙ w.rest)
 
+      pub start_before : (a : ℕ) → Some a ≡ start_of left → a < length left
+      start_before a e = start_lt left a (sym e)
+
       pub counting_next : (a k : ℕ) → start_of left ≡ Some a → k ≡ number_in (marked_of (limits_of c) (drop a left))
           → Counting (set counts k (count_in counts k + 1)) (n + 1) (take a left)
       counting_next a k e f = go w.fuel w.enough w.rest
@@ -61,15 +64,15 @@ module _ (c : Course) (s : List ℕ) where
           row = (λ i. set (w.counted i) (f i) (count_in (w.counted i) (f i) + 1)) ∙ (unfold counts_of numbers_of in refl)
 
           size : length (take a left) ≡ a
-          size = length-take-le a left (omega (arith, start_lt left a e))
+          size = length-take-le a left (omega (arith, start_before a (sym e)))
 
           go : (m : ℕ) → length left ≤ m → find_from m left w.done ≡ find_from (length s) s [] → Counting (set counts k (count_in counts k + 1)) (n + 1) (take a left)
           go zero h r = absurd (omega (arith, h, more))
           go (suc m) h r = record {
             fuel = m;
             done = drop a left ∷ w.done;
-            enough = omega (arith, h, size, start_lt left a e);
-            few = omega (arith, w.few, size, start_lt left a e);
+            enough = omega (arith, h, size, start_before a (sym e));
+            few = omega (arith, w.few, size, start_before a (sym e));
             rest = sym (find_round m left w.done a more e) ∙ r;
             count = omega (arith, w.count);
             counted = row;

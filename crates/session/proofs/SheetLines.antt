@@ -112,6 +112,12 @@ pub share_lowest : (a n d b : ℕ) → d ≡ common a a n → b ≡ cond (eqb a 
 unfolding above beneath
 share_lowest a n d b e f = (λ i. share_line (a / e i) (f i)) ∙ ap (λ (k : ℕ). share_line (a / common a a n) (cond (eqb a 0) 1 (n / k))) e
 
+pub share_none : (a n d : ℕ) → d ≡ common a a n → a ≡ 0 → share_line (a / d) 1 ≡ lowest_line a n
+share_none a n d e z = share_lowest a n d 1 e (rw (eq-eqb a 0 z) refl)
+
+pub share_some : (a n d : ℕ) → d ≡ common a a n → (a ≡ 0 → ⊥) → share_line (a / d) (n / d) ≡ lowest_line a n
+share_some a n d e z = share_lowest a n d (n / d) e (rw (ne_eqb a 0 z) refl)
+
 -- ---- the same counts give the same lines
 
 pub counted_same : (n : ℕ) (f g : ℕ → ℕ) → ((k : ℕ) → k < suc greatest → f k ≡ g k) → counted_lines n f ≡ counted_lines n g
