@@ -180,7 +180,7 @@ fn counts(threads: usize, variables: usize, locks: usize) -> Counts {
 fn canonical(rt: &impl Print) {
     let h = counts(2, 1, 1);
     written(rt, |out| writer::write_head(out, h));
-    written(rt, |out| writer::write_guards(out, Some(&[0])));
+    written(rt, |out| writer::write_guards(out, true, &[0]));
     let events = [
         (0, Kind::Lock(0)),
         (0, Kind::Assign(0, 5)),
@@ -201,7 +201,7 @@ fn canonical(rt: &impl Print) {
 
 // The least and the greatest numbers.
 fn limits(rt: &impl Print) {
-    written(rt, |out| writer::write_guards(out, None));
+    written(rt, |out| writer::write_guards(out, false, &[0]));
     let all: [usize; 16] = [0, 1, 2, 3, 4, 5, 6, 7, 8, 9, 10, 11, 12, 13, 14, 15];
     written(rt, |out| writer::write_volatiles(out, &all[..1]));
     written(rt, |out| writer::write_volatiles(out, &all));
@@ -235,7 +235,7 @@ fn little_room(rt: &impl Print) {
     let lengths = [
         writer::write_head(&mut out, counts(2, 1, 1)),
         writer::write_event(&mut out, e),
-        writer::write_guards(&mut narrow, Some(&[0])),
+        writer::write_guards(&mut narrow, true, &[0]),
         writer::write_trailer(&mut last, 84),
         writer::write_volatiles(&mut last, &[0]),
     ];

@@ -2,7 +2,7 @@
 // length. Where less room remains than a writer asks for, it writes nothing.
 #![tactic(auto)]
 
-ghost use Rattle.std.specs.Prelude.{◌+◌, ◌*◌, length, MatchOption};
+ghost use Rattle.std.specs.Prelude.{◌+◌, ◌*◌, cond, length, Some, None};
 ghost use Rattle.decimal.specs.Text.{ended, room, Wrote};
 ghost use Rattle.writer.specs.Text.{head_line, guard_row, volatiles_text, event_line, trailer_line};
 
@@ -23,19 +23,21 @@ pub fn write_trailer(out: &mut [u8], n: usize) -> usize
 }
 
 // Line 2: the locks of the variables, or a dash where there are no guards.
-pub fn write_guards(out: &mut [u8], locks: Option<&[usize]>) -> usize
-    ensures { MatchOption locks.entry (Wrote (room 4 (ended (guard_row None))) out.old result out.new) (λ ns. Wrote (room (32 * length ns.now + 4) (ended (guard_row (Some ns.now)))) out.old result out.new) }
+// Kept: a flag beside the row: also where there are no guards, the length of the row says how much room is asked for.
+pub fn write_guards(out: &mut [u8], given: bool, ns: &[usize]) -> usize
+    ensures { Wrote (room (32 * length ns.now + 4) (ended (guard_row (cond given (Some ns.now) None)))) out.old result out.new }
 {
-    let Some(ns) = locks else {
-        return decimal::write_bytes(out, b"G -\n");
-    };
     if out.len() < 4 {
         return 0;
     }
     if (out.len() - 4) / 32 < ns.len() {
         return 0;
     }
-    decimal::write_row_line(out, b"G", ns)
+    if given {
+        decimal::write_row_line(out, b"G", ns)
+    } else {
+        decimal::write_bytes(out, b"G -\n")
+    }
 }
 
 // Line 3: the volatile variables; nothing where there are none.
