@@ -43,6 +43,10 @@ fn push_digit(n: usize, d: usize) -> usize
     if n < PLAIN {
         return n * 10 + d;
     }
+    // Kept: a number at the cap stays there: with the steps below for each digit of a long one it takes twice as long.
+    if CAP <= n {
+        return CAP;
+    }
     n.saturating_mul(10).saturating_add(d).min(CAP)
 }
 
