@@ -4,12 +4,14 @@ use native.Mathlib.Omega.{arith}
 use mathlib.Core.Path.{◌≡◌, refl, sym, ◌∙◌, ap, ap₂}
 use mathlib.Core.Bool.{Bool, true, false, cond}
 use mathlib.Core.List.{List, [], ◌∷◌, ◌++◌, append-nil}
+use lib.Dec.{T, ltb}
 use lib.IntN.{ℤ, pos}
 use lib.ListN.{length, get_or, set, take, drop}
 use lib.Seq.{length-take-le, drop-length, drop-cons}
 use Rattle.std.proofs.Common.{get_or-take}
+use Rattle.std.proofs.Math.ListN.{get_or-eq_default, drop_of_length-le}
 use native.Mathlib.Numerals.{add-one}
-use borrow.Author.Tests.{lt-leb}
+use borrow.Author.Tests.{lt-leb, ltb-true, ltb-false}
 use Rattle.rules.specs.declared.Event.{Event}
 use Rattle.rules.specs.declared.Counts.{Counts}
 use Rattle.rules.specs.Events.{is_letter}
@@ -80,11 +82,10 @@ front_lines line ws xs ys es n a b c e =
 
 module _ (h : Counts) (ws : List ℕ) (xs : List ℤ) where
   -- the events of the records before the first that names no kind
-  pub read_lettered : (i n : ℕ) → i + n ≤ 2000 → i + n ≤ length ws → read_from full i (from (record_at h ws xs) i n) ≡ from (event_at h ws xs) i (lettered (take n (drop i ws)))
-  unfolding from read_from record_at event_at
-  read_lettered i zero k b = refl
-  read_lettered i (suc n) k b =
-      rw (drop-cons ws i 0 (omega arith)) (go (is_letter (letter_in (get_or ws i 0))) refl (read_lettered (suc i) n (omega arith) (omega arith)))
+  pub read_lettered : (i n : ℕ) → i + n ≤ 2000 → read_from full i (from (record_at h ws xs) i n) ≡ from (event_at h ws xs) i (lettered (take n (drop i ws)))
+  unfolding from read_from record_at event_at is_letter letter_in
+  read_lettered i zero k = refl
+  read_lettered i (suc n) k = by (ltb i (length ws)) refl (read_lettered (suc i) n (omega (arith, k)))
     where
       go : (b : Bool) → is_letter (letter_in (get_or ws i 0)) ≡ b → read_from full (suc i) (from (record_at h ws xs) (suc i) n) ≡ from (event_at h ws xs) (suc i) (lettered (take n (drop (suc i) ws)))
           → read_from full i (from (record_at h ws xs) i (suc n)) ≡ from (event_at h ws xs) i (cond (is_letter (letter_in (get_or ws i 0))) (1 + lettered (take n (drop (suc i) ws))) 0)
@@ -94,6 +95,14 @@ module _ (h : Counts) (ws : List ℕ) (xs : List ℤ) where
           (ap (λ (es : List Event). unpacked (line_after h i) (get_or ws i 0) (get_or xs i (pos 0)) ∷ es) l)
       go false q l = rw (event_none (line_after h i) (get_or ws i 0) (get_or xs i (pos 0)) q, q) refl
 
+      by : (b : Bool) → ltb i (length ws) ≡ b → read_from full (suc i) (from (record_at h ws xs) (suc i) n) ≡ from (event_at h ws xs) (suc i) (lettered (take n (drop (suc i) ws)))
+          → read_from full i (from (record_at h ws xs) i (suc n)) ≡ from (event_at h ws xs) i (lettered (take (suc n) (drop i ws)))
+      by true e more = rw (drop-cons ws i 0 (ltb-true i (length ws) e)) (go (is_letter (letter_in (get_or ws i 0))) refl more)
+      by false e more =
+          let l : length ws ≤ i = ltb-false i (length ws) e in
+          let q : is_letter (letter_in (get_or ws i 0)) ≡ false = rw (get_or-eq_default ws 0 l) refl in
+          rw (drop_of_length-le ws l, event_none (line_after h i) (get_or ws i 0) (get_or xs i (pos 0)) q) refl
+
   -- the first record stands for the line of the first event
   same_line : (i : ℕ) → event_on (line_after h 0) ws xs i ≡ event_at h ws xs i
   unfolding event_at
@@ -102,5 +111,10 @@ module _ (h : Counts) (ws : List ℕ) (xs : List ℤ) where
   pub front_filled : (ys : List Event) (n most m : ℕ) → most ≡ min (min n 2000) (min (length ys) (min (length ws) (length xs))) → m ≡ lettered (take most ws) → front (line_after h 0) ws xs ys m ≡ filled h ws xs n ys
   unfolding filled fitting
   front_filled ys n most m z e =
-      ap (front (line_after h 0) ws xs ys) e ∙ ap (λ (l : List Event). over l ys) (from_same (event_on (line_after h 0) ws xs) (event_at h ws xs) 0 (lettered (take most ws)) (λ j p q. same_line j) ∙ sym (read_lettered 0 most (omega arith) (omega arith)))
+      ap (front (line_after h 0) ws xs ys) e ∙ ap (λ (l : List Event). over l ys) (from_same (event_on (line_after h 0) ws xs) (event_at h ws xs) 0 (lettered (take most ws)) (λ j p q. same_line j) ∙ sym (read_lettered 0 most (omega arith)))
       ∙ ap (λ (k : ℕ). over (read_from full 0 (from (record_at h ws xs) 0 k)) ys) z
+
+-- a test's value, from what it says
+pub fails : (t : Bool) → (T t → ⊥) → t ≡ false
+fails true f = absurd (f tt)
+fails false _ = refl

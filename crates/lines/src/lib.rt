@@ -31,7 +31,11 @@ pub fn read_letter(f: &[u8]) -> u8
 pub fn count_fields(s: &[u8]) -> usize
     ensures { result ≡ length (split_on 32 s.now) }
 {
-    s.iter().filter(|x| **x == b' ').count() + 1
+    let mut n = 1;
+    for b in s {
+        n += usize::from(*b == b' ');
+    }
+    n
 }
 
 // The place of the first space from `at` on; where there is none, the length, or `at` where it is greater.

@@ -97,7 +97,7 @@ module _ (m : Limits) (u : UpToFull m) where
         (packed_fits (head_in (trace_of m s)) (events_in m s) (full_trace s a) (events_numbered m s))
 
     -- what is given for them is what is given for the bytes
-    front_given : (list scratch : List ℕ) (o : Ordering) (list' scratch' : List ℕ)
+    pub front_given : (list scratch : List ℕ) (o : Ordering) (list' scratch' : List ℕ)
         → Given (answer_for marking.head marking.guards (row_events marking.head (take marking.events whats') (take marking.events values'))) (entries_for marking.head (row_events marking.head (take marking.events whats') (take marking.events values'))) list scratch o list' scratch'
         → Given (ordering_of m s) (entries_of m s) list scratch o list' scratch'
     unfolding entries_of
