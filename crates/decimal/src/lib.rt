@@ -28,26 +28,18 @@ const LIMIT: usize = 9223372036854775808;
 
 const CAP: usize = LIMIT + 1;
 
-// One digit more stays below the cap.
+// One digit more stays at the cap or below.
 const PLAIN: usize = CAP / 10;
 
 // Where so many bytes remain, a byte and a number are written.
 const NUMBER_ROOM: usize = 32;
 
-// One more digit, held at the cap.
+// One more digit, held at the cap. The cap ends in 9: up to PLAIN any digit more is at most the cap, and past it none is below.
 fn push_digit(n: usize, d: usize) -> usize
     requires { d < 10 }
     ensures { result ≡ min cap (n * 10 + d) }
 {
-    // Kept: a plain product below PLAIN: by saturating steps alone a value of 20 digits takes nearly twice as long to read.
-    if n < PLAIN {
-        return n * 10 + d;
-    }
-    // Kept: a number at the cap stays there: with the steps below for each digit of a long one it takes twice as long.
-    if CAP <= n {
-        return CAP;
-    }
-    n.saturating_mul(10).saturating_add(d).min(CAP)
+    if n <= PLAIN { n * 10 + d } else { CAP }
 }
 
 // The digits of a field, without a look at a leading zero.

@@ -4,15 +4,28 @@ use mathlib.Core.Bool.{Bool, true, false, cond}
 use mathlib.Core.List.{List, [], ◌∷◌}
 use Prim.Native.Nat.{ℕ, zero, suc, ◌<◌, ◌≤◌, ◌+◌, ◌-◌}
 use native.Mathlib.Omega.{arith}
+use native.Mathlib.Numerals.{add-one}
 use native.Mathlib.Nat.{suc-ne-zero, not-suc-le-zero, le_of_suc-le-suc}
 use native.Mathlib.Decide.{ℕ_discrete}
 use borrow.Author.Tests.{eq-eqb, ne_eqb, eqb-true, eqb-false}
 use lib.Dec.{eqb}
-use lib.ListN.{length, get_or, take, drop, length-drop}
-use lib.Seq.{take_all, drop-drop, get_or-drop}
+use lib.ListN.{length, get_or, take, drop, length-drop, drop_of_length-le}
+use lib.Seq.{take_all, drop-cons, drop-drop, get_or-drop}
 use mathlib.Core.Logic.{◌⊎◌, inl, inr, ⊎_elim}
 use Rattle.lines.proofs.PartLaws.{lt_or_le}
 use Rattle.lines.specs.Lines.{before, up_to, split_on, on_first, ended, lines_of, letter}
+
+pub before_here : (b i : ℕ) (s : List ℕ) → i < length s → get_or s i 0 ≡ b → before b (drop i s) ≡ 0
+unfolding before
+before_here b i s h e = rw (drop-cons s i 0 h, eq-eqb _ _ e)
+
+pub before_on : (b i : ℕ) (s : List ℕ) → i < length s → (get_or s i 0 ≡ b → ⊥) → before b (drop i s) ≡ 1 + before b (drop (i + 1) s)
+unfolding before
+before_on b i s h e = rw (drop-cons s i 0 h, ne_eqb _ _ e, add-one i) (omega arith)
+
+pub before_end : (b i : ℕ) (s : List ℕ) → length s ≤ i → before b (drop i s) ≡ 0
+unfolding before
+before_end b i s h = rw (drop_of_length-le s h)
 
 pub before_le : (b : ℕ) (s : List ℕ) → before b s ≤ length s
 unfolding before

@@ -9,7 +9,12 @@ ghost use Rattle.lines.specs.Lines.{before, split_on, letter, up_to};
 pub fn find(s: &[u8], b: u8) -> usize
     ensures { result ≡ before b s.now }
 {
-    s.iter().position(|x| *x == b).unwrap_or(s.len())
+    for i in 0..s.len() {
+        if s[i] == b {
+            return i;
+        }
+    }
+    s.len()
 }
 
 // The length of s up to and with its last byte 10.

@@ -1,7 +1,17 @@
 -- `lines::find` meets its contract.
-use Rattle.std.proofs.Common.{rules, ◌∙◌}
-use Rattle.lines.proofs.StdLaws.{before_first}
+use native.Mathlib.Omega.{arith}
+use Rattle.lines.proofs.FieldLaws.{before_here, before_on, before_end}
 use Rattle.lines.proofs.find.Goals as goal
 
+pub returns-then-s-i : goal.returns-then-s-i
+returns-then-s-i c =
+    let l = c.loop-i in
+    omega (arith, before_here c.args.b l.i c.args.s.now (omega arith) c.if-s-i.true)
+
+pub loop-i-preserved : goal.loop-i-preserved
+loop-i-preserved c =
+    let l = c.loop-i in
+    omega (arith, before_on c.args.b l.i c.args.s.now (omega arith) c.if-s-i.false)
+
 pub returns : goal.returns
-returns c = c.unwrap_or.ensures ∙ before_first c.args.b c.args.s.now c.position.result (search rules)
+returns c = omega (arith, before_end c.args.b c.loop-i.i c.args.s.now (omega arith))
