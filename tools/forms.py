@@ -223,7 +223,7 @@ def main():
         if VERBOSE:
             for path, i, what, k in found:
                 print("   %s:%d: %s%s" % (path, i + 1, what, " (kept)" if k else ""))
-    answers = glob.glob(os.path.join(ROOT, "crates/*/proofs/*/*.antt"))
+    answers = glob.glob(os.path.join(ROOT, "crates/*/proofs/*/**/*.antt"), recursive=True)
     size = sum(sum(1 for _ in open(a, encoding="utf-8")) for a in answers)
     laws = glob.glob(os.path.join(ROOT, "crates/*/proofs/*.antt"))
     law_size = sum(sum(1 for _ in open(a, encoding="utf-8")) for a in laws)
